@@ -1,0 +1,12 @@
+pub mod Laws
+pub mod Lists
+pub mod Walk
+pub mod Steps
+pub mod Sound
+pub mod Complete
+pub mod Theorems
+pub mod Honest
+pub mod Asked
+pub mod Tame
+pub mod Round
+pub mod OneKinds

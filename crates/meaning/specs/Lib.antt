@@ -1,0 +1,10 @@
+pub mod Says
+pub mod Forest
+pub mod Pattern
+pub mod Value
+pub mod Apply
+pub mod Solves
+pub mod Record
+pub mod Reached
+pub mod Order
+pub mod Read

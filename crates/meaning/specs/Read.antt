@@ -1,0 +1,69 @@
+-- 01, "What a matcher is" and "Numbers and order of checks": the substitution that a record means, read off the tree.
+use Prim.Native.Nat.{ℕ, zero, suc, _-_, _<_}
+use mathlib.Core.List.{List, [], _∷_}
+use native.Mathlib.Decide.{decLt}
+use Rattle.meaning.specs.Forest.{Forest, none, some, Term, term, rows, Context, hole, node}
+use Rattle.meaning.specs.Pattern.{Kind, anIndividual, aSequence, aFunction, aContext}
+use Rattle.meaning.specs.Value.{Value, ofIndividual, ofSequence, ofFunction, ofContext}
+
+-- the first terms of a sequence
+unfoldable pub takeT : ℕ → Forest → Forest
+takeT zero us = none
+takeT (suc c) none = none
+takeT (suc c) (some l us rest) = some l us (takeT c rest)
+
+-- the term at the row d and the terms to its right
+abbrev pub fromIn : {A : Type 0} → Dec A → Forest → Forest → Forest
+fromIn (yes h) inside behind = inside
+fromIn (no h) inside behind = behind
+
+unfoldable pub fromRow : Forest → ℕ → Forest
+fromRow none d = none
+fromRow (some l us rest) zero = some l us rest
+fromRow (some l us rest) (suc d) = fromIn (decLt d (rows us)) (fromRow us d) (fromRow rest (d - rows us))
+
+abbrev pub headTerm : Forest → Term
+headTerm none = term 0 none
+headTerm (some l us rest) = term l us
+
+-- a sequence cut at one of its rows: what stands left, the context around the term there, the term, what stands right
+pub record Cut : Type 0 where
+  pub left : Forest
+  pub around : Context
+  pub inner : Term
+  pub right : Forest
+
+abbrev pub cutIn : {A : Type 0} → Dec A → ℕ → Forest → Forest → Cut → Cut → Cut
+cutIn (yes h) l us rest i o = record { left = none; around = node l (i .left) (i .around) (i .right); inner = i .inner; right = rest }
+cutIn (no h) l us rest i o = record { left = some l us (o .left); around = o .around; inner = o .inner; right = o .right }
+
+unfoldable pub cutF : Forest → ℕ → Cut
+cutF none d = record { left = none; around = hole; inner = term 0 none; right = none }
+cutF (some l us rest) zero = record { left = none; around = hole; inner = term l us; right = rest }
+cutF (some l us rest) (suc d) = cutIn (decLt d (rows us)) l us rest (cutF us d) (cutF rest (d - rows us))
+
+-- a term cut at a row of its own: the context, and what fills its hole. (Beyond its rows: the bare hole.)
+pub record Split : Type 0 where
+  pub around : Context
+  pub at : Term
+
+abbrev pub under : {A : Type 0} → Dec A → Term → Cut → Split
+under (yes h) T c = record { around = node (T .label) (c .left) (c .around) (c .right); at = c .inner }
+under (no h) T c = record { around = hole; at = T }
+
+unfoldable pub cut : Term → ℕ → Split
+cut T zero = record { around = hole; at = T }
+cut T (suc d) = under (decLt d (rows (T .args))) T (cutF (T .args) d)
+
+-- the value of the kind k at a record's numbers a and b; R is the tree
+abbrev pub valueAt : Kind → Forest → ℕ → ℕ → Value
+valueAt anIndividual R a b = ofIndividual (headTerm (fromRow R a) .label) (headTerm (fromRow R a) .args)
+valueAt aSequence R a b = ofSequence (takeT b (fromRow R a))
+valueAt aFunction R a b = ofFunction (headTerm (fromRow R a) .label)
+valueAt aContext R a b = ofContext (cut (headTerm (fromRow R a)) (b - a) .around)
+
+abbrev pub readOff : List Kind → Forest → List ℕ → List Value
+readOff [] R r = []
+readOff (k ∷ Q) R [] = []
+readOff (k ∷ Q) R (a ∷ []) = []
+readOff (k ∷ Q) R (a ∷ b ∷ r) = valueAt k R a b ∷ readOff Q R r

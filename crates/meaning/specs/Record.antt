@@ -1,0 +1,68 @@
+-- 01, "What a matcher is": "A record has two numbers per variable, at its first appearance in the pattern."
+use Prim.Native.Nat.{ℕ, _+_}
+use mathlib.Core.List.{List, [], _∷_, _++_}
+use Rattle.meaning.specs.Forest.{Forest, Term, rows, terms, size, Context, holeRow}
+use Rattle.meaning.specs.Pattern.{Pattern, symbol, individual, function, context, Patterns, nil, cons, sequence, Look, old, new, wrong, look}
+use Rattle.meaning.specs.Value.{Value, ofIndividual, ofSequence, ofFunction, ofContext, at, asForest}
+use Rattle.meaning.specs.Apply.{apply}
+
+-- a variable's value, and how many rows of the instance stand before its first appearance. This number is 01's place: the row
+-- of an individual, a symbol or a context, the row where a sequence starts, and for one that starts at the list's end
+-- the row behind the term that holds the list.
+pub record Entry : Type 0 where
+  pub value : Value
+  pub row : ℕ
+
+abbrev pub entry : Value → ℕ → Entry
+entry v t = record { value = v; row = t }
+
+abbrev pub values : List Entry → List Value
+values [] = []
+values (e ∷ B) = e .value ∷ values B
+
+-- the second number, for a value that starts at the row t: 0, the count of terms, or the row of the hole
+abbrev pub second : Value → ℕ → ℕ
+second (ofIndividual l us) t = 0
+second (ofSequence f) t = terms f
+second (ofFunction l) t = 0
+second (ofContext c) t = t + holeRow c
+
+abbrev pub numbers : List Entry → List ℕ
+numbers [] = []
+numbers (e ∷ B) = e .row ∷ second (e .value) (e .row) ∷ numbers B
+
+-- a variable is noted where it has not appeared before; B are those that have
+abbrev pub noteAs : {A : Type 0} → Look A → Value → ℕ → List Entry → List Entry
+noteAs (old w) v t B = B
+noteAs new v t B = B ++ (entry v t ∷ [])
+noteAs wrong v t B = B
+
+abbrev pub note : ℕ → Value → ℕ → List Entry → List Entry
+note x v t B = noteAs (look (values B) x) v t B
+
+-- how far below a value's start what it holds goes on: the hole's row of a context, the count of a sequence
+abbrev pub span : Value → ℕ
+span (ofIndividual l us) = 0
+span (ofSequence f) = terms f
+span (ofFunction l) = 0
+span (ofContext c) = holeRow c
+
+-- the first appearances in preorder; t is the row at which the instance of this part of the pattern starts
+unfoldable mutual
+  pub firstsT : List Value → Pattern → ℕ → List Entry → List Entry
+  firstsT σ (symbol f ps) t B = firstsF σ ps (t + 1) B
+  firstsT σ (individual x) t B = note x (at σ x) t B
+  firstsT σ (function x ps) t B = firstsF σ ps (t + 1) (note x (at σ x) t B)
+  firstsT σ (context x q) t B = firstsT σ q (t + span (at σ x)) (note x (at σ x) t B)
+
+  pub firstsF : List Value → Patterns → ℕ → List Entry → List Entry
+  firstsF σ nil t B = B
+  firstsF σ (cons q ps) t B = firstsF σ ps (t + size (apply σ q)) (firstsT σ q t B)
+  firstsF σ (sequence x ps) t B = firstsF σ ps (t + rows (asForest (at σ x))) (note x (at σ x) t B)
+
+abbrev pub firsts : Pattern → List Value → List Entry
+firsts P σ = firstsT σ P 0 []
+
+-- the record of a substitution
+abbrev pub recordOf : Pattern → List Value → List ℕ
+recordOf P σ = numbers (firsts P σ)

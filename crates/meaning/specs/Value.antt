@@ -1,0 +1,63 @@
+-- 01, "What a matcher is": "A substitution gives each individual a ground term, each sequence variable a sequence of ground
+-- terms, each function variable a symbol and each context variable a ground term with one hole."
+use Prim.Native.Nat.{ℕ}
+use mathlib.Core.List.{List, [], _∷_}
+use native.Mathlib.Decide.{ℕ-discrete}
+use Rattle.meaning.specs.Forest.{Forest, none, Forest-discrete, Term, term, Context, hole, Context-discrete}
+use Rattle.meaning.specs.Pattern.{Kind, anIndividual, aSequence, aFunction, aContext, Look, old, new, wrong, look}
+
+pub data Value : Type 0 where
+  ofIndividual : (label : ℕ) (args : Forest) → Value
+  ofSequence : Forest → Value
+  ofFunction : (label : ℕ) → Value
+  ofContext : Context → Value
+  deriving Discrete as Value-discrete
+
+-- whether two values are one, by structure
+abbrev pub same? : Discrete Value
+same? = Value-discrete ℕ-discrete (Forest-discrete ℕ-discrete) (Context-discrete ℕ-discrete (Forest-discrete ℕ-discrete))
+
+abbrev pub kind : Value → Kind
+kind (ofIndividual l us) = anIndividual
+kind (ofSequence f) = aSequence
+kind (ofFunction l) = aFunction
+kind (ofContext c) = aContext
+
+-- a substitution is the list of its variables' values, by number
+abbrev pub kinds : List Value → List Kind
+kinds [] = []
+kinds (v ∷ σ) = kind v ∷ kinds σ
+
+-- the value of x (and anything where there is none)
+abbrev pub given : Look Value → Value
+given (old v) = v
+given new = ofFunction 0
+given wrong = ofFunction 0
+
+abbrev pub at : List Value → ℕ → Value
+at σ x = given (look σ x)
+
+-- the value as what its kind says it is (and anything where it is of another kind)
+abbrev pub asTerm : Value → Term
+asTerm (ofIndividual l us) = term l us
+asTerm (ofSequence f) = term 0 none
+asTerm (ofFunction l) = term 0 none
+asTerm (ofContext c) = term 0 none
+
+abbrev pub asForest : Value → Forest
+asForest (ofIndividual l us) = none
+asForest (ofSequence f) = f
+asForest (ofFunction l) = none
+asForest (ofContext c) = none
+
+abbrev pub asSymbol : Value → ℕ
+asSymbol (ofIndividual l us) = 0
+asSymbol (ofSequence f) = 0
+asSymbol (ofFunction l) = l
+asSymbol (ofContext c) = 0
+
+abbrev pub asContext : Value → Context
+asContext (ofIndividual l us) = hole
+asContext (ofSequence f) = hole
+asContext (ofFunction l) = hole
+asContext (ofContext c) = c
