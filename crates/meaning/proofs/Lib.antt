@@ -8,5 +8,7 @@ pub mod Theorems
 pub mod Honest
 pub mod Asked
 pub mod Tame
+pub mod From
 pub mod Round
 pub mod OneKinds
+pub mod OneCode

@@ -1,4 +1,5 @@
 pub mod Says
+pub mod Lowest
 pub mod Forest
 pub mod Pattern
 pub mod Value
@@ -8,3 +9,4 @@ pub mod Record
 pub mod Reached
 pub mod Order
 pub mod Read
+pub mod GoodRecord
