@@ -37,15 +37,15 @@ module _ (Allowed : ℕ → Value → Type 0) (allowed? : (x : ℕ) (v : Value) 
     unfolding walkT GoodT afterT
 
     untilT : {q : Pattern} {T : Term} {t lo hi : ℕ} → UntilT σ q T t lo hi → {n : ℕ} → GoodT Q q n → (B : List Entry) → On Allowed σ n B
-        → (cs : List ℕ) × (B′ : List Entry) × (walkT Allowed allowed? q T t B cs ≡ need B′ lo hi) × (values B′ ≡ σ)
+        → (cs : List ℕ) × (B′ : List Entry) × ((s : ℕ) × (walkT Allowed allowed? q T t B cs ≡ need B′ s lo hi)) × (values B′ ≡ σ)
     untilT (in-symbol {f = f} {ps = ps} {T = T} {t = t} e u) g B o =
         let r = untilF u g B o in
-        (r .0, r .1, when-yes (ℕ-discrete f (T .label)) (walkF Allowed allowed? ps (T .args) (t + 1) B (r .0)) e ∙ r .2, r .3)
+        (r .0, r .1, (r .2 .0, when-yes (ℕ-discrete f (T .label)) (walkF Allowed allowed? ps (T .args) (t + 1) B (r .0)) e ∙ r .2 .1), r .3)
     untilT (in-function {x = x} {T = T} {t = t} e u) g B o =
         let v : Value = ofFunction (T .label) in
         let s = on-stands Allowed t o (g .0 .near) e (held x v e) in
         let r = untilF u (g .1) (note x v t B) (s .1) in
-        (r .0, r .1, rw (meet-does Allowed allowed? t (r .0) (s .0)) (r .2), r .3)
+        (r .0, r .1, (r .2 .0, rw (meet-does Allowed allowed? t (r .0) (s .0)) (r .2 .1)), r .3)
     untilT (in-context {x = x} {q = q} {T = T} {t = t} c U e p u) g B o =
         let v : Value = ofContext c in
         let s = on-stands Allowed t o (g .0 .near) e (held x v e) in
@@ -54,23 +54,23 @@ module _ (Allowed : ℕ → Value → Type 0) (allowed? : (x : ℕ) (v : Value) 
         let r = untilT u (g .1) (note x v t B) (s .1) in
         let k = choose-does Allowed allowed? t (t + rows (T .args)) t (λ d. ofContext (cut T d .around)) (r .0) (λ d B₁ cs₁. walkT Allowed allowed? q (cut T d .at) (t + d) B₁ cs₁)
         (s .0) (rw w refl) h in
-        (k .0, r .1, k .1 ∙ rw w (r .2), r .3)
-    untilT (here-context {x = x} e a b) g B o =
+        (k .0, r .1, (r .2 .0, k .1 ∙ rw w (r .2 .1)), r .3)
+    untilT (here-context {x = x} {t = t} e a b) g B o =
         let s = on-end o (g .0 .near) e in
-        ([], B, rw (s .1) (ap₂ (λ (i j : ℕ). need B i j) a b), s .0)
+        ([], B, (t, rw (s .1) (ap₂ (λ (i j : ℕ). need B t i j) a b)), s .0)
 
     untilF : {ps : Patterns} {us : Forest} {t lo hi : ℕ} → UntilF σ ps us t lo hi → {n : ℕ} → GoodF Q ps n → (B : List Entry) → On Allowed σ n B
-        → (cs : List ℕ) × (B′ : List Entry) × (walkF Allowed allowed? ps us t B cs ≡ need B′ lo hi) × (values B′ ≡ σ)
+        → (cs : List ℕ) × (B′ : List Entry) × ((s : ℕ) × (walkF Allowed allowed? ps us t B cs ≡ need B′ s lo hi)) × (values B′ ≡ σ)
     untilF (in-first u) g B o =
         let r = untilT u (g .0) B o in
-        (r .0, r .1, rw (r .2), r .3)
+        (r .0, r .1, (r .2 .0, rw (r .2 .1)), r .3)
     untilF (in-rest {q = q} {l = l} {us = us} {t = t} b e u) {n} g B o =
         let m : n ≤ length σ = omega (arith, o .many, pre-length (o .pre)) in
         let r = completeT Allowed allowed? Q σ right held q (g .0) t B o (omega (arith, after-toT q n (length σ) m)) in
         let s = untilF u (g .1) (firstsT σ q t B) (r .0) in
         let c = r .1 (s .0) in
         let w : walkT Allowed allowed? q (term l us) t B (c .0) ≡ ok (firstsT σ q t B) (s .0) = rw e at (c .1) in
-        (c .0, s .1, rw w (s .2), s .3)
+        (c .0, s .1, (s .2 .0, rw w (s .2 .1)), s .3)
     untilF (in-sequence {x = x} {ps = ps} {us = us} {t = t} f rest e p u) g B o =
         let v : Value = ofSequence f in
         let s = on-stands Allowed t o (g .0 .near) e (held x v e) in
@@ -80,17 +80,17 @@ module _ (Allowed : ℕ → Value → Type 0) (allowed? : (x : ℕ) (v : Value) 
         let r = untilF u (g .1) (note x v t B) (s .1) in
         let k = choose-does Allowed allowed? 0 (terms us) t (λ d. ofSequence (takeT d us)) (r .0) (λ d B₁ cs₁. walkF Allowed allowed? ps (dropT d us) (t + rows (takeT d us)) B₁ cs₁)
         (s .0) (rw a refl) h in
-        (k .0, r .1, k .1 ∙ rw (a, b) (r .2), r .3)
-    untilF (here-sequence {x = x} e a b) g B o =
+        (k .0, r .1, (r .2 .0, k .1 ∙ rw (a, b) (r .2 .1)), r .3)
+    untilF (here-sequence {x = x} {t = t} e a b) g B o =
         let s = on-end o (g .0 .near) e in
-        ([], B, rw (s .1) (ap₂ (λ (i j : ℕ). need B i j) a b), s .0)
+        ([], B, (t, rw (s .1) (ap₂ (λ (i j : ℕ). need B t i j) a b)), s .0)
 
 -- what is told by an answer need
-module _ {B : List Entry} {lo hi : ℕ} where
-  fail-need : fail ≡ need B lo hi → ⊥
+module _ {B : List Entry} {s lo hi : ℕ} where
+  fail-need : fail ≡ need B s lo hi → ⊥
   fail-need h = let z : _≡_ {A = ℕ} 0 1 = cc in omega arith
 
-  ok-need : {A : Type 0} (C : List Entry) (cs : List ℕ) → ok C cs ≡ need B lo hi → A
+  ok-need : {A : Type 0} (C : List Entry) (cs : List ℕ) → ok C cs ≡ need B s lo hi → A
   ok-need C cs h = let z : _≡_ {A = ℕ} 0 1 = cc in absurd (omega arith)
 
 -- first appearances are only added
@@ -132,10 +132,10 @@ module _ (Allowed : ℕ → Value → Type 0) (allowed? : (x : ℕ) (v : Value) 
 
   went : (r : Res) (k : List Entry → List ℕ → Res) (a : Res) → (fail ≡ a → ⊥) → andThen r k ≡ a → Went r k a
   went fail k a n e = absurd (n e)
-  went (need B lo hi) k a n e = first e
+  went (need B s lo hi) k a n e = first e
   went (ok B cs) k a n e = later B cs refl e
 
-  met-need : (l : Look Value) (x : ℕ) (v : Value) (t : ℕ) (B : List Entry) (cs : List ℕ) {A : Type 0} {B′ : List Entry} {lo hi : ℕ} → met Allowed allowed? l x v t B cs ≡ need B′ lo hi → A
+  met-need : (l : Look Value) (x : ℕ) (v : Value) (t : ℕ) (B : List Entry) (cs : List ℕ) {A : Type 0} {B′ : List Entry} {s lo hi : ℕ} → met Allowed allowed? l x v t B cs ≡ need B′ s lo hi → A
   met-need (old w) x v t B cs e = ok-need B cs (when-live (same? w v) (ok B cs) _ fail-need e .1)
   met-need new x v t B cs e = ok-need (B ++ (entry v t ∷ [])) cs (when-live (allowed? x v) (ok (B ++ (entry v t ∷ [])) cs) _ fail-need e .1)
   met-need wrong x v t B cs e = absurd (fail-need e)
@@ -146,14 +146,14 @@ module _ (Allowed : ℕ → Value → Type 0) (allowed? : (x : ℕ) (v : Value) 
   mutual
     unfolding walkT apply afterT GoodT firstsT
 
-    askedT : (q : Pattern) {n : ℕ} → GoodT Q q n → (T : Term) (t : ℕ) (B : List Entry) (cs : List ℕ) {B′ : List Entry} {lo hi : ℕ} → Inv Allowed Q n B
-        → walkT Allowed allowed? q T t B cs ≡ need B′ lo hi → Asks B cs B′ (firstsT (values B′) q t B) (UntilT (values B′) q T t lo hi)
+    askedT : (q : Pattern) {n : ℕ} → GoodT Q q n → (T : Term) (t : ℕ) (B : List Entry) (cs : List ℕ) {B′ : List Entry} {s lo hi : ℕ} → Inv Allowed Q n B
+        → walkT Allowed allowed? q T t B cs ≡ need B′ s lo hi → Asks B cs B′ (firstsT (values B′) q t B) (UntilT (values B′) q T t lo hi)
     askedT (symbol f ps) g T t B cs i e =
         let u = when-live (ℕ-discrete f (T .label)) (walkF Allowed allowed? ps (T .args) (t + 1) B cs) _ fail-need e in
         let r = askedF ps g (T .args) (t + 1) B cs i (u .1) in
         record { inv = r .inv; pre = r .pre; there = in-symbol (u .0) (r .there); firsts = r .firsts; paid = r .paid }
     askedT (individual x) g T t B cs i e = met-need (look (values B) x) x (ofIndividual (T .label) (T .args)) t B cs e
-    askedT (function x ps) {n} g T t B cs {B′} {lo} {hi} i e = go (went (meet Allowed allowed? x v t B cs) k (need B′ lo hi) fail-need e) (λ B₁ cs₁ j f. askedF ps (g .1) (T .args) (t + 1) B₁ cs₁ j f)
+    askedT (function x ps) {n} g T t B cs {B′} {s} {lo} {hi} i e = go (went (meet Allowed allowed? x v t B cs) k (need B′ s lo hi) fail-need e) (λ B₁ cs₁ j f. askedF ps (g .1) (T .args) (t + 1) B₁ cs₁ j f)
       where
         v : Value
         v = ofFunction (T .label)
@@ -161,8 +161,8 @@ module _ (Allowed : ℕ → Value → Type 0) (allowed? : (x : ℕ) (v : Value) 
         k : List Entry → List ℕ → Res
         k B₁ cs₁ = walkF Allowed allowed? ps (T .args) (t + 1) B₁ cs₁
 
-        go : Went (meet Allowed allowed? x v t B cs) k (need B′ lo hi)
-            → ((B₁ : List Entry) (cs₁ : List ℕ) → Inv Allowed Q (after x n) B₁ → walkF Allowed allowed? ps (T .args) (t + 1) B₁ cs₁ ≡ need B′ lo hi
+        go : Went (meet Allowed allowed? x v t B cs) k (need B′ s lo hi)
+            → ((B₁ : List Entry) (cs₁ : List ℕ) → Inv Allowed Q (after x n) B₁ → walkF Allowed allowed? ps (T .args) (t + 1) B₁ cs₁ ≡ need B′ s lo hi
             → Asks B₁ cs₁ B′ (firstsF (values B′) ps (t + 1) B₁) (UntilF (values B′) ps (T .args) (t + 1) lo hi))
             → Asks B cs B′ (firstsT (values B′) (function x ps) t B) (UntilT (values B′) (function x ps) T t lo hi)
         go (first f) ih = met-need (look (values B) x) x v t B cs f
@@ -172,8 +172,8 @@ module _ (Allowed : ℕ → Value → Type 0) (allowed? : (x : ℕ) (v : Value) 
             let c = stands-back Allowed {σ = values B′} t (m .0) (r .pre) in
             let a : at (values B′) x ≡ v = ap given (c .1) in
             record { inv = r .inv; pre = c .0; there = in-function (c .1) (r .there); firsts = rw a (r .firsts); paid = rw (← (stands-unpaid Allowed t (m .0) refl)) (r .paid) }
-    askedT (context x q) {n} g T t B cs {B′} {lo} {hi} i e =
-        go (choose-live Allowed allowed? x t (t + rows (T .args)) t w B cs k (need B′ lo hi) (λ d h. cut-holds T d (omega arith)) (λ d. refl) fail-need e)
+    askedT (context x q) {n} g T t B cs {B′} {s} {lo} {hi} i e =
+        go (choose-live Allowed allowed? x t (t + rows (T .args)) t w B cs k (need B′ s lo hi) (λ d h. cut-holds T d (omega arith)) (λ d. refl) fail-need e)
         (λ d B₁ cs₁ j f. askedT q (g .1) (cut T d .at) (t + d) B₁ cs₁ j f)
       where
         w : ℕ → Value
@@ -182,8 +182,8 @@ module _ (Allowed : ℕ → Value → Type 0) (allowed? : (x : ℕ) (v : Value) 
         k : ℕ → List Entry → List ℕ → Res
         k d B₁ cs₁ = walkT Allowed allowed? q (cut T d .at) (t + d) B₁ cs₁
 
-        go : Chose Allowed allowed? x t (t + rows (T .args)) t w B cs k (need B′ lo hi)
-            → ((d : ℕ) (B₁ : List Entry) (cs₁ : List ℕ) → Inv Allowed Q (after x n) B₁ → walkT Allowed allowed? q (cut T d .at) (t + d) B₁ cs₁ ≡ need B′ lo hi
+        go : Chose Allowed allowed? x t (t + rows (T .args)) t w B cs k (need B′ s lo hi)
+            → ((d : ℕ) (B₁ : List Entry) (cs₁ : List ℕ) → Inv Allowed Q (after x n) B₁ → walkT Allowed allowed? q (cut T d .at) (t + d) B₁ cs₁ ≡ need B′ s lo hi
             → Asks B₁ cs₁ B′ (firstsT (values B′) q (t + d) B₁) (UntilT (values B′) q (cut T d .at) (t + d) lo hi))
             → Asks B cs B′ (firstsT (values B′) (context x q) t B) (UntilT (values B′) (context x q) T t lo hi)
         go (asks h c f) ih =
@@ -210,21 +210,21 @@ module _ (Allowed : ℕ → Value → Type 0) (allowed? : (x : ℕ) (v : Value) 
               paid = p ∙ r .paid;
             }
 
-    askedF : (ps : Patterns) {n : ℕ} → GoodF Q ps n → (us : Forest) (t : ℕ) (B : List Entry) (cs : List ℕ) {B′ : List Entry} {lo hi : ℕ} → Inv Allowed Q n B
-        → walkF Allowed allowed? ps us t B cs ≡ need B′ lo hi → Asks B cs B′ (firstsF (values B′) ps t B) (UntilF (values B′) ps us t lo hi)
+    askedF : (ps : Patterns) {n : ℕ} → GoodF Q ps n → (us : Forest) (t : ℕ) (B : List Entry) (cs : List ℕ) {B′ : List Entry} {s lo hi : ℕ} → Inv Allowed Q n B
+        → walkF Allowed allowed? ps us t B cs ≡ need B′ s lo hi → Asks B cs B′ (firstsF (values B′) ps t B) (UntilF (values B′) ps us t lo hi)
     askedF nil g none t B cs i e = ok-need B cs e
     askedF nil g (some l us rest) t B cs i e = absurd (fail-need e)
     askedF (cons q ps) g none t B cs i e = absurd (fail-need e)
-    askedF (cons q ps) {n} g (some l us rest) t B cs {B′} {lo} {hi} i e =
-        go (went (walkT Allowed allowed? q (term l us) t B cs) k (need B′ lo hi) fail-need e)
+    askedF (cons q ps) {n} g (some l us rest) t B cs {B′} {s} {lo} {hi} i e =
+        go (went (walkT Allowed allowed? q (term l us) t B cs) k (need B′ s lo hi) fail-need e)
         (λ f. askedT q (g .0) (term l us) t B cs i f) (λ B₁ cs₁ j f. askedF ps (g .1) rest (t + size (term l us)) B₁ cs₁ j f)
       where
         k : List Entry → List ℕ → Res
         k B₁ cs₁ = walkF Allowed allowed? ps rest (t + size (term l us)) B₁ cs₁
 
-        go : Went (walkT Allowed allowed? q (term l us) t B cs) k (need B′ lo hi)
-            → (walkT Allowed allowed? q (term l us) t B cs ≡ need B′ lo hi → Asks B cs B′ (firstsT (values B′) q t B) (UntilT (values B′) q (term l us) t lo hi))
-            → ((B₁ : List Entry) (cs₁ : List ℕ) → Inv Allowed Q (afterT q n) B₁ → walkF Allowed allowed? ps rest (t + size (term l us)) B₁ cs₁ ≡ need B′ lo hi
+        go : Went (walkT Allowed allowed? q (term l us) t B cs) k (need B′ s lo hi)
+            → (walkT Allowed allowed? q (term l us) t B cs ≡ need B′ s lo hi → Asks B cs B′ (firstsT (values B′) q t B) (UntilT (values B′) q (term l us) t lo hi))
+            → ((B₁ : List Entry) (cs₁ : List ℕ) → Inv Allowed Q (afterT q n) B₁ → walkF Allowed allowed? ps rest (t + size (term l us)) B₁ cs₁ ≡ need B′ s lo hi
             → Asks B₁ cs₁ B′ (firstsF (values B′) ps (t + size (term l us)) B₁) (UntilF (values B′) ps rest (t + size (term l us)) lo hi))
             → Asks B cs B′ (firstsF (values B′) (cons q ps) t B) (UntilF (values B′) (cons q ps) (some l us rest) t lo hi)
         go (first f) ih jh =
@@ -239,8 +239,8 @@ module _ (Allowed : ℕ → Value → Type 0) (allowed? : (x : ℕ) (v : Value) 
             let z = after-geT q n in
             let y : afterT q (length (values B′)) ≡ length (values B′) = omega (arith, after-toT q n (length (values B′)) (omega arith)) in
             record { inv = r .inv; pre = b .0; there = in-rest y (b .1) (r .there); firsts = rw (b .1, b .2) (r .firsts); paid = s .paid ∙ r .paid }
-    askedF (sequence x ps) {n} g us t B cs {B′} {lo} {hi} i e =
-        go (choose-live Allowed allowed? x 0 (terms us) t w B cs k (need B′ lo hi) (λ d h. terms-take d us (omega arith)) (λ d. rw zero-add) fail-need e)
+    askedF (sequence x ps) {n} g us t B cs {B′} {s} {lo} {hi} i e =
+        go (choose-live Allowed allowed? x 0 (terms us) t w B cs k (need B′ s lo hi) (λ d h. terms-take d us (omega arith)) (λ d. rw zero-add) fail-need e)
         (λ d B₁ cs₁ j f. askedF ps (g .1) (dropT d us) (t + rows (takeT d us)) B₁ cs₁ j f)
       where
         w : ℕ → Value
@@ -249,8 +249,8 @@ module _ (Allowed : ℕ → Value → Type 0) (allowed? : (x : ℕ) (v : Value) 
         k : ℕ → List Entry → List ℕ → Res
         k d B₁ cs₁ = walkF Allowed allowed? ps (dropT d us) (t + rows (takeT d us)) B₁ cs₁
 
-        go : Chose Allowed allowed? x 0 (terms us) t w B cs k (need B′ lo hi)
-            → ((d : ℕ) (B₁ : List Entry) (cs₁ : List ℕ) → Inv Allowed Q (after x n) B₁ → walkF Allowed allowed? ps (dropT d us) (t + rows (takeT d us)) B₁ cs₁ ≡ need B′ lo hi
+        go : Chose Allowed allowed? x 0 (terms us) t w B cs k (need B′ s lo hi)
+            → ((d : ℕ) (B₁ : List Entry) (cs₁ : List ℕ) → Inv Allowed Q (after x n) B₁ → walkF Allowed allowed? ps (dropT d us) (t + rows (takeT d us)) B₁ cs₁ ≡ need B′ s lo hi
             → Asks B₁ cs₁ B′ (firstsF (values B′) ps (t + rows (takeT d us)) B₁) (UntilF (values B′) ps (dropT d us) (t + rows (takeT d us)) lo hi))
             → Asks B cs B′ (firstsF (values B′) (sequence x ps) t B) (UntilF (values B′) (sequence x ps) us t lo hi)
         go (asks h c f) ih =
@@ -288,15 +288,15 @@ choices-of (e ∷ B) R = go (e .value) (choices-of B R)
     go (ofFunction l) h = h
     go (ofContext c) h = rw h
 
-over-need : (r : Res) {B : List Entry} {lo hi : ℕ} → over r ≡ need B lo hi → r ≡ need B lo hi
+over-need : (r : Res) {B : List Entry} {s lo hi : ℕ} → over r ≡ need B s lo hi → r ≡ need B s lo hi
 over-need fail h = absurd (fail-need h)
-over-need (need C lo hi) h = h
+over-need (need C s lo hi) h = h
 over-need (ok C []) h = ok-need C [] h
 over-need (ok C (c ∷ cs)) h = absurd (fail-need h)
 
 module _ (Allowed : ℕ → Value → Type 0) (allowed? : (x : ℕ) (v : Value) → Dec (Allowed x v)) where
   -- where the walk asks, a choice is reached, and the choices so far are those of the values so far
-  pub asked-reached : {Q : List Kind} {P : Pattern} {T : Term} {cs : List ℕ} {B : List Entry} {lo hi : ℕ} → Numbered P Q → walk Allowed allowed? P T cs ≡ need B lo hi
+  pub asked-reached : {Q : List Kind} {P : Pattern} {T : Term} {cs : List ℕ} {B : List Entry} {s lo hi : ℕ} → Numbered P Q → walk Allowed allowed? P T cs ≡ need B s lo hi
       → Reached Allowed Q (values B) P T lo hi × (cs ≡ choices (kinds (values B)) (recordOf P (values B)))
   asked-reached {Q} {P} {T} {cs} {B} g e =
       let start : Inv Allowed Q 0 [] = record { many = refl; kept = record { rest = Q; is = refl }; held = λ x v h. absurd (omega (arith, look-old [] x v h)) } in
@@ -305,9 +305,9 @@ module _ (Allowed : ℕ → Value → Type 0) (allowed? : (x : ℕ) (v : Value) 
 
   -- where a choice is reached, the walk asks
   pub reached-asked : {Q : List Kind} {P : Pattern} {T : Term} {σ : List Value} {lo hi : ℕ} → Numbered P Q → Reached Allowed Q σ P T lo hi
-      → (B : List Entry) × (walk Allowed allowed? P T (choices (kinds σ) (recordOf P σ)) ≡ need B lo hi) × (values B ≡ σ)
+      → (B : List Entry) × ((start : ℕ) × (walk Allowed allowed? P T (choices (kinds σ) (recordOf P σ)) ≡ need B start lo hi)) × (values B ≡ σ)
   reached-asked {Q} {P} {T} {σ} {lo} {hi} g s =
       let r = untilT Allowed allowed? Q σ (s .right) (s .allowed) (s .matched) (g .numbered) [] (record { many = refl; pre = record { rest = σ; is = refl } }) in
-      let w : walk Allowed allowed? P T (r .0) ≡ need (r .1) lo hi = rw (r .2) in
+      let w : walk Allowed allowed? P T (r .0) ≡ need (r .1) (r .2 .0) lo hi = rw (r .2 .1) in
       let c : r .0 ≡ choices (kinds σ) (recordOf P σ) = asked-reached g w .1 ∙ ap (λ (τ : List Value). choices (kinds τ) (recordOf P τ)) (r .3) in
-      (r .1, ap (λ (cs : List ℕ). walk Allowed allowed? P T cs) (flip c) ∙ w, r .3)
+      (r .1, (r .2 .0, ap (λ (cs : List ℕ). walk Allowed allowed? P T cs) (flip c) ∙ w), r .3)

@@ -15,7 +15,7 @@ use Rattle.meaning.proofs.Walk.{Res, fail, need, ok, when, andThen, met
 -- y as one more choice: an answer, and the answer then
 abbrev MoreIs : ℕ → Res → Res → Type 0
 MoreIs y fail r = r ≡ fail
-MoreIs y (need B lo hi) r = ((lo ≤ y) × (y ≤ hi) → ⊥) → r ≡ fail
+MoreIs y (need B s lo hi) r = ((lo ≤ y) × (y ≤ hi) → ⊥) → r ≡ fail
 MoreIs y (ok B cs) r = r ≡ ok B (cs ++ (y ∷ []))
 
 record More (y : ℕ) (r r′ : Res) : Type 0 where
@@ -28,7 +28,7 @@ more-when (no n) y r r′ m = record { is = refl }
 more-then : (y : ℕ) (r r′ : Res) (k : List Entry → List ℕ → Res) → More y r r′ → ((B : List Entry) (cs : List ℕ) → More y (k B cs) (k B (cs ++ (y ∷ []))))
     → More y (andThen r k) (andThen r′ k)
 more-then y fail r′ k m h = record { is = rw (m .is) }
-more-then y (need B lo hi) r′ k m h = record { is = λ o. rw (m .is o) }
+more-then y (need B s lo hi) r′ k m h = record { is = λ o. rw (m .is o) }
 more-then y (ok B cs) r′ k m h = rw (m .is) (h B cs)
 
 module _ (Allowed : ℕ → Value → Type 0) (allowed? : (x : ℕ) (v : Value) → Dec (Allowed x v)) (y : ℕ) where
@@ -74,7 +74,7 @@ module _ (Allowed : ℕ → Value → Type 0) (allowed? : (x : ℕ) (v : Value) 
   -- at the root: one choice more is refused where the walk had failed or ended, and outside the range where it asked
   abbrev pub Asked : Res → Type 0
   Asked fail = ⊥
-  Asked (need B lo hi) = (lo ≤ y) × (y ≤ hi)
+  Asked (need B s lo hi) = (lo ≤ y) × (y ≤ hi)
   Asked (ok B cs) = ⊥
 
   over-long : (B : List Entry) (cs : List ℕ) → over (ok B (cs ++ (y ∷ []))) ≡ fail
@@ -83,7 +83,7 @@ module _ (Allowed : ℕ → Value → Type 0) (allowed? : (x : ℕ) (v : Value) 
 
   over-more : (r r′ : Res) → More y r r′ → (Asked (over r) → ⊥) → over r′ ≡ fail
   over-more fail r′ m n = rw (m .is)
-  over-more (need B lo hi) r′ m n = rw (m .is n)
+  over-more (need B s lo hi) r′ m n = rw (m .is n)
   over-more (ok B cs) r′ m n = rw (m .is) (over-long B cs)
 
   pub honest : (P : Pattern) (T : Term) (cs : List ℕ) → (Asked (walk Allowed allowed? P T cs) → ⊥) → walk Allowed allowed? P T (cs ++ (y ∷ [])) ≡ fail

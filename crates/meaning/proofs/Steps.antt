@@ -19,8 +19,8 @@ module _ {B : List Entry} {cs : List ℕ} where
   pub no-ok : {A : Type 0} → fail ≡ ok B cs → A
   no-ok h = let z : _≡_ {A = ℕ} 0 1 = cc in absurd (omega arith)
 
-  pub no-need : {A : Type 0} (C : List Entry) (lo hi : ℕ) → need C lo hi ≡ ok B cs → A
-  no-need C lo hi h = let z : _≡_ {A = ℕ} 0 1 = cc in absurd (omega arith)
+  pub no-need : {A : Type 0} (C : List Entry) (s lo hi : ℕ) → need C s lo hi ≡ ok B cs → A
+  no-need C s lo hi h = let z : _≡_ {A = ℕ} 0 1 = cc in absurd (omega arith)
 
   pub when-ok : {A : Type 0} (d : Dec A) (r : Res) → when d r ≡ ok B cs → A × (r ≡ ok B cs)
   when-ok (yes a) r h = (a, h)
@@ -28,7 +28,7 @@ module _ {B : List Entry} {cs : List ℕ} where
 
   pub then-ok : (r : Res) (k : List Entry → List ℕ → Res) → andThen r k ≡ ok B cs → (B′ : List Entry) × (cs′ : List ℕ) × (r ≡ ok B′ cs′) × (k B′ cs′ ≡ ok B cs)
   then-ok fail k h = no-ok h
-  then-ok (need C lo hi) k h = no-need C lo hi h
+  then-ok (need C s lo hi) k h = no-need C s lo hi h
   then-ok (ok B′ cs′) k h = (B′, cs′, refl, h)
 
 pub when-live : {A : Type 0} (d : Dec A) (r r′ : Res) → (fail ≡ r′ → ⊥) → when d r ≡ r′ → A × (r ≡ r′)
@@ -164,7 +164,7 @@ module _ (Allowed : ℕ → Value → Type 0) where
 
     -- the variable is asked for; or it is given, and the walk goes on
     pub data Chose (x lo hi t : ℕ) (g : ℕ → Value) (B : List Entry) (cs : List ℕ) (k : ℕ → List Entry → List ℕ → Res) (r : Res) : Type 0 where
-      asks : look (values B) x ≡ new → cs ≡ [] → need B lo hi ≡ r → Chose x lo hi t g B cs k r
+      asks : look (values B) x ≡ new → cs ≡ [] → need B t lo hi ≡ r → Chose x lo hi t g B cs k r
       goes : (d : ℕ) (left : List ℕ) → Stands B x (g d) → k d (note x (g d) t B) left ≡ r → span (g d) ≡ d → picked B ++ cs ≡ picked (note x (g d) t B) ++ left
           → Chose x lo hi t g B cs k r
 
@@ -199,7 +199,7 @@ module _ (Allowed : ℕ → Value → Type 0) where
       where
         go : Chose x lo hi t g B cs k (ok B′ cs′)
             → (d : ℕ) × (left : List ℕ) × Stands B x (g d) × (k d (note x (g d) t B) left ≡ ok B′ cs′) × (span (g d) ≡ d) × (picked B ++ cs ≡ picked (note x (g d) t B) ++ left)
-        go (asks h c e) = no-need B lo hi e
+        go (asks h c e) = no-need B t lo hi e
         go (goes d left s e m p) = (d, left, s, e, m, p)
 
     pub choose-does : {x : ℕ} {v : Value} {B : List Entry} (lo hi t : ℕ) (g : ℕ → Value) (cs : List ℕ) (k : ℕ → List Entry → List ℕ → Res)

@@ -112,7 +112,7 @@ mutual
   smallF (here-sequence {us = us} e a b) z = omega (arith, terms-rows us)
 
 module _ (Allowed : ℕ → Value → Type 0) (allowed? : (x : ℕ) (v : Value) → Dec (Allowed x v)) where
-  pub tame-need : {Q : List Kind} {P : Pattern} (T : Term) (cs : List ℕ) {B : List Entry} {lo hi : ℕ} → Numbered P Q → walk Allowed allowed? P T cs ≡ need B lo hi
+  pub tame-need : {Q : List Kind} {P : Pattern} (T : Term) (cs : List ℕ) {B : List Entry} {s lo hi : ℕ} → Numbered P Q → walk Allowed allowed? P T cs ≡ need B s lo hi
       → (length cs < count Q) × (lo ≤ hi) × (hi ≤ rows (T .args))
   tame-need {Q} {P} T cs {B} g e =
       let r = asked-reached Allowed allowed? {T = T} {cs = cs} g e in

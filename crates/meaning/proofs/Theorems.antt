@@ -21,7 +21,7 @@ use Rattle.meaning.proofs.Complete.{completeT}
 
 over-ok : (r : Res) {B : List Entry} {cs : List ℕ} → over r ≡ ok B cs → (r ≡ ok B []) × (cs ≡ [])
 over-ok fail h = no-ok h
-over-ok (need B lo hi) h = no-need B lo hi h
+over-ok (need B s lo hi) h = no-need B s lo hi h
 over-ok (ok B []) h = (cc, cc)
 over-ok (ok B (c ∷ cs)) h = no-ok h
 

@@ -12,7 +12,7 @@ use Rattle.meaning.specs.Record.{Entry, entry, values, span}
 
 pub data Res : Type 0 where
   fail : Res
-  need : (bound : List Entry) (lo hi : ℕ) → Res
+  need : (bound : List Entry) (start lo hi : ℕ) → Res
   ok : (bound : List Entry) (left : List ℕ) → Res
 
 abbrev pub when : {A : Type 0} → Dec A → Res → Res
@@ -21,13 +21,13 @@ when (no n) r = fail
 
 abbrev pub andThen : Res → (List Entry → List ℕ → Res) → Res
 andThen fail k = fail
-andThen (need B lo hi) k = need B lo hi
+andThen (need B s lo hi) k = need B s lo hi
 andThen (ok B cs) k = k B cs
 
 -- at the root: choices that are not asked for are too many
 abbrev pub over : Res → Res
 over fail = fail
-over (need B lo hi) = need B lo hi
+over (need B s lo hi) = need B s lo hi
 over (ok B []) = ok B []
 over (ok B (c ∷ cs)) = fail
 
@@ -44,7 +44,7 @@ module _ (Allowed : ℕ → Value → Type 0) (allowed? : (x : ℕ) (v : Value) 
   -- the variable x comes to stand for one of the values g d, lo + d ≤ hi: at first a choice says for which, later its value does
   abbrev pub chosen : Look Value → List ℕ → ℕ → ℕ → ℕ → ℕ → (ℕ → Value) → List Entry → (ℕ → List Entry → List ℕ → Res) → Res
   chosen (old w) cs x lo hi t g B k = when (same? w (g (span w))) (k (span w) B cs)
-  chosen new [] x lo hi t g B k = need B lo hi
+  chosen new [] x lo hi t g B k = need B t lo hi
   chosen new (c ∷ cs) x lo hi t g B k =
       when (decLe lo c) (when (decLe c hi) (when (allowed? x (g (c - lo))) (k (c - lo) (B ++ (entry (g (c - lo)) t ∷ [])) cs)))
   chosen wrong cs x lo hi t g B k = fail
