@@ -288,7 +288,7 @@ choices-of (e ∷ B) R = go (e .value) (choices-of B R)
     go (ofFunction l) h = h
     go (ofContext c) h = rw h
 
-over-need : (r : Res) {B : List Entry} {s lo hi : ℕ} → over r ≡ need B s lo hi → r ≡ need B s lo hi
+pub over-need : (r : Res) {B : List Entry} {s lo hi : ℕ} → over r ≡ need B s lo hi → r ≡ need B s lo hi
 over-need fail h = absurd (fail-need h)
 over-need (need C s lo hi) h = h
 over-need (ok C []) h = ok-need C [] h

@@ -12,3 +12,4 @@ pub mod From
 pub mod Round
 pub mod OneKinds
 pub mod OneCode
+pub mod Next
