@@ -45,6 +45,11 @@ unfolding terms _⊕_
 terms-of none g = omega arith
 terms-of (some l us rest) g = omega (arith, terms-of rest g)
 
+pub terms-few : (f : Forest) → terms f ≤ rows f
+unfolding terms rows
+terms-few none = omega arith
+terms-few (some l us rest) = omega (arith, terms-few rest)
+
 pub rows-of : (f g : Forest) → rows (f ⊕ g) ≡ rows f + rows g
 unfolding rows _⊕_
 rows-of none g = omega arith

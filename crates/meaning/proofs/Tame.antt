@@ -6,7 +6,7 @@ use mathlib.Core.List.{List, [], _∷_, _++_}
 use lib.ListN.{length}
 use native.Mathlib.Omega.{arith}
 use Rattle.meaning.specs.Forest.{Forest, none, some, Term, term, _◂_, rows, terms, _⊕_, plug, holeRow, Context, hole, node}
-use Rattle.meaning.proofs.Laws.{rows-of}
+use Rattle.meaning.proofs.Laws.{terms-few, rows-of}
 use Rattle.meaning.specs.Pattern.{Pattern, Patterns, Kind, anIndividual, aSequence, aFunction, aContext, Look, old, new, look, after, afterT, GoodT, GoodF, Numbered}
 use Rattle.meaning.specs.Value.{Value, ofIndividual, ofSequence, ofFunction, ofContext, kind, kinds}
 use Rattle.meaning.specs.Record.{Entry, values, second, numbers, recordOf}
@@ -57,11 +57,6 @@ count-more : (Q R : List Kind) → count (Q ++ R) ≡ count Q + count R
 count-more [] R = omega arith
 count-more (k ∷ Q) R = omega (arith, count-more Q R)
 
-terms-rows : (f : Forest) → terms f ≤ rows f
-unfolding terms rows
-terms-rows none = omega arith
-terms-rows (some l us rest) = omega (arith, terms-rows rest)
-
 hole-fits : (c : Context) (T : Term) → holeRow c + rows (T .args) ≤ rows (plug c T .args)
 unfolding holeRow plug rows
 hole-fits hole T = omega arith
@@ -109,7 +104,7 @@ mutual
   smallF (in-first u) z = omega (arith, smallT u)
   smallF (in-rest b e u) z = omega (arith, smallF u (omega arith))
   smallF (in-sequence f rest e p u) z = let h = smallF u (omega arith) in let k = rows-of f rest in rw (← p) (omega arith)
-  smallF (here-sequence {us = us} e a b) z = omega (arith, terms-rows us)
+  smallF (here-sequence {us = us} e a b) z = omega (arith, terms-few us)
 
 module _ (Allowed : ℕ → Value → Type 0) (allowed? : (x : ℕ) (v : Value) → Dec (Allowed x v)) where
   pub tame-need : {Q : List Kind} {P : Pattern} (T : Term) (cs : List ℕ) {B : List Entry} {s lo hi : ℕ} → Numbered P Q → walk Allowed allowed? P T cs ≡ need B s lo hi

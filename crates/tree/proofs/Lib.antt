@@ -1,0 +1,9 @@
+pub mod Terms
+pub mod Compare
+pub mod Lists
+pub mod Unique
+pub mod Open
+pub mod Turns
+pub mod Cuts
+pub mod Counts
+pub mod Ways

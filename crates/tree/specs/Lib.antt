@@ -1,0 +1,5 @@
+pub mod Rows
+pub mod Good
+pub mod Shape
+pub mod Places
+pub mod Helpers
