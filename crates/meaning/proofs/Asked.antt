@@ -295,12 +295,20 @@ over-need (ok C []) h = ok-need C [] h
 over-need (ok C (c ∷ cs)) h = absurd (fail-need h)
 
 module _ (Allowed : ℕ → Value → Type 0) (allowed? : (x : ℕ) (v : Value) → Dec (Allowed x v)) where
-  -- where the walk asks, a choice is reached, and the choices so far are those of the values so far
+  -- where the walk asks, a choice is reached, the choices so far are those that were picked, and those of the values so far
+  asked-from : {Q : List Kind} {P : Pattern} {T : Term} {cs : List ℕ} {B : List Entry} {s lo hi : ℕ} → Numbered P Q → walk Allowed allowed? P T cs ≡ need B s lo hi
+      → Asks Allowed allowed? Q [] cs B (firstsT (values B) P 0 []) (UntilT (values B) P T 0 lo hi)
+  asked-from {Q} {P} {T} {cs} g e =
+      let start : Inv Allowed Q 0 [] = record { many = refl; kept = record { rest = Q; is = refl }; held = λ x v h. absurd (omega (arith, look-old [] x v h)) } in
+      askedT Allowed allowed? Q P (g .numbered) T 0 [] cs start (over-need (walkT Allowed allowed? P T 0 [] cs) e)
+
+  pub asked-picked : {Q : List Kind} {P : Pattern} (T : Term) {cs : List ℕ} {B : List Entry} {s lo hi : ℕ} → Numbered P Q → walk Allowed allowed? P T cs ≡ need B s lo hi → cs ≡ picked B
+  asked-picked T g e = asked-from {T = T} g e .paid
+
   pub asked-reached : {Q : List Kind} {P : Pattern} {T : Term} {cs : List ℕ} {B : List Entry} {s lo hi : ℕ} → Numbered P Q → walk Allowed allowed? P T cs ≡ need B s lo hi
       → Reached Allowed Q (values B) P T lo hi × (cs ≡ choices (kinds (values B)) (recordOf P (values B)))
-  asked-reached {Q} {P} {T} {cs} {B} g e =
-      let start : Inv Allowed Q 0 [] = record { many = refl; kept = record { rest = Q; is = refl }; held = λ x v h. absurd (omega (arith, look-old [] x v h)) } in
-      let r = askedT Allowed allowed? Q P (g .numbered) T 0 [] cs start (over-need (walkT Allowed allowed? P T 0 [] cs) e) in
+  asked-reached {B = B} g e =
+      let r = asked-from g e in
       (record { right = r .inv .kept; allowed = r .inv .held; matched = r .there }, r .paid ∙ flip (rw (r .firsts .is) (choices-of B (r .firsts .rest))))
 
   -- where a choice is reached, the walk asks

@@ -11,6 +11,7 @@ use Rattle.meaning.specs.Value.{Value, kinds}
 use Rattle.meaning.specs.Apply.{apply}
 use Rattle.meaning.specs.Solves.{Solves}
 use Rattle.meaning.specs.Record.{Entry, values, numbers, firstsT, firsts, recordOf}
+use Rattle.meaning.specs.Matcher.{IsRecord}
 use Rattle.meaning.specs.Order.{choices}
 use Rattle.meaning.proofs.Walk.{Res, fail, need, ok, walkT, over, walk}
 use Rattle.meaning.specs.Reached.{Begins}
@@ -76,16 +77,11 @@ module _ (Allowed : ℕ → Value → Type 0) (allowed? : (x : ℕ) (v : Value) 
   injective-record {Q} g s u e = injective g s u (ap (λ (r : List ℕ). choices Q r) e)
 
   -- the test of one record: walk with its own second numbers, and compare
-  pub record IsRecord (Q : List Kind) (P : Pattern) (T : Term) (r : List ℕ) : Type 0 where
-    pub matcher : List Value
-    pub solves : Solves Allowed Q matcher P T
-    pub its : recordOf P matcher ≡ r
-
   pub test-yes : {Q : List Kind} {P : Pattern} {T : Term} {r : List ℕ} {B : List Entry} {left : List ℕ} → Numbered P Q
-      → walk Allowed allowed? P T (choices Q r) ≡ ok B left → numbers B ≡ r → IsRecord Q P T r
+      → walk Allowed allowed? P T (choices Q r) ≡ ok B left → numbers B ≡ r → IsRecord Allowed Q P T r
   test-yes {B = B} g e h = let f = sound g e in record { matcher = values B; solves = f .solves; its = flip (f .records) ∙ h }
 
-  pub test-no : {Q : List Kind} {P : Pattern} {T : Term} {r : List ℕ} → Numbered P Q → IsRecord Q P T r
+  pub test-no : {Q : List Kind} {P : Pattern} {T : Term} {r : List ℕ} → Numbered P Q → IsRecord Allowed Q P T r
       → (B : List Entry) × (walk Allowed allowed? P T (choices Q r) ≡ ok B []) × (numbers B ≡ r)
   test-no {Q} {P} {T} {r} g i =
       let c = complete g (i .solves) in

@@ -6,6 +6,7 @@ pub mod Value
 pub mod Apply
 pub mod Solves
 pub mod Record
+pub mod Matcher
 pub mod Reached
 pub mod Order
 pub mod Read
