@@ -11,12 +11,13 @@ use Rattle.meaning.specs.Forest.{Forest, none, some, Term, term, _◂_, 
 use Rattle.meaning.specs.Pattern.{Pattern, symbol, individual, function, context, Patterns, nil, cons, sequence, Kind, anIndividual, aSequence, aFunction, aContext, Look, old, new, wrong, look, Comes, after, afterT, GoodT, GoodF, Numbered}
 use Rattle.meaning.specs.Value.{Value, ofIndividual, ofSequence, ofFunction, ofContext, same?}
 use Rattle.meaning.specs.Record.{Entry, entry, values, span}
-use Rattle.meaning.specs.Read.{takeT, fromRow, headTerm, Split, cut, valueAt}
+use Rattle.meaning.specs.Read.{takeT, fromRow, cut, valueAt}
+use Rattle.meaning.specs.GoodRecord.{Fits}
 use Rattle.meaning.proofs.Laws.{dropT, take-drop, cut-plugs, cut-holds}
 use Rattle.meaning.proofs.Lists.{look-new}
 use Rattle.meaning.proofs.Asked.{over-need}
 use Rattle.meaning.proofs.Walk.{Res, fail, need, ok, when, andThen, over, met, meet, chosen, choose, walkT, walkF, walk}
-use Rattle.meaning.proofs.From.{HereF, HereT, here-args, here-first, here-drop, here-next, here-hole}
+use Rattle.meaning.proofs.From.{HereF, HereT, here-in, here-args, here-first, here-drop, here-next, here-hole}
 
 -- no constraints
 abbrev pub Any : ℕ → Value → Type 0
@@ -116,7 +117,7 @@ module _ (Allowed : ℕ → Value → Type 0) (allowed? : (x : ℕ) (v : Value) 
     NextIs (need C s lo hi) r p =
         (((lo ≤ y) × (y ≤ hi) → ⊥) → r ≡ fail)
         × ((k : Kind) → look Q (length (values C)) ≡ old k → lo ≤ y → y ≤ hi
-        → (Allowed (length (values C)) (valueAt k R s y) → (r ≡ p) × Used p) × ((Allowed (length (values C)) (valueAt k R s y) → ⊥) → r ≡ fail))
+        → Fits k R s y × (Allowed (length (values C)) (valueAt k R s y) → (r ≡ p) × Used p) × ((Allowed (length (values C)) (valueAt k R s y) → ⊥) → r ≡ fail))
     NextIs (ok C cs) r p = (r ≡ ok C (cs ++ (y ∷ []))) × (p ≡ ok C (cs ++ (y ∷ [])))
 
     record Next (a r p : Res) : Type 0 where
@@ -138,7 +139,7 @@ module _ (Allowed : ℕ → Value → Type 0) (allowed? : (x : ℕ) (v : Value) 
             λ o. rw (m .is .0 o),
             λ j q l b.
                 let n = m .is .1 j q l b in
-                (λ a. let z = n .0 a in (rw (z .0) (then-same p k k′ (z .1) e), used-then p k′ (z .1) u), λ a. rw (n .1 a)),
+                (n .0, λ a. let z = n .1 a in (rw (z .0) (then-same p k k′ (z .1) e), used-then p k′ (z .1) u), λ a. rw (n .2 a)),
           );
         }
     next-then (ok C cs) r p k k′ m e u h = rw (m .is .0, m .is .1) (h C cs)
@@ -158,7 +159,7 @@ module _ (Allowed : ℕ → Value → Type 0) (allowed? : (x : ℕ) (v : Value) 
 
     -- the choice itself is made here
     next-here : (x lo hi t : ℕ) (g : ℕ → Value) (B : List Entry) (c : Kind) (k k′ : ℕ → List Entry → List ℕ → Res) → length (values B) ≡ x → look Q x ≡ old c
-        → (lo ≤ y → y ≤ hi → g (y - lo) ≡ valueAt c R t y) → ((d : ℕ) (C : List Entry) → (k d C [] ≡ k′ d C []) × Used (k′ d C []))
+        → (lo ≤ y → y ≤ hi → (g (y - lo) ≡ valueAt c R t y) × Fits c R t y) → ((d : ℕ) (C : List Entry) → (k d C [] ≡ k′ d C []) × Used (k′ d C []))
         → Next (need B t lo hi) (chosen Allowed allowed? new (y ∷ []) x lo hi t g B k) (chosen Any any? new (y ∷ []) x lo hi t g B k′)
     next-here x lo hi t g B c k k′ here kept v h = record { is = (λ o. out o (decLe lo y) (decLe y hi), λ j q l b. go j q l b (decLe lo y) (decLe y hi)) }
       where
@@ -173,13 +174,13 @@ module _ (Allowed : ℕ → Value → Type 0) (allowed? : (x : ℕ) (v : Value) 
         out o (yes a) (no b) = refl
         out o (no a) b = refl
 
-        judged : (d : Dec (Allowed x (g (y - lo)))) (w : Value) → g (y - lo) ≡ w
-            → (Allowed x w → (when d (k (y - lo) C []) ≡ k′ (y - lo) C []) × Used (k′ (y - lo) C [])) × ((Allowed x w → ⊥) → when d (k (y - lo) C []) ≡ fail)
-        judged (yes d) w e = (λ a. h (y - lo) C, λ n. absurd (n (rw e at d)))
-        judged (no d) w e = (λ a. absurd (d (rw e a)), λ n. refl)
+        judged : (d : Dec (Allowed x (g (y - lo)))) (w : Value) → (g (y - lo) ≡ w) × Fits c R t y
+            → Fits c R t y × (Allowed x w → (when d (k (y - lo) C []) ≡ k′ (y - lo) C []) × Used (k′ (y - lo) C [])) × ((Allowed x w → ⊥) → when d (k (y - lo) C []) ≡ fail)
+        judged (yes d) w e = (e .1, λ a. h (y - lo) C, λ n. absurd (n (rw (e .0) at d)))
+        judged (no d) w e = (e .1, λ a. absurd (d (rw (e .0) a)), λ n. refl)
 
         go : (j : Kind) → look Q (length (values B)) ≡ old j → lo ≤ y → y ≤ hi → (a : Dec (lo ≤ y)) (b : Dec (y ≤ hi))
-            → (Allowed (length (values B)) (valueAt j R t y) → (when a (when b r) ≡ when a (when b (k′ (y - lo) C []))) × Used (when a (when b (k′ (y - lo) C []))))
+            → Fits j R t y × (Allowed (length (values B)) (valueAt j R t y) → (when a (when b r) ≡ when a (when b (k′ (y - lo) C []))) × Used (when a (when b (k′ (y - lo) C []))))
             × ((Allowed (length (values B)) (valueAt j R t y) → ⊥) → when a (when b r) ≡ fail)
         go j q l b (yes a) (yes d) =
             let z : old j ≡ old c = flip q ∙ rw here kept in
@@ -189,7 +190,7 @@ module _ (Allowed : ℕ → Value → Type 0) (allowed? : (x : ℕ) (v : Value) 
         go j q l b (no a) d = absurd (a l)
 
     next-chosen : (l : Look Value) (cs : List ℕ) (x lo hi t : ℕ) (g : ℕ → Value) (B : List Entry) (c : Kind) (k k′ : ℕ → List Entry → List ℕ → Res) → look (values B) x ≡ l → look Q x ≡ old c
-        → (lo ≤ y → y ≤ hi → g (y - lo) ≡ valueAt c R t y) → ((d : ℕ) (C : List Entry) → (k d C [] ≡ k′ d C []) × Used (k′ d C []))
+        → (lo ≤ y → y ≤ hi → (g (y - lo) ≡ valueAt c R t y) × Fits c R t y) → ((d : ℕ) (C : List Entry) → (k d C [] ≡ k′ d C []) × Used (k′ d C []))
         → ((w : Value) → w ≡ g (span w) → Next (k (span w) B cs) (k (span w) B (cs ++ (y ∷ []))) (k′ (span w) B (cs ++ (y ∷ []))))
         → ((e : ℕ) → lo ≤ e → e ≤ hi → (C : List Entry) (ds : List ℕ) → Next (k (e - lo) C ds) (k (e - lo) C (ds ++ (y ∷ []))) (k′ (e - lo) C (ds ++ (y ∷ []))))
         → Next (chosen Allowed allowed? l cs x lo hi t g B k) (chosen Allowed allowed? l (cs ++ (y ∷ [])) x lo hi t g B k) (chosen Any any? l (cs ++ (y ∷ [])) x lo hi t g B k′)
@@ -232,6 +233,18 @@ module _ (Allowed : ℕ → Value → Type 0) (allowed? : (x : ℕ) (v : Value) 
     taken-there none (suc d) h b = absurd (omega arith)
     taken-there (some l us rest) d h b = rw (h .shows (omega arith))
 
+    -- the numbers are good
+    hole-fits-there : {t : ℕ} {T : Term} → HereT R t T → t ≤ y → y ≤ t + rows (T .args) → Fits aContext R t y
+    unfolding rows
+    hole-fits-there h l b =
+        let i = rw (h .shows) at (here-in h) in
+        (omega arith, l, rw (h .shows) (omega arith))
+
+    terms-there : {t : ℕ} (us : Forest) (d : ℕ) → HereF R t us → d ≤ terms us → Fits aSequence R t d
+    unfolding terms rows
+    terms-there none d h b = (omega (arith, h .inside), omega arith)
+    terms-there (some l us rest) d h b = (omega (arith, h .inside), rw (h .shows (omega arith)) b)
+
     mutual
       unfolding walkT GoodT
 
@@ -244,7 +257,7 @@ module _ (Allowed : ℕ → Value → Type 0) (allowed? : (x : ℕ) (v : Value) 
           (λ C. freeF ps (after x n) (g .1) (T .args) (t + 1) C) (λ C. usedF ps (T .args) (t + 1) C) (λ C ds. nextF ps (after x n) (g .1) (T .args) (t + 1) C ds (here-args h))
       nextT (context x q) n g T t B cs h =
           next-chosen (look (values B) x) cs x t (t + rows (T .args)) t (λ d. ofContext (cut T d .around)) B aContext _ _ refl (g .0 .kept)
-          (λ l b. rw (h .shows) refl)
+          (λ l b. (rw (h .shows) refl, hole-fits-there h l b))
           (λ d C. (freeT q (after x n) (g .1) (cut T d .at) (t + d) C, usedT q (cut T d .at) (t + d) C))
           (λ w e. nextT q (after x n) (g .1) (cut T (span w) .at) (t + span w) B cs (hole-there (span w) h (flip (ap span e))))
           (λ d l b C ds. nextT q (after x n) (g .1) (cut T (d - t) .at) (t + (d - t)) C ds (hole-there (d - t) h (cut-holds T (d - t) (omega arith))))
@@ -260,7 +273,7 @@ module _ (Allowed : ℕ → Value → Type 0) (allowed? : (x : ℕ) (v : Value) 
           (λ C ds. nextF ps (afterT q n) (g .1) rest (t + size (term l us)) C ds (here-next (term l us) rest h))
       nextF (sequence x ps) n g us t B cs h =
           next-chosen (look (values B) x) cs x 0 (terms us) t (λ d. ofSequence (takeT d us)) B aSequence _ _ refl (g .0 .kept)
-          (λ l b. rw (sub-zero y) (ap ofSequence (taken-there us y h b)))
+          (λ l b. (rw (sub-zero y) (ap ofSequence (taken-there us y h b)), terms-there us y h b))
           (λ d C. (freeF ps (after x n) (g .1) (dropT d us) (t + rows (takeT d us)) C, usedF ps (dropT d us) (t + rows (takeT d us)) C))
           (λ w e. nextF ps (after x n) (g .1) (dropT (span w) us) (t + rows (takeT (span w) us)) B cs (rest-there us (span w) h))
           (λ d l b C ds. nextF ps (after x n) (g .1) (dropT (d - 0) us) (t + rows (takeT (d - 0) us)) C ds (rest-there us (d - 0) h))
@@ -270,12 +283,21 @@ module _ (Allowed : ℕ → Value → Type 0) (allowed? : (x : ℕ) (v : Value) 
     pub first-free : walk Allowed allowed? P T [] ≡ walk Any any? P T []
     first-free = ap over (freeT P 0 (g .numbered) T 0 [])
 
+    next-at : (cs : List ℕ) (y : ℕ) {B : List Entry} {s lo hi : ℕ} → walk Allowed allowed? P T cs ≡ need B s lo hi
+        → NextIs (T ◂ none) y (need B s lo hi) (walkT Allowed allowed? P T 0 [] (cs ++ (y ∷ []))) (walkT Any any? P T 0 [] (cs ++ (y ∷ [])))
+    unfolding fromRow
+    next-at cs y e =
+        rw (over-need (walkT Allowed allowed? P T 0 [] cs) e) at (nextT (T ◂ none) y P 0 (g .numbered) T 0 [] cs (record { rest = none; shows = refl }) .is)
+
+    -- a value in the range that the walk asks for is good for a record
+    pub next-fits : (cs : List ℕ) (y : ℕ) {B : List Entry} {s lo hi : ℕ} (k : Kind) → walk Allowed allowed? P T cs ≡ need B s lo hi → look Q (length (values B)) ≡ old k → lo ≤ y → y ≤ hi
+        → Fits k (T ◂ none) s y
+    next-fits cs y k e q l b = next-at cs y e .1 k q l b .0
+
+    -- where it is allowed, the walk goes on without constraints; where not, it fails
     pub next-judged : (cs : List ℕ) (y : ℕ) {B : List Entry} {s lo hi : ℕ} (k : Kind) → walk Allowed allowed? P T cs ≡ need B s lo hi → look Q (length (values B)) ≡ old k → lo ≤ y → y ≤ hi
         → (Allowed (length (values B)) (valueAt k (T ◂ none) s y) → walk Allowed allowed? P T (cs ++ (y ∷ [])) ≡ walk Any any? P T (cs ++ (y ∷ [])))
         × ((Allowed (length (values B)) (valueAt k (T ◂ none) s y) → ⊥) → walk Allowed allowed? P T (cs ++ (y ∷ [])) ≡ fail)
-    unfolding fromRow
     next-judged cs y k e q l b =
-        let m = nextT (T ◂ none) y P 0 (g .numbered) T 0 [] cs (record { rest = none; shows = refl }) in
-        let n = rw (over-need (walkT Allowed allowed? P T 0 [] cs) e) at (m .is) in
-        let j = n .1 k q l b in
-        (λ a. ap over (j .0 a .0), λ a. ap over (j .1 a))
+        let j = next-at cs y e .1 k q l b in
+        (λ a. ap over (j .1 a .0), λ a. ap over (j .2 a))

@@ -107,11 +107,15 @@ mutual
   smallF (here-sequence {us = us} e a b) z = omega (arith, terms-few us)
 
 module _ (Allowed : ℕ → Value → Type 0) (allowed? : (x : ℕ) (v : Value) → Dec (Allowed x v)) where
+  -- the variable that is asked for is a sequence or context variable
+  pub asked-next : {Q : List Kind} {P : Pattern} (T : Term) (cs : List ℕ) {B : List Entry} {s lo hi : ℕ} → Numbered P Q → walk Allowed allowed? P T cs ≡ need B s lo hi → Next Q (values B)
+  asked-next {Q} T cs {B} g e = nextT Q (values B) (asked-reached Allowed allowed? {T = T} {cs = cs} g e .0 .matched) 0 (g .numbered)
+
   pub tame-need : {Q : List Kind} {P : Pattern} (T : Term) (cs : List ℕ) {B : List Entry} {s lo hi : ℕ} → Numbered P Q → walk Allowed allowed? P T cs ≡ need B s lo hi
       → (length cs < count Q) × (lo ≤ hi) × (hi ≤ rows (T .args))
   tame-need {Q} {P} T cs {B} g e =
       let r = asked-reached Allowed allowed? {T = T} {cs = cs} g e in
-      let n = nextT Q (values B) (r .0 .matched) 0 (g .numbered) in
+      let n = asked-next T cs g e in
       let s = smallT (r .0 .matched) in
       let c = count-next (r .0 .right) n in
       let d = choices-few (kinds (values B)) (recordOf P (values B)) in
