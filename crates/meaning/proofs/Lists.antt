@@ -27,6 +27,11 @@ module _ {A : Type 0} where
   look-wrong (a ∷ l) zero h = let z : _≡_ {A = ℕ} 0 1 = cc in absurd (omega arith)
   look-wrong (a ∷ l) (suc x) h = omega (arith, look-wrong l x h)
 
+  pub look-some : (l : List A) (x : ℕ) → x < length l → (a : A) × (look l x ≡ old a)
+  look-some [] x h = absurd (omega arith)
+  look-some (a ∷ l) zero h = (a, refl)
+  look-some (a ∷ l) (suc x) h = look-some l x (omega arith)
+
   -- one more at the end
   pub look-more : (l m : List A) (x : ℕ) (a : A) → look l x ≡ old a → look (l ++ m) x ≡ old a
   look-more [] m zero b h = cc

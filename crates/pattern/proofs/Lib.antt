@@ -1,0 +1,10 @@
+pub mod Build
+pub mod Keeps
+pub mod Joint
+pub mod Listed
+pub mod OneRow
+pub mod Turns
+pub mod Rules
+pub mod Unique
+pub mod Settle
+pub mod Placed

@@ -1,0 +1,5 @@
+pub mod Rows
+pub mod Good
+pub mod Answer
+pub mod Scan
+pub mod Places

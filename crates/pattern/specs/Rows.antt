@@ -1,0 +1,63 @@
+-- 01, "Patterns and constraints": "A pattern is three lists: kind (0 symbol, 1 individual, 2 sequence, 3 function variable, 4
+-- context variable), name, size." They are the rows of a tree whose every row has a kind and a name.
+use Prim.Native.Nat.{ℕ, _<_}
+use mathlib.Core.List.{List}
+use Rattle.meaning.specs.Forest.{Forest, none, some, Term, term, _◂_}
+use Rattle.meaning.specs.Pattern.{Pattern, symbol, individual, function, context, Patterns, nil, cons, sequence, Kind, anIndividual, aSequence, aFunction, aContext}
+use Rattle.tree.specs.Rows.{labels, sizes}
+
+-- the number of each kind of variable; that of a symbol is 0
+abbrev pub code : Kind → ℕ
+code anIndividual = 1
+code aSequence = 2
+code aFunction = 3
+code aContext = 4
+
+-- the tree of a pattern; w chooses what is written on a row, of its kind and its name
+unfoldable mutual
+  pub treeT : (ℕ → ℕ → ℕ) → Pattern → Term
+  treeT w (symbol f ps) = term (w 0 f) (treeF w ps)
+  treeT w (individual x) = term (w (code anIndividual) x) none
+  treeT w (function x ps) = term (w (code aFunction) x) (treeF w ps)
+  treeT w (context x q) = term (w (code aContext) x) (treeT w q ◂ none)
+
+  pub treeF : (ℕ → ℕ → ℕ) → Patterns → Forest
+  treeF w nil = none
+  treeF w (cons q ps) = treeT w q ◂ treeF w ps
+  treeF w (sequence x ps) = some (w (code aSequence) x) none (treeF w ps)
+
+abbrev pub theKind : ℕ → ℕ → ℕ
+theKind k x = k
+
+abbrev pub theName : ℕ → ℕ → ℕ
+theName k x = x
+
+-- the pattern with its kinds, and with its names, as sequences of one term
+abbrev pub kindTree : Pattern → Forest
+kindTree P = treeT theKind P ◂ none
+
+abbrev pub nameTree : Pattern → Forest
+nameTree P = treeT theName P ◂ none
+
+-- the three lists
+abbrev pub kindRows : Pattern → List ℕ
+kindRows P = labels (kindTree P)
+
+abbrev pub nameRows : Pattern → List ℕ
+nameRows P = labels (nameTree P)
+
+abbrev pub sizeRows : Pattern → List ℕ
+sizeRows P = sizes (nameTree P)
+
+-- "symbols below 65,536"
+unfoldable mutual
+  pub SmallT : Pattern → Type 0
+  SmallT (symbol f ps) = (f < 65536) × SmallF ps
+  SmallT (individual x) = Unit {0}
+  SmallT (function x ps) = SmallF ps
+  SmallT (context x q) = SmallT q
+
+  pub SmallF : Patterns → Type 0
+  SmallF nil = Unit {0}
+  SmallF (cons q ps) = SmallT q × SmallF ps
+  SmallF (sequence x ps) = SmallF ps
