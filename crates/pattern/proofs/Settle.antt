@@ -9,6 +9,7 @@ use Rattle.tree.specs.Shape.{Shape}
 use Rattle.pattern.specs.Rows.{code}
 use Rattle.pattern.specs.Good.{GoodPattern, Good}
 use Rattle.pattern.specs.Answer.{listed, Refused, Settled}
+use Rattle.pattern.specs.Known.{KindsAre}
 use Rattle.pattern.specs.Scan.{Scanned, passed, failed}
 use Rattle.pattern.specs.declared.Checked.{Checked}
 use Rattle.pattern.proofs.Joint.{good-scan, scanned-good}
@@ -65,3 +66,9 @@ one-checked {K} {N} {S} {r} {o} a b = go (r .good) refl (o .good) refl
         let m = a .refused p in
         let n = b .refused q in
         same-fields r o (p ∙ sym q) (m .none ∙ sym (n .none)) (m .empty ∙ sym (n .empty))
+
+-- what the answer tells of the variables
+pub variables-known : {K N S : List ℕ} {r : Checked} {P : Pattern} {Q : List Kind} → Settled K N S r → GoodPattern K N S P Q → KindsAre Q (r .variables) (r .kinds)
+variables-known {P = P} {Q = Q} settled g =
+    let f = settled .found P Q g in
+    record { many = f .0; few = g .bounded; are = f .1 }

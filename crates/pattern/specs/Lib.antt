@@ -3,3 +3,4 @@ pub mod Good
 pub mod Answer
 pub mod Scan
 pub mod Places
+pub mod Known

@@ -15,8 +15,9 @@ use Rattle.meaning.proofs.Answers.{says-yes, says-no, said-no}
 use Rattle.tree.specs.Places.{TermsAt}
 use Rattle.pattern.specs.Rows.{code}
 use Rattle.pattern.specs.Answer.{listed}
+use Rattle.pattern.specs.Known.{KindsAre}
 use Rattle.pattern.proofs.Listed.{one-code, listed-length, listed-look}
-use Rattle.record.specs.Pairs.{RowsPre, FitsPost, PairPost, KindsPre, RecordPre, RecordPost}
+use Rattle.record.specs.Pairs.{RowsPre, FitsPost, PairPost, RecordPre, RecordPost}
 
 -- the kinds by their numbers
 pub pair-sequence : {S : List ℕ} {kind a b : ℕ} {r : Bool} → kind ≡ 2 → FitsPost S aSequence a b r → PairPost S kind a b r
@@ -38,7 +39,7 @@ pair-row {S} {kind} {a} {b} {r} s c f = record { is = go }
 pub record Each (Q : List Kind) (R : Forest) (list : List ℕ) (n : ℕ) : Type 0 where
   pub fits : (x : ℕ) (k : Kind) → x < n → look Q x ≡ old k → Fits k R (getD list (x + x) 0) (getD list (x + x + 1) 0)
 
-good-each : (Q : List Kind) (R : Forest) (list : List ℕ) (n : ℕ) → GoodRecord Q R list → Each Q R list n
+pub good-each : (Q : List Kind) (R : Forest) (list : List ℕ) (n : ℕ) → GoodRecord Q R list → Each Q R list n
 good-each [] R list n g = record { fits = λ x k l e. absurd (omega (arith, look-old [] x k e)) }
 good-each (j ∷ Q) R [] n g = absurd g
 good-each (j ∷ Q) R (a ∷ []) n g = absurd g
@@ -64,7 +65,7 @@ each-good (j ∷ Q) R (a ∷ b ∷ list) h e = (e .fits 0 j (omega arith) refl, 
         let q : suc (suc (x + x)) + 1 ≡ suc (suc (x + x + 1)) = omega arith in
         rw (p, q) at (e .fits (suc x) k (omega arith) d)
 
-good-long : (Q : List Kind) (R : Forest) (list : List ℕ) → GoodRecord Q R list → length list ≡ length Q + length Q
+pub good-long : (Q : List Kind) (R : Forest) (list : List ℕ) → GoodRecord Q R list → length list ≡ length Q + length Q
 good-long [] R [] g = refl
 good-long [] R (a ∷ list) g = absurd g
 good-long (k ∷ Q) R [] g = absurd g
@@ -75,7 +76,7 @@ good-long (k ∷ Q) R (a ∷ b ∷ list) g = omega (arith, good-long Q R list (g
 pub record Passed (S kinds : List ℕ) (variables : ℕ) (list : List ℕ) (x : ℕ) : Type 0 where
   pub low : x ≤ variables
   pub long : length list ≡ variables + variables
-  pub each : (L : List ℕ) (R : Forest) (Q : List Kind) → TermsAt L S 0 (length S) R → KindsPre variables kinds Q → Each Q R list x
+  pub each : (L : List ℕ) (R : Forest) (Q : List Kind) → TermsAt L S 0 (length S) R → KindsAre Q variables kinds → Each Q R list x
 
 pub wrong-length : {S kinds list : List ℕ} {variables : ℕ} → (length list ≡ variables + variables → ⊥) → RecordPost S kinds variables list false
 wrong-length h = record { is = λ L R Q r k. says-no (λ g. h (omega (arith, good-long Q R _ g, k .many))) }
@@ -89,7 +90,7 @@ kinds-long p =
     (rw (k .are) (listed-length (p .kinded .0) (k .few)), omega (arith, k .many, k .few))
 
 module _ {S kinds list : List ℕ} {variables x : ℕ} (p : Passed S kinds variables list x) (l : x < variables) where
-  kind-at : {r : Bool} (L : List ℕ) (R : Forest) (Q : List Kind) → TermsAt L S 0 (length S) R → KindsPre variables kinds Q → PairPost S (getD kinds x 0) (getD list (x + x) 0) (getD list (x + x + 1) 0) r
+  kind-at : {r : Bool} (L : List ℕ) (R : Forest) (Q : List Kind) → TermsAt L S 0 (length S) R → KindsAre Q variables kinds → PairPost S (getD kinds x 0) (getD list (x + x) 0) (getD list (x + x + 1) 0) r
       → (k : Kind) × (look Q x ≡ old k) × Says r (Fits k R (getD list (x + x) 0) (getD list (x + x + 1) 0))
   kind-at L R Q t k q =
       let w = look-some Q x (omega (arith, k .many)) in
@@ -119,7 +120,7 @@ module _ {S kinds list : List ℕ} {variables x : ℕ} (p : Passed S kinds varia
       decide : (y : ℕ) → Dec (y ≡ x)
       decide y = ℕ-discrete y x
 
-      go : (L : List ℕ) (R : Forest) (Q : List Kind) → TermsAt L S 0 (length S) R → KindsPre variables kinds Q → (y : ℕ) (j : Kind) → y < x + 1 → look Q y ≡ old j → Dec (y ≡ x)
+      go : (L : List ℕ) (R : Forest) (Q : List Kind) → TermsAt L S 0 (length S) R → KindsAre Q variables kinds → (y : ℕ) (j : Kind) → y < x + 1 → look Q y ≡ old j → Dec (y ≡ x)
           → Fits j R (getD list (y + y) 0) (getD list (y + y + 1) 0)
       go L R Q t k y j m e (yes d) =
           let w = kind-at L R Q t k q in

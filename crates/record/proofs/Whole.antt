@@ -16,19 +16,14 @@ use Rattle.pattern.specs.Good.{GoodPattern}
 use Rattle.pattern.specs.Good.{Good as GoodPatternRows}
 use Rattle.pattern.specs.Answer.{Settled}
 use Rattle.pattern.specs.declared.Checked.{Checked}
+use Rattle.pattern.proofs.Settle.{variables-known}
 use Rattle.record.specs.Good.{Good}
-use Rattle.record.specs.Pairs.{RowsPre, KindsPre, RecordPre, RecordPost}
+use Rattle.record.specs.Pairs.{RowsPre, RecordPre, RecordPost}
 
 -- the rows of a good tree are its term's
 pub tree-at : {L S : List ℕ} {T : Term} → GoodTree L S T → TermsAt L S 0 (length S) (T ◂ none)
 tree-at {L} {S} {T} g =
     subst (λ (n : ℕ). TermsAt L S 0 n (T ◂ none)) (sym (good-lengths g .1)) (good-at g)
-
--- the kinds that the pattern's check gives are those of the pattern
-pub kinds-given : {K N Z : List ℕ} {r : Checked} {P : Pattern} {Q : List Kind} → Settled K N Z r → GoodPattern K N Z P Q → KindsPre (r .variables) (r .kinds) Q
-kinds-given {P = P} {Q = Q} s g =
-    let f = s .found P Q g in
-    record { many = f .0; few = g .bounded; are = f .1 }
 
 pub no-tree : {L S K N Z list : List ℕ} {r : Bool} → Says r (GoodRows L S) → r ≡ false → Says false (Good L S K N Z list)
 no-tree s e = says-no (λ g. said-no s e (g .0, g .3))
@@ -39,11 +34,11 @@ no-pattern s e = says-no (λ g. said-no (s .judged) e (g .1, g .2, g .4))
 pub record-pre : {L S K N Z : List ℕ} {r : Checked} → GoodRows L S → Settled K N Z r → r .good ≡ true → RecordPre S (r .kinds) (r .variables)
 record-pre {L} t s e =
     let g = s .judged .0 e in
-    record { rows = record { some = (L, _, tree-at (t .1)) }; kinded = (g .1, kinds-given s (g .2)) }
+    record { rows = record { some = (L, _, tree-at (t .1)) }; kinded = (g .1, variables-known s (g .2)) }
 
 pub record-judged : {L S K N Z list : List ℕ} {r : Checked} {b : Bool} → GoodRows L S → Settled K N Z r → r .good ≡ true → RecordPost S (r .kinds) (r .variables) list b → Says b (Good L S K N Z list)
 record-judged {L} t s e p =
     let g = s .judged .0 e in (
-      λ h. (t .0, g .0, g .1, t .1, g .2, p .is L _ (g .1) (tree-at (t .1)) (kinds-given s (g .2)) .0 h),
-      λ h. p .is L _ (h .2) (tree-at (h .3)) (kinds-given s (h .4)) .1 (h .5),
+      λ h. (t .0, g .0, g .1, t .1, g .2, p .is L _ (g .1) (tree-at (t .1)) (variables-known s (g .2)) .0 h),
+      λ h. p .is L _ (h .2) (tree-at (h .3)) (variables-known s (h .4)) .1 (h .5),
     )

@@ -1,0 +1,11 @@
+pub mod Decide
+pub mod Constraints
+pub mod Language
+pub mod Allowed
+pub mod Words
+pub mod Pairs
+pub mod Passed
+pub mod Readings
+pub mod Judging
+pub mod Meant
+pub mod Values

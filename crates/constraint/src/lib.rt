@@ -1,0 +1,183 @@
+ghost use mathlib.Core.Path.{_≡_};
+ghost use mathlib.Core.List.{List};
+ghost use Prim.Native.Nat.{ℕ, _≤_};
+ghost use Rattle.meaning.specs.Says.{Says};
+ghost use Rattle.meaning.specs.Pattern.{Kind};
+ghost use Rattle.meaning.specs.Forest.{Forest, Context, terms};
+ghost use Rattle.meaning.specs.Read.{takeT};
+ghost use Rattle.tree.specs.Places.{TermsAt, ContextAt};
+ghost use Rattle.pattern.specs.Rows.{code};
+ghost use Rattle.expression.specs.Expression.{Expression};
+ghost use Rattle.expression.specs.Rows.{sizeRows};
+ghost use Rattle.constraint.specs.Word.{heads, path};
+ghost use Rattle.constraint.specs.Obeys.{Constraint};
+ghost use Rattle.constraint.specs.Good.{GoodConstraints};
+ghost use Rattle.constraint.specs.Whole.{Good};
+ghost use Rattle.pattern.specs.Known.{KindsAre};
+ghost use Rattle.constraint.specs.Pair.{Pair, GivenPre};
+ghost use Rattle.constraint.specs.Reading.{HeadsPre, PathPre, After, ObeysPre, ObeysPost, ForbiddenPost};
+
+// Whether a variable of this kind may have these two numbers.
+fn paired(kind: u32, size: &[u32], first: u32, flag: u32) -> bool
+    requires { ⌜ ((es : List Expression) × (now size ≡ sizeRows es)) ⌝ }
+    ensures { λ r. ⌜ ((es : List Expression) (k : Kind) → now (size .entry) ≡ sizeRows es → kind ≡ code k → Says r ((c : Constraint) × Pair es k first flag c)) ⌝ }
+{
+    if first == 0 {
+        return flag == 0;
+    }
+    if 1 < flag {
+        return false;
+    }
+    if kind == 1 {
+        return false;
+    }
+    if kind == 3 {
+        return false;
+    }
+    let above = first as usize;
+    expression::starts(size, above - 1)
+}
+
+// Code 14, where the pattern's check has answered the variables and the table is good.
+pub fn given(variables: usize, kinds: &[u32; 16], size: &[u32], constraint: &[u32]) -> bool
+    requires { ⌜ GivenPre variables (now kinds) (now size) ⌝ }
+    ensures { λ r. ⌜ ((es : List Expression) (Q : List Kind) → KindsAre Q variables (now (kinds .entry)) → now (size .entry) ≡ sizeRows es
+        → Says r ((cs : List Constraint) × GoodConstraints es Q (now (constraint .entry)) cs)) ⌝ }
+{
+    if constraint.len() != variables + variables {
+        return false;
+    }
+    let mut x = 0;
+    while x < variables {
+        if !paired(kinds[x], size, constraint[x + x], constraint[x + x + 1]) {
+            return false;
+        }
+        x += 1;
+    }
+    true
+}
+
+// Code 14, and those before it: whether the constraint list is good, for the pattern and the expression table.
+pub fn good(
+    kind: &[u32],
+    name: &[u32],
+    size: &[u32],
+    expression_kind: &[u32],
+    expression_name: &[u32],
+    expression_size: &[u32],
+    constraint: &[u32],
+) -> bool
+    ensures { λ r. ⌜ Says r (Good (now (kind .entry)) (now (name .entry)) (now (size .entry)) (now («expression_kind» .entry)) (now («expression_name» .entry)) (now («expression_size» .entry)) (now (constraint .entry))) ⌝ }
+{
+    let checked = pattern::check(kind, name, size);
+    if !checked.good {
+        return false;
+    }
+    if !expression::good(expression_kind, expression_name, expression_size) {
+        return false;
+    }
+    let kinds = checked.kinds;
+    given(checked.variables, &kinds, expression_size, constraint)
+}
+
+// The state after the heads of so many neighbours from the row a on, for the expression that starts at the row root. A caller
+// may go on from it with `letters::step`.
+pub fn after_heads(
+    label: &[u32],
+    size: &[u32],
+    name: &[u32; 64],
+    first: &[u64; 64],
+    null: &[bool; 64],
+    cont: &[u64; 64],
+    ends: &[bool; 64],
+    root: usize,
+    a: usize,
+    count: usize,
+) -> letters::State
+    requires { ⌜ HeadsPre (now label) (now size) root a count ⌝ }
+    ensures { λ r. ⌜ ((e : ℕ) (f : Forest) → TermsAt (now (label .entry)) (now (size .entry)) a e f → count ≤ terms f
+        → After (now (name .entry)) (now (first .entry)) (now (null .entry)) (now (cont .entry)) (now (ends .entry)) root (heads (takeT count f)) (r .next) (r .end)) ⌝ }
+{
+    let mut state = letters::begin(first, null, root);
+    let mut row = a;
+    let mut left = count;
+    while 0 < left {
+        state = letters::step(state.next, name, cont, ends, label[row]);
+        row = tree::next(size, row);
+        left -= 1;
+    }
+    state
+}
+
+// The state after the labels on the path from the row a down to the row b, that of b left out.
+pub fn after_path(
+    label: &[u32],
+    size: &[u32],
+    name: &[u32; 64],
+    first: &[u64; 64],
+    null: &[bool; 64],
+    cont: &[u64; 64],
+    ends: &[bool; 64],
+    root: usize,
+    a: usize,
+    b: usize,
+) -> letters::State
+    requires { ⌜ PathPre (now label) (now size) root a b ⌝ }
+    ensures { λ r. ⌜ ((c : Context) → ContextAt (now (label .entry)) (now (size .entry)) a b c
+        → After (now (name .entry)) (now (first .entry)) (now (null .entry)) (now (cont .entry)) (now (ends .entry)) root (path c) (r .next) (r .end)) ⌝ }
+{
+    let mut state = letters::begin(first, null, root);
+    let mut down = a;
+    while down != b {
+        state = letters::step(state.next, name, cont, ends, label[down]);
+        down = tree::child(size, down, b);
+    }
+    state
+}
+
+// Whether the flag forbids the value: the empty sequence, or the bare hole.
+fn forbidden(flag: u32, kind: u32, a: usize, b: usize) -> bool
+    ensures { λ r. ⌜ ForbiddenPost flag kind a b r ⌝ }
+{
+    if flag != 1 {
+        return false;
+    }
+    if kind == 2 {
+        return b == 0;
+    }
+    a == b
+}
+
+// Whether the value that the numbers a and b mean for a variable of this kind obeys the constraint that start and flag give it.
+pub fn obeys(
+    label: &[u32],
+    size: &[u32],
+    name: &[u32; 64],
+    first: &[u64; 64],
+    null: &[bool; 64],
+    cont: &[u64; 64],
+    ends: &[bool; 64],
+    start: u32,
+    flag: u32,
+    kind: u32,
+    a: usize,
+    b: usize,
+) -> bool
+    requires { ⌜ ObeysPre (now label) (now size) start flag kind a b ⌝ }
+    ensures { λ r. ⌜ ObeysPost (now (label .entry)) (now (size .entry)) (now (name .entry)) (now (first .entry)) (now (null .entry)) (now (cont .entry)) (now (ends .entry)) start flag kind a b r ⌝ }
+{
+    if start == 0 {
+        return true;
+    }
+    if forbidden(flag, kind, a, b) {
+        return false;
+    }
+    let above = start as usize;
+    let root = above - 1;
+    if kind == 2 {
+        let state = after_heads(label, size, name, first, null, cont, ends, root, a, b);
+        return state.end;
+    }
+    let state = after_path(label, size, name, first, null, cont, ends, root, a, b);
+    state.end
+}

@@ -1,0 +1,14 @@
+-- The dictionary's laws.
+pub mod Ranges
+pub mod Pieces
+pub mod Names
+pub mod Decided
+pub mod Compare
+pub mod Labels
+pub mod Buckets
+pub mod Chains
+pub mod Entries
+pub mod Insert
+pub mod Learning
+pub mod Labelling
+pub mod Parts

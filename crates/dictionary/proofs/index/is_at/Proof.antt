@@ -1,0 +1,63 @@
+-- `is_at` meets its contract: another length settles it; else the bytes, in the source where the spelling stands.
+use native.Mathlib.Omega.{arith}
+use Rattle.dictionary.proofs.Entries.{entry-ordered, entry-differs, name-inside, name-says, learnt-inside, learnt-says}
+use borrow.Author.Needs.{needs}
+use Rattle.dictionary.proofs.index.is_at.Statement.{statement}
+use Rattle.dictionary.proofs.index.is_at.Tie as tie
+
+mul-number : tie.Need-mul-number
+mul-number c = search needs
+
+add-number : tie.Need-add-number
+add-number c = search needs
+
+number-requires : tie.Need-number-requires
+number-requires c κs = search needs
+
+mul-number-2 : tie.Need-mul-number-2
+mul-number-2 c = search needs
+
+add-number-2 : tie.Need-add-number-2
+add-number-2 c = search needs
+
+number-requires-2 : tie.Need-number-requires-2
+number-requires-2 c κs = search needs
+
+sub-if1 : tie.Need-sub-if1
+sub-if1 c = let s = c .before .before .before .before .before in entry-ordered (s .pre .0 .1) (s .args .place) (s .pre .1) (c .before .number .ensures) (c .number2 .ensures)
+
+sub-if1-2 : tie.Need-sub-if1-2
+sub-if1-2 c = search needs
+
+returns : tie.Need-returns
+returns c = let s = c .before .before .before .before .before .before in λ known m. entry-differs m (s .args .place) (s .pre .1) (c .before .before .number .ensures) (c .before .number2 .ensures) (c .if1 .taken)
+
+same-requires : tie.Need-same-requires
+same-requires c κs = let s = c .before .before .before .before .before .before .before in (search needs, search needs, name-inside (s .pre .0 .1) (s .args .place) (s .pre .1) (c .before .before .before .number .ensures) (c .before .before .number2 .ensures) (omega arith) (c .before .if1 .left))
+
+returns-2 : tie.Need-returns-2
+returns-2 c = let s = c .before .before .before .before .before .before .before .before in λ known m. name-says m (s .args .place) (s .pre .1) (c .before .before .before .before .number .ensures) (c .before .before .before .number2 .ensures) (omega arith) (c .before .before .if1 .left) (c .same .result) (c .same .ensures)
+
+same-requires-2 : tie.Need-same-requires-2
+same-requires-2 c κs = let s = c .before .before .before .before .before .before .before in (search needs, search needs, learnt-inside (s .pre .0 .1) (s .args .place) (s .pre .1) (c .before .before .before .number .ensures) (c .before .before .number2 .ensures) (omega arith) (c .before .if1 .left))
+
+returns-3 : tie.Need-returns-3
+returns-3 c = let s = c .before .before .before .before .before .before .before .before in λ known m. learnt-says m (s .args .place) (s .pre .1) (c .before .before .before .before .number .ensures) (c .before .before .before .number2 .ensures) (omega arith) (c .before .before .if1 .left) (c .same2 .result) (c .same2 .ensures)
+
+pub is-at-spec : {M : Type 1} → statement M
+is-at-spec =
+    tie.close
+    (tie.spec
+    mul-number
+    add-number
+    number-requires
+    mul-number-2
+    add-number-2
+    number-requires-2
+    sub-if1
+    sub-if1-2
+    returns
+    same-requires
+    returns-2
+    same-requires-2
+    returns-3)

@@ -1,0 +1,32 @@
+-- 01, "From document to tree": "A spelling in the dictionary has its place there, from 0, as label; another gets K, K+1, .. by first appearance in preorder."
+use mathlib.Core.Bool.{Bool, true, false, cond, _&&_}
+use mathlib.Core.List.{List, [], _∷_, _++_}
+use Prim.Native.Nat.{ℕ, suc}
+use lib.Dec.{eqb, ltb}
+use lib.ListN.{length}
+
+abbrev pub sameBytes : List ℕ → List ℕ → Bool
+sameBytes [] [] = true
+sameBytes [] (b ∷ w) = false
+sameBytes (a ∷ v) [] = false
+sameBytes (a ∷ v) (b ∷ w) = eqb a b && sameBytes v w
+
+-- the place of the first spelling that is w, or the number of spellings
+abbrev pub placeOf : List (List ℕ) → List ℕ → ℕ
+placeOf [] w = 0
+placeOf (n ∷ ns) w = cond (sameBytes n w) 0 (suc (placeOf ns w))
+
+-- what is known after w: a spelling that is new is the last from then on
+abbrev pub learn : List (List ℕ) → List ℕ → List (List ℕ)
+learn known w = cond (ltb (placeOf known w) (length known)) known (known ++ (w ∷ []))
+
+-- what is known after all of these: the names of the dictionary, then each new spelling where it first appears
+abbrev pub knownAfter : List (List ℕ) → List (List ℕ) → List (List ℕ)
+knownAfter known [] = known
+knownAfter known (w ∷ ws) = knownAfter (learn known w) ws
+
+-- the labels of the rows whose spellings in preorder are given; at first the names are known.
+-- Elements and texts alike: a label depends on the spelling alone.
+abbrev pub labelsOf : List (List ℕ) → List (List ℕ) → List ℕ
+labelsOf names [] = []
+labelsOf names (w ∷ ws) = placeOf names w ∷ labelsOf (learn names w) ws

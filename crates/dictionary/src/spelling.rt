@@ -1,0 +1,113 @@
+// The spelling lookup: for a row of a tree, the part of the dictionary or of the document that spells it.
+ghost use mathlib.Core.Path.{_≡_};
+ghost use mathlib.Core.List.{List};
+ghost use Prim.Native.Nat.{ℕ, _<_};
+ghost use lib.ListN.{length};
+ghost use Rattle.dictionary.specs.Names.{GoodDictionary};
+ghost use Rattle.dictionary.specs.Spelling.{IsPart, partOfDictionary, partOfDocument, PartAnswered, SpellingAnswered};
+
+// `length` bytes from `start` of the dictionary (source 0) or of the document (source 1).
+pub struct Part {
+    pub source: u32,
+    pub start: u32,
+    pub length: u32,
+}
+
+// An empty part of the document.
+const EMPTY: Part = Part {
+    source: 1,
+    start: 0,
+    length: 0,
+};
+
+fn wide(x: u32) -> usize
+    ensures { λ r. ⌜ r ≡ x ⌝ }
+{
+    x as usize
+}
+
+// The name at a place, without its byte 10.
+fn name_part(dictionary: &[u8], place: usize) -> Part
+    requires { ⌜ ((names : List (List ℕ)) × GoodDictionary (now dictionary) names × (place < length names)) ⌝ }
+    ensures { λ r. ⌜ ((names : List (List ℕ)) → GoodDictionary (now (dictionary .entry)) names → IsPart (r .source) (r .start) (r .length) (partOfDictionary names place)) ⌝ }
+{
+    let mut start = 0;
+    let mut before = 0;
+    while before < place {
+        start = super::name_end(dictionary, start) + 1;
+        before += 1;
+    }
+    let end = super::name_end(dictionary, start);
+    let first = start as u32;
+    let count = (end - start) as u32;
+    Part {
+        source: 0,
+        start: first,
+        length: count,
+    }
+}
+
+fn document_part(document: &[u8], start: u32, length: u32) -> Part
+    ensures { λ r. ⌜ IsPart (r .source) (r .start) (r .length) (partOfDocument (now (document .entry)) start length) ⌝ }
+{
+    if document.len() < wide(start) {
+        return EMPTY;
+    }
+    if document.len() - wide(start) < wide(length) {
+        return EMPTY;
+    }
+    Part {
+        source: 1,
+        start: start,
+        length: length,
+    }
+}
+
+// Where the row's spelling stands. An empty part of the document is the one at its start.
+pub fn part_of(
+    dictionary: &[u8],
+    document: &[u8],
+    label: &[u32],
+    start: &[u32],
+    length: &[u32],
+    row: usize,
+) -> Part
+    ensures { λ r. ⌜ PartAnswered (now (dictionary .entry)) (now (document .entry)) (now (label .entry)) (now (start .entry)) (now (length .entry)) row (r .source) (r .start) (r .length) ⌝ }
+{
+    if label.len() <= row {
+        return EMPTY;
+    }
+    if start.len() <= row {
+        return EMPTY;
+    }
+    if length.len() <= row {
+        return EMPTY;
+    }
+    let place = wide(label[row]);
+    let checked = super::check(dictionary);
+    let names = checked.names;
+    if place < names {
+        return name_part(dictionary, place);
+    }
+    document_part(document, start[row], length[row])
+}
+
+// The row's spelling.
+pub fn spelling<'a>(
+    dictionary: &'a [u8],
+    document: &'a [u8],
+    label: &[u32],
+    start: &[u32],
+    length: &[u32],
+    row: usize,
+) -> &'a [u8]
+    ensures { λ r. ⌜ SpellingAnswered (now (dictionary .entry)) (now (document .entry)) (now (label .entry)) (now (start .entry)) (now (length .entry)) row (now r) ⌝ }
+{
+    let found = part_of(dictionary, document, label, start, length, row);
+    let at = wide(found.start);
+    let to = at + wide(found.length);
+    if found.source == 0 {
+        return &dictionary[at..to];
+    }
+    &document[at..to]
+}

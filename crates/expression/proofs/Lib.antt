@@ -1,0 +1,6 @@
+pub mod Ways
+pub mod Stands
+pub mod Placed
+pub mod Table
+pub mod Unique
+pub mod Places

@@ -1,0 +1,154 @@
+-- The filled tables decide the languages, one letter after another.
+use mathlib.Core.Path.{_≡_, sym, ap, _∙_, subst}
+use mathlib.Core.Bool.{Bool, true, _&&_}
+use mathlib.Core.List.{List, [], _∷_, _++_, append-assoc, append-nil}
+use Prim.Native.Nat.{ℕ, suc, _+_, _≤_, _<_, _^_}
+use native.Mathlib.Numerals.{add-one}
+use native.Mathlib.Nat.{zero-add}
+use native.Mathlib.Omega.{arith}
+use lib.ListN.{length, getD}
+use lib.Dec.{eqb}
+use lib.Bits.{bitOr}
+use borrow.Author.Tests.{eqb-true, eq-eqb}
+use Rattle.meaning.specs.Says.{Says}
+use Rattle.expression.specs.Expression.{Expression, symbol, empty, concatenation, choice, repetition}
+use Rattle.expression.specs.Language.{Language, Same, In}
+use Rattle.expression.specs.Rows.{rows}
+use Rattle.expression.specs.Good.{GoodTable}
+use Rattle.expression.specs.Starts.{StartsAt}
+use Rattle.expression.proofs.Placed.{Placed, placed-size}
+use Rattle.expression.proofs.Table.{name-length}
+use Rattle.expression.proofs.Places.{place-total, start-placed, start-within}
+use Rattle.letters.specs.Accepts.{Accepts, flagAt}
+use Rattle.letters.specs.State.{StateOf, TablesOf}
+use Rattle.letters.specs.Following.{gate, HeadRow, overSet, overEnd, loopSet, loopEnd, Filled, AllFilled, ContsOf}
+use Rattle.letters.proofs.Automaton.{Local, accepts-sound, accepts-complete}
+use Rattle.letters.proofs.OneLetter.{stepSet, stepEnd, step-sound, step-complete}
+use Rattle.letters.proofs.Filled.{filled-here, filled-at}
+use Rattle.expression.specs.Rule.{numberAt}
+
+-- ---- the tables meet the automaton's equations
+
+module _ {Letter : Type 0} (Reads : ℕ → Letter → Type 0) (kind name size label first cont : ℕ → ℕ) (null ends : ℕ → Bool) (n : ℕ)
+    (names : (i : ℕ) → i < n → label i ≡ name i) (heads : (i : ℕ) → i < n → HeadRow kind size first null i) where
+  abbrev Conts : Expression → ℕ → ℕ → Type 0
+  Conts e s k = Filled (overSet first null) (loopSet first null) cont e s n k
+
+  abbrev Ends : Expression → ℕ → Bool → Type 0
+  Ends e s f = Filled (overEnd first null) (loopEnd first null) ends e s n f
+
+  cont-is : (e : Expression) (s k : ℕ) → Conts e s k → cont s ≡ k
+  cont-is e s k h = filled-here (overSet first null) (loopSet first null) cont e s n k h
+
+  ends-is : (e : Expression) (s : ℕ) (f : Bool) → Ends e s f → ends s ≡ f
+  ends-is e s f h = filled-here (overEnd first null) (loopEnd first null) ends e s n f h
+
+  second : (a : Expression) (s : ℕ) → Placed kind name size a (suc s) → s + 1 + size (s + 1) ≡ suc s + rows a
+  second a s p = rw (add-one s, placed-size kind name size a (suc s) p)
+
+  local : (e : Expression) (s k : ℕ) (f : Bool) → Placed kind name size e s → s + rows e ≤ n → Conts e s k → Ends e s f
+      → Local Reads label first cont null ends e s
+  local (symbol x) s k f p l c d =
+      let h = rw (p .0) at (heads s (omega arith)) in
+      (names s (omega arith) ∙ p .1, h .0, h .1)
+  local empty s k f p l c d =
+      let h = rw (p .0) at (heads s (omega arith)) in
+      (h .0, h .1)
+  local (concatenation a b) s k f p l c d =
+      let r = suc s + rows a in
+      let h = rw (p .0, second a s (p .3), add-one s) at (heads s (omega arith)) in
+      let c′ = c .1 (omega arith) in
+      let d′ = d .1 (omega arith) in
+      let cr = cont-is b r k (c′ .1) in
+      let dr = ends-is b r f (d′ .1) in (
+        local a (suc s) _ _ (p .3) (omega arith) (c′ .0) (d′ .0),
+        local b r k f (p .4) (omega arith) (c′ .1) (d′ .1),
+        h .0,
+        h .1,
+        cont-is a (suc s) _ (c′ .0) ∙ ap (λ (x : ℕ). bitOr (first r) (gate (null r) x)) (sym cr),
+        ends-is a (suc s) _ (d′ .0) ∙ ap (λ (x : Bool). null r && x) (sym dr),
+        cr ∙ sym (c .0),
+        dr ∙ sym (d .0),
+      )
+  local (choice a b) s k f p l c d =
+      let r = suc s + rows a in
+      let h = rw (p .0, second a s (p .3), add-one s) at (heads s (omega arith)) in
+      let c′ = c .1 (omega arith) in
+      let d′ = d .1 (omega arith) in (
+        local a (suc s) k f (p .3) (omega arith) (c′ .0) (d′ .0),
+        local b r k f (p .4) (omega arith) (c′ .1) (d′ .1),
+        h .0,
+        h .1,
+        cont-is a (suc s) k (c′ .0) ∙ sym (c .0),
+        ends-is a (suc s) f (d′ .0) ∙ sym (d .0),
+        cont-is b r k (c′ .1) ∙ sym (c .0),
+        ends-is b r f (d′ .1) ∙ sym (d .0),
+      )
+  local (repetition a) s k f p l c d =
+      let h = rw (p .0, add-one s) at (heads s (omega arith)) in
+      let c′ = c .1 (omega arith) in
+      let d′ = d .1 (omega arith) in (
+        local a (suc s) _ f (p .3) (omega arith) c′ d′,
+        h .0,
+        h .1,
+        cont-is a (suc s) _ c′ ∙ ap (λ (x : ℕ). bitOr (first (suc s)) x) (sym (c .0)),
+        ends-is a (suc s) f d′ ∙ sym (d .0),
+      )
+
+  -- what is read from an expression's first row on is exactly its language
+  module _ (e : Expression) (s : ℕ) (p : Placed kind name size e s) (l : s + rows e ≤ n) (c : Conts e s 0) (d : Ends e s true) where
+    pub read-sound : (word : List Letter) → Accepts Reads label cont ends (first s) (null s) word → Language Reads e word
+    read-sound = accepts-sound Reads label first cont null ends e s (local e s 0 true p l c d) (cont-is e s 0 c) (ends-is e s true d)
+
+    pub read-complete : (word : List Letter) → Language Reads e word → Accepts Reads label cont ends (first s) (null s) word
+    read-complete = accepts-complete Reads label first cont null ends e s (local e s 0 true p l c d) (cont-is e s 0 c) (ends-is e s true d)
+
+-- ---- for callers
+
+-- the filled tables are tables of the expressions
+module _ {kind name size : List ℕ} {es : List Expression} (g : GoodTable kind name size es) (label first cont : List ℕ) (null ends : List Bool)
+    (names : (s : ℕ) → s < length name → numberAt label s ≡ numberAt name s)
+    (heads : (s : ℕ) → s < length kind → HeadRow (numberAt kind) (numberAt size) (numberAt first) (flagAt null) s)
+    (conts : ContsOf first null cont ends es (length kind)) where
+  at-start : {A : Type 0} (over loop : ℕ → A → A) (after : ℕ → A) (v : A) {e : Expression} {row : ℕ} → StartsAt es e row
+      → AllFilled over loop after es 0 (length kind) v → Filled over loop after e row (length kind) v
+  at-start over loop after v {e} s h =
+      subst (λ (j : ℕ). Filled over loop after e j (length kind) v) (zero-add _ ∙ sym (place-total s))
+      (filled-at over loop after (s .before) (s .behind) e 0 (length kind) v
+      (subst (λ (l : List Expression). AllFilled over loop after l 0 (length kind) v) (s .among) h))
+
+  pub tables : TablesOf es label first null cont ends
+  tables =
+      record {
+        starts = λ {e} {row} s.
+            let c = at-start (overSet (numberAt first) (flagAt null)) (loopSet (numberAt first) (flagAt null)) (numberAt cont) 0 s (conts .sets) in
+            let d = at-start (overEnd (numberAt first) (flagAt null)) (loopEnd (numberAt first) (flagAt null)) (flagAt ends) true s (conts .finals) in
+            let labels : (i : ℕ) → i < length kind → numberAt label i ≡ numberAt name i = λ i h. names i (omega (arith, name-length g)) in
+            record {
+              sound = read-sound Same (numberAt kind) (numberAt name) (numberAt size) (numberAt label) (numberAt first) (numberAt cont)
+                  (flagAt null) (flagAt ends) (length kind) labels heads e row (start-placed g s) (start-within g s) c d;
+              complete = read-complete Same (numberAt kind) (numberAt name) (numberAt size) (numberAt label) (numberAt first) (numberAt cont)
+                  (flagAt null) (flagAt ends) (length kind) labels heads e row (start-placed g s) (start-within g s) c d;
+            };
+      }
+
+module _ {name cont : List ℕ} {ends : List Bool} {e : Expression} {word : List ℕ} {next : ℕ} {end : Bool} (state : StateOf name cont ends e word next end) where
+  -- a state's end decides the language
+  pub decides : Says end (In e word)
+  decides = (λ q. rw append-nil at (state .sound [] q), λ i. state .complete [] (rw append-nil i))
+
+  -- one more letter
+  pub stepped : (label : ℕ) → next < 2 ^ 64
+      → StateOf name cont ends e (word ++ (label ∷ [])) (stepSet (λ p. eqb (numberAt name p) label) (numberAt cont) next)
+      (stepEnd (λ p. eqb (numberAt name p) label) (flagAt ends) next)
+  stepped label fits =
+      let says : (p : ℕ) → Says (eqb (numberAt name p) label) (numberAt name p ≡ label) = λ p. (eqb-true (getD name p 0) label, eq-eqb (numberAt name p) label) in
+      record {
+        sound = λ more a.
+            rw append-assoc
+            (state .sound (label ∷ more)
+            (step-sound Same (numberAt name) (numberAt cont) (flagAt ends) label (λ p. eqb (numberAt name p) label) says more next a end));
+        complete = λ more i.
+            step-complete Same (numberAt name) (numberAt cont) (flagAt ends) label (λ p. eqb (numberAt name p) label) says more next fits end
+            (state .complete (label ∷ more) (rw append-assoc at i));
+      }

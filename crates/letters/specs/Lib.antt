@@ -1,0 +1,3 @@
+pub mod Accepts
+pub mod State
+pub mod Following

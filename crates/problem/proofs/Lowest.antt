@@ -1,0 +1,82 @@
+-- Each return of the check: the rule that is broken, and that those before it hold.
+use Prim.Native.Nat.{ℕ}
+use mathlib.Core.Path.{_≡_, refl}
+use mathlib.Core.Logic.{_⊎_, inl, inr}
+use mathlib.Core.Bool.{Bool, true, false}
+use mathlib.Core.List.{List, []}
+use lib.ListN.{length}
+use native.Mathlib.Omega.{arith}
+use Rattle.meaning.specs.Says.{Says}
+use Rattle.meaning.specs.Forest.{Term}
+use Rattle.meaning.specs.Pattern.{Pattern, Kind}
+use Rattle.meaning.specs.Lowest.{accept}
+use Rattle.meaning.proofs.Answers.{said-no}
+use Rattle.tree.specs.Good.{Good as GoodRows}
+use Rattle.pattern.specs.Good.{GoodPattern}
+use Rattle.pattern.specs.Answer.{listed, Settled}
+use Rattle.pattern.specs.declared.Checked.{Checked}
+use Rattle.expression.specs.Expression.{Expression}
+use Rattle.expression.specs.Rows.{sizeRows}
+use Rattle.expression.specs.Good.{GoodTable}
+use Rattle.constraint.specs.Obeys.{Constraint}
+use Rattle.constraint.specs.Good.{GoodConstraints}
+use Rattle.constraint.specs.Whole.{Good as GoodConstraintList}
+use Rattle.pattern.specs.Known.{KindsAre}
+use Rattle.constraint.proofs.Meant.{list-judged}
+use Rattle.problem.specs.Problem.{Lists, Poses, Codes}
+use Rattle.problem.specs.Answer.{Answered}
+use Rattle.problem.specs.declared.Problem.{Problem}
+
+-- a refusal has nothing else
+abbrev Empty : Problem → ℕ → Type 0
+Empty r code = (r .code ≡ code) × (r .variables ≡ 0) × (r .kinds ≡ listed [])
+
+answered-no : {l : Lists} {r : Problem} (code : ℕ) → (code ≡ 0 → ⊥) → Empty r code → Codes l accept (r .code) → Answered l r
+answered-no code n e c =
+    record { code = c; found = λ z. absurd (n (omega (arith, e .0))); refused = λ z. (e .1, e .2) }
+
+-- what the checks below answer
+abbrev Tree : Lists → Bool → Type 0
+Tree l b = Says b (GoodRows (l .label) (l .size))
+
+abbrev Checks : Lists → Checked → Type 0
+Checks l checked = Settled (l .kind) (l .name) (l .patternSize) checked
+
+abbrev Table : Lists → Bool → Type 0
+Table l b = Says b ((es : List Expression) × GoodTable (l .expressionKind) (l .expressionName) (l .expressionSize) es)
+
+abbrev Given : Lists → Checked → Bool → Type 0
+Given l checked b =
+    (es : List Expression) (Q : List Kind) → KindsAre Q (checked .variables) (checked .kinds) → l .expressionSize ≡ sizeRows es
+    → Says b ((cs : List Constraint) × GoodConstraints es Q (l .constraint) cs)
+
+module _ (l : Lists) where
+  pub no-tree : {r : Problem} {t : Bool} → Tree l t → t ≡ false → Empty r 11 → Answered l r
+  no-tree s e o = answered-no {l = l} 11 (λ z. omega arith) o (inl (said-no s e, o .0))
+
+  module _ {t : Bool} (tree : Tree l t) (has-tree : t ≡ true) {checked : Checked} (checks : Checks l checked) where
+    pub no-pattern : {r : Problem} → checked .good ≡ false → Empty r 12 → Answered l r
+    no-pattern e o = answered-no {l = l} 12 (λ z. omega arith) o (inr (tree .0 has-tree, inl (said-no (checks .judged) e, o .0)))
+
+    module _ (has-pattern : checked .good ≡ true) {b : Bool} (table : Table l b) where
+      pub no-table : {r : Problem} → b ≡ false → Empty r 13 → Answered l r
+      no-table e o =
+          answered-no {l = l} 13 (λ z. omega arith) o (inr (tree .0 has-tree, inr (checks .judged .0 has-pattern, inl (said-no table e, o .0))))
+
+      module _ (has-table : b ≡ true) {c : Bool} (given : Given l checked c) where
+        judged : Says c (GoodConstraintList (l .kind) (l .name) (l .patternSize) (l .expressionKind) (l .expressionName) (l .expressionSize) (l .constraint))
+        judged = list-judged (l .kind) (l .name) (l .patternSize) (l .expressionKind) (l .expressionName) (l .expressionSize) (l .constraint) checks table has-pattern has-table given
+
+        pub no-constraints : {r : Problem} → c ≡ false → Empty r 14 → Answered l r
+        no-constraints e o =
+            answered-no {l = l} 14 (λ z. omega arith) o
+            (inr (tree .0 has-tree, inr (checks .judged .0 has-pattern, inr (table .0 has-table, inl (said-no judged e, o .0)))))
+
+        pub all-good : {r : Problem} → c ≡ true → r ≡ record { code = 0; variables = checked .variables; kinds = checked .kinds } → Answered l r
+        all-good e o =
+            rw o
+            (record {
+              code = inr (tree .0 has-tree, inr (checks .judged .0 has-pattern, inr (table .0 has-table, inr (judged .0 e, refl))));
+              found = λ z P Q g. checks .found P Q g;
+              refused = λ z. absurd (z refl);
+            })

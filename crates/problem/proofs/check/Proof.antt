@@ -1,0 +1,64 @@
+use borrow.Author.Needs.{needs}
+use borrow.Author.Tests.{not-true, not-false}
+use mathlib.Core.Path.{refl}
+use Rattle.constraint.proofs.Meant.{list-asked}
+use Rattle.problem.proofs.Lowest.{no-tree, no-pattern, no-table, no-constraints, all-good}
+use Rattle.problem.proofs.check.Statement.{statement}
+use Rattle.problem.proofs.check.Tie as tie
+
+good-requires : tie.Need-good-requires
+good-requires c κs = search needs
+
+refused-requires : tie.Need-refused-requires
+refused-requires c κs = search needs
+
+returns : tie.Need-returns
+returns c = no-tree _ (c .before .before .good2 .ensures) (not-true _ (c .before .if1 .taken)) (c .refused .ensures)
+
+check-requires : tie.Need-check-requires
+check-requires c κs = search needs
+
+refused-requires-2 : tie.Need-refused-requires-2
+refused-requires-2 c κs = search needs
+
+returns-2 : tie.Need-returns-2
+returns-2 c = no-pattern _ (c .before .before .before .before .before .good2 .ensures) (not-false _ (c .before .before .before .before .if1 .left)) (c .before .before .before .check .ensures) (not-true _ (c .before .if2 .taken)) (c .refused2 .ensures)
+
+good-requires-2 : tie.Need-good-requires-2
+good-requires-2 c κs = search needs
+
+refused-requires-3 : tie.Need-refused-requires-3
+refused-requires-3 c κs = search needs
+
+returns-3 : tie.Need-returns-3
+returns-3 c = no-table _ (c .before .before .before .before .before .before .before .good2 .ensures) (not-false _ (c .before .before .before .before .before .before .if1 .left)) (c .before .before .before .before .before .check .ensures) (not-false _ (c .before .before .before .if2 .left)) (c .before .before .good3 .ensures) (not-true _ (c .before .if3 .taken)) (c .refused3 .ensures)
+
+given-requires : tie.Need-given-requires
+given-requires c κs = list-asked (c .before .before .before .before .before .before .check .ensures) (c .before .before .before .good3 .ensures) (not-false _ (c .before .before .before .before .if2 .left)) (not-false _ (c .before .before .if3 .left))
+
+refused-requires-4 : tie.Need-refused-requires-4
+refused-requires-4 c κs = search needs
+
+returns-4 : tie.Need-returns-4
+returns-4 c = no-constraints _ (c .before .before .before .before .before .before .before .before .before .before .before .good2 .ensures) (not-false _ (c .before .before .before .before .before .before .before .before .before .before .if1 .left)) (c .before .before .before .before .before .before .before .before .before .check .ensures) (not-false _ (c .before .before .before .before .before .before .before .if2 .left)) (c .before .before .before .before .before .before .good3 .ensures) (not-false _ (c .before .before .before .before .before .if3 .left)) (c .before .before .given .ensures) (not-true _ (c .before .if4 .taken)) (c .refused4 .ensures)
+
+returns-5 : tie.Need-returns-5
+returns-5 c = all-good _ (c .before .before .before .before .before .before .before .before .before .before .good2 .ensures) (not-false _ (c .before .before .before .before .before .before .before .before .before .if1 .left)) (c .before .before .before .before .before .before .before .before .check .ensures) (not-false _ (c .before .before .before .before .before .before .if2 .left)) (c .before .before .before .before .before .good3 .ensures) (not-false _ (c .before .before .before .before .if3 .left)) (c .before .given .ensures) (not-false _ (c .if4 .left)) refl
+
+pub check-spec : {M : Type 1} → statement M
+check-spec =
+    tie.close
+    (tie.spec
+    good-requires
+    refused-requires
+    returns
+    check-requires
+    refused-requires-2
+    returns-2
+    good-requires-2
+    refused-requires-3
+    returns-3
+    given-requires
+    refused-requires-4
+    returns-4
+    returns-5)

@@ -1,0 +1,105 @@
+ghost use mathlib.Core.Path.{_≡_};
+ghost use Rattle.problem.specs.Problem.{Lists};
+ghost use Rattle.problem.specs.Answer.{Answered};
+ghost use Rattle.problem.specs.Judge.{JudgePre, JudgePost};
+ghost use Rattle.pattern.specs.Answer.{listed};
+ghost use mathlib.Core.List.{[]};
+
+// What the checks of a problem's lists come to: the code, and for code 0 the pattern's variables and their kinds.
+pub struct Problem {
+    pub code: u32,
+    pub variables: usize,
+    pub kinds: [u32; 16],
+}
+
+fn refused(code: u32) -> Problem
+    ensures { λ r. ⌜ (r .code ≡ code) × (r .variables ≡ 0) × (r .kinds ≡ listed []) ⌝ }
+{
+    Problem {
+        code,
+        variables: 0,
+        kinds: [0u32; 16],
+    }
+}
+
+// The lowest of the codes 11 to 14 that applies, or 0.
+pub fn check(
+    label: &[u32],
+    size: &[u32],
+    kind: &[u32],
+    name: &[u32],
+    pattern_size: &[u32],
+    expression_kind: &[u32],
+    expression_name: &[u32],
+    expression_size: &[u32],
+    constraint: &[u32],
+) -> Problem
+    ensures { λ r. ⌜ Answered (record {
+      label = now (label .entry);
+      size = now (size .entry);
+      kind = now (kind .entry);
+      name = now (name .entry);
+      patternSize = now («pattern_size» .entry);
+      expressionKind = now («expression_kind» .entry);
+      expressionName = now («expression_name» .entry);
+      expressionSize = now («expression_size» .entry);
+      constraint = now (constraint .entry);
+    }) r ⌝ }
+{
+    if !tree::good(label, size) {
+        return refused(11);
+    }
+    let checked = pattern::check(kind, name, pattern_size);
+    if !checked.good {
+        return refused(12);
+    }
+    if !expression::good(expression_kind, expression_name, expression_size) {
+        return refused(13);
+    }
+    let kinds = checked.kinds;
+    let variables = checked.variables;
+    if !constraint::given(variables, &kinds, expression_size, constraint) {
+        return refused(14);
+    }
+    Problem {
+        code: 0,
+        variables,
+        kinds,
+    }
+}
+
+// Whether the variable x may stand for the value that the numbers a and b mean: what its constraint says.
+pub fn judge(
+    label: &[u32],
+    size: &[u32],
+    name: &[u32; 64],
+    first: &[u64; 64],
+    null: &[bool; 64],
+    cont: &[u64; 64],
+    ends: &[bool; 64],
+    constraint: &[u32],
+    kinds: &[u32; 16],
+    x: usize,
+    a: usize,
+    b: usize,
+) -> bool
+    requires { ⌜ JudgePre (now label) (now size) (now name) (now first) (now null) (now cont) (now ends) (now constraint) (now kinds) x a b ⌝ }
+    ensures { λ r. ⌜ JudgePost (now (label .entry)) (now (size .entry)) (now (name .entry)) (now (first .entry)) (now (null .entry)) (now (cont .entry)) (now (ends .entry)) (now (constraint .entry)) (now (kinds .entry)) x a b r ⌝ }
+{
+    let start = constraint[x + x];
+    let flag = constraint[x + x + 1];
+    constraint::obeys(
+        label,
+        size,
+        name,
+        first,
+        null,
+        cont,
+        ends,
+        start,
+        flag,
+        kinds[x],
+        a,
+        b,
+    )
+}
