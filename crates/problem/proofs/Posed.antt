@@ -25,13 +25,13 @@ pub record Posed (l : Lists) : Type 0 where
   pub cs : List Constraint
   pub poses : Poses l T P Q es cs
 
--- accepted, and what comes after is not
-pub posed : (l : Lists) (c : ℕ) → c ≡ 0 → Codes l accept c → Posed l
-posed l c z (inl a) = absurd (omega (arith, a .1))
-posed l c z (inr (t, inl a)) = absurd (omega (arith, a .1))
-posed l c z (inr (t, inr (p, inl a))) = absurd (omega (arith, a .1))
-posed l c z (inr (t, inr (p, inr (e, inl a)))) = absurd (omega (arith, a .1))
-posed l c z (inr (t, inr (p, inr (e, inr (k, o))))) = record { T = t .0; P = k .0; Q = k .1; es = k .2; cs = k .3; poses = record { tree = t .1; rest = k .4 } }
+-- where none of these codes is given, the lists mean a problem
+pub posed : (l : Lists) (others : ℕ → Type 0) (c : ℕ) → c ≡ 0 → Codes l others c → Posed l
+posed l others c z (inl a) = absurd (omega (arith, a .1))
+posed l others c z (inr (t, inl a)) = absurd (omega (arith, a .1))
+posed l others c z (inr (t, inr (p, inl a))) = absurd (omega (arith, a .1))
+posed l others c z (inr (t, inr (p, inr (e, inl a)))) = absurd (omega (arith, a .1))
+posed l others c z (inr (t, inr (p, inr (e, inr (k, o))))) = record { T = t .0; P = k .0; Q = k .1; es = k .2; cs = k .3; poses = record { tree = t .1; rest = k .4 } }
 
 pub codes-low : (l : Lists) (others : ℕ → Type 0) (c : ℕ) → (c ≡ 0 → ⊥) → Codes l accept c → Codes l others c
 codes-low l others c z (inl a) = inl a

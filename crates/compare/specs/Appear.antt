@@ -1,0 +1,50 @@
+-- Not needed to believe the promise: what the comparisons of later appearances ask of the rows, and what they answer.
+use Prim.Native.Nat.{ℕ, _+_, _<_, _≤_}
+use mathlib.Core.Path.{_≡_}
+use mathlib.Core.Bool.{Bool}
+use mathlib.Core.List.{List}
+use mathlib.Core.Logic.{_≢_}
+use Rattle.meaning.specs.Says.{Says}
+use Rattle.meaning.specs.Forest.{Forest, Term, term, terms, Context, hole, node, plug, holeRow}
+use Rattle.meaning.specs.Read.{takeT}
+use Rattle.meaning.proofs.Laws.{dropT}
+use Rattle.tree.specs.Places.{TermsAt, TermAt, Level, ContextAt}
+use Rattle.compare.specs.declared.Found.{Found}
+use Rattle.compare.specs.declared.Found.the-variants as found
+
+-- alike: both stretches of rows are sequences; whether they are equal
+pub record AlikePre (L S : List ℕ) (a b t u : ℕ) : Type 0 where
+  pub here : (f : Forest) × TermsAt L S a b f
+  pub there : (g : Forest) × TermsAt L S t u g
+
+pub record AlikePost (L S : List ℕ) (a b t u : ℕ) (r : Bool) : Type 0 where
+  pub is : (f g : Forest) → TermsAt L S a b f → TermsAt L S t u g → Says r (f ≡ g)
+
+-- pass: the row where the first c of the terms end and the others start
+pub data Passes (L S : List ℕ) (t e c : ℕ) (us : Forest) : Found → Type 0 where
+  too-few : terms us < c → Passes L S t e c us found.Fail
+  passes : {u : ℕ} → c ≤ terms us → TermsAt L S t u (takeT c us) → TermsAt L S u e (dropT c us) → Passes L S t e c us (found.At u)
+
+pub record PassPost (S : List ℕ) (t e c : ℕ) (o : Found) : Type 0 where
+  pub is : (L : List ℕ) (us : Forest) → TermsAt L S t e us → Passes L S t e c us o
+
+-- the context c, compared whole with the term T at row t: nothing fills its hole so that it is T, or what stands at the row h does
+pub data Fits (L S : List ℕ) (t : ℕ) (c : Context) (T : Term) : Found → Type 0 where
+  misfit : ((U : Term) → plug c U ≢ T) → Fits L S t c T found.Fail
+  fitting : {h : ℕ} (U : Term) → plug c U ≡ T → h ≡ t + holeRow c → TermAt L S h (U .label) (U .args) → Fits L S t c T (found.At h)
+
+-- level: one level of a context, the child at row u left out
+pub record LevelPre (L S : List ℕ) (a u t : ℕ) : Type 0 where
+  pub here : (l : ℕ) × (left : Forest) × (right : Forest) × Level L S a u l left right
+  pub there : (m : ℕ) × (us : Forest) × TermAt L S t m us
+
+pub record LevelPost (L S : List ℕ) (a u t : ℕ) (o : Found) : Type 0 where
+  pub is : (l : ℕ) (left right : Forest) (m : ℕ) (us : Forest) → Level L S a u l left right → TermAt L S t m us → Fits L S t (node l left hole right) (term m us) o
+
+-- fits: a whole context
+pub record FitsPre (L S : List ℕ) (a b t : ℕ) : Type 0 where
+  pub here : (c : Context) × ContextAt L S a b c
+  pub there : (m : ℕ) × (us : Forest) × TermAt L S t m us
+
+pub record FitsPost (L S : List ℕ) (a b t : ℕ) (o : Found) : Type 0 where
+  pub is : (c : Context) (m : ℕ) (us : Forest) → ContextAt L S a b c → TermAt L S t m us → Fits L S t c (term m us) o

@@ -1,0 +1,83 @@
+// A variable's later appearance: what it stands for, at its place in the tree, against what stands where it appears again.
+ghost use lib.ListN.{length};
+ghost use Rattle.tree.specs.Helpers.{CountPre};
+ghost use Rattle.compare.specs.Appear.{AlikePre, AlikePost, PassPost, LevelPre, FitsPre, LevelPost, FitsPost};
+
+// A row that is looked for: where a sequence ends, or where a context has its hole.
+pub enum Found {
+    Fail,
+    At(usize),
+}
+
+// Whether the terms from row a up to b are those from row t up to u.
+pub fn alike(label: &[u32], size: &[u32], a: usize, b: usize, t: usize, u: usize) -> bool
+    requires { ⌜ AlikePre (now label) (now size) a b t u ⌝ }
+    ensures { λ r. ⌜ AlikePost (now (label .entry)) (now (size .entry)) a b t u r ⌝ }
+{
+    if b - a != u - t {
+        return false;
+    }
+    tree::same(label, size, a, t, u - t)
+}
+
+// The row after c of the terms from row t up to e, if there are so many.
+pub fn pass(size: &[u32], t: usize, e: usize, c: usize) -> Found
+    requires { ⌜ CountPre (now size) t e ⌝ }
+    ensures { λ r. ⌜ PassPost (now (size .entry)) t e c r ⌝ }
+{
+    let mut i = 0;
+    let mut u = t;
+    while i < c {
+        if u == e {
+            return Found::Fail;
+        }
+        u = tree::next(size, u);
+        i += 1;
+    }
+    Found::At(u)
+}
+
+// The term at row t against that at row a, all but a's child at row u: the row of what stands for the child.
+fn level(label: &[u32], size: &[u32], a: usize, u: usize, t: usize) -> Found
+    requires { ⌜ LevelPre (now label) (now size) a u t ⌝ }
+    ensures { λ r. ⌜ LevelPost (now (label .entry)) (now (size .entry)) a u t r ⌝ }
+{
+    if tree::at(label, a) != tree::at(label, t) {
+        return Found::Fail;
+    }
+    let left = u - a;
+    let v = t + left;
+    let e = tree::next(size, t);
+    if e <= v {
+        return Found::Fail;
+    }
+    if tree::same(label, size, a + 1, t + 1, left - 1) {
+        let right = tree::next(size, u);
+        let end = tree::next(size, a);
+        let there = tree::next(size, v);
+        if alike(label, size, right, end, there, e) {
+            return Found::At(v);
+        }
+    }
+    Found::Fail
+}
+
+// The context from row a to its hole at row b against the term at row t: the row of what fills the hole there.
+pub fn fits(label: &[u32], size: &[u32], a: usize, b: usize, t: usize) -> Found
+    requires { ⌜ FitsPre (now label) (now size) a b t ⌝ }
+    ensures { λ r. ⌜ FitsPost (now (label .entry)) (now (size .entry)) a b t r ⌝ }
+{
+    let mut from = a;
+    let mut row = t;
+    while from != b {
+        let u = tree::child(size, from, b);
+        match level(label, size, from, u, row) {
+            Found::Fail => return Found::Fail,
+            Found::At(v) => {
+                from = u;
+                row = v;
+            }
+        }
+    }
+    Found::At(row)
+}

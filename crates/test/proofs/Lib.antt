@@ -1,0 +1,5 @@
+pub mod Same
+pub mod Obeying
+pub mod Refound
+pub mod Whole
+pub mod Unique

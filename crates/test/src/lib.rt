@@ -1,0 +1,208 @@
+ghost use mathlib.Core.Path.{_≡_};
+ghost use mathlib.Core.List.{List};
+ghost use Prim.Native.Nat.{_≤_};
+ghost use lib.ListN.{length};
+ghost use Rattle.meaning.specs.Says.{Says};
+ghost use Rattle.test.specs.Tested.{Settled};
+ghost use Rattle.test.specs.Inside.{Copied, WalkablePre, PlacedPost, ConstrainedPre, ObeyedPost, AllPre, AllPost};
+
+// What the test of one record answers.
+pub enum Tested {
+    Refused(u32),
+    Yes,
+    No,
+}
+
+// The list in front of zeros, where the walk has room for its own numbers.
+fn copy(list: &[u32]) -> [u32; 32]
+    requires { ⌜ length (now list) ≤ 32 ⌝ }
+    ensures { λ r. ⌜ Copied (now (list .entry)) r ⌝ }
+{
+    let mut found = [0u32; 32];
+    let mut i = 0;
+    while i < list.len() {
+        found[i] = list[i];
+        i += 1;
+    }
+    found
+}
+
+// Whether the first numbers of found are those of the list.
+fn equal(found: &[u32; 32], list: &[u32]) -> bool
+    requires { ⌜ (length (now found) ≡ 32) × (length (now list) ≤ 32) ⌝ }
+    ensures { λ r. ⌜ Says r (Copied (now (list .entry)) (now (found .entry))) ⌝ }
+{
+    let mut i = 0;
+    while i < list.len() {
+        if found[i] != list[i] {
+            return false;
+        }
+        i += 1;
+    }
+    true
+}
+
+// Whether the record is that of a substitution that turns the pattern into the tree: the walk with its choices finds it again.
+fn placed(
+    label: &[u32],
+    size: &[u32],
+    kind: &[u32],
+    name: &[u32],
+    pattern_size: &[u32],
+    variables: usize,
+    record: &[u32],
+) -> bool
+    requires { ⌜ WalkablePre (now label) (now size) (now kind) (now name) (now «pattern_size») variables (now «record») ⌝ }
+    ensures { λ r. ⌜ PlacedPost (now (label .entry)) (now (size .entry)) (now (kind .entry)) (now (name .entry)) (now («pattern_size» .entry)) (now («record» .entry)) r ⌝ }
+{
+    let mut packed = [0u32; 768];
+    walk::pack(kind, name, pattern_size, &mut packed);
+    let mut found = copy(record);
+    match walk::walk(label, size, &packed, &mut found, variables) {
+        walk::Out::Ok(_) => equal(&found, record),
+        walk::Out::Need(_, _, _, _) => false,
+        walk::Out::Fail => false,
+    }
+}
+
+// Whether every variable's numbers obey its constraint, with the tables of the expressions.
+fn all_obey(
+    label: &[u32],
+    size: &[u32],
+    name: &[u32; 64],
+    first: &[u64; 64],
+    null: &[bool; 64],
+    cont: &[u64; 64],
+    ends: &[bool; 64],
+    constraint: &[u32],
+    kinds: &[u32; 16],
+    variables: usize,
+    record: &[u32],
+) -> bool
+    requires { ⌜ AllPre (now label) (now size) (now name) (now first) (now null) (now cont) (now ends) (now constraint) (now kinds) variables (now «record») ⌝ }
+    ensures { λ r. ⌜ AllPost (now (label .entry)) (now (size .entry)) (now (name .entry)) (now (first .entry)) (now (null .entry)) (now (cont .entry)) (now (ends .entry)) (now (constraint .entry)) (now (kinds .entry)) variables (now («record» .entry)) r ⌝ }
+{
+    let mut x = 0;
+    while x < variables {
+        let a = tree::at(record, x + x);
+        let b = tree::at(record, x + x + 1);
+        if !problem::judge(
+            label,
+            size,
+            name,
+            first,
+            null,
+            cont,
+            ends,
+            constraint,
+            kinds,
+            x,
+            a,
+            b,
+        ) {
+            return false;
+        }
+        x += 1;
+    }
+    true
+}
+
+// Whether every variable's numbers obey its constraint.
+fn obeyed(
+    label: &[u32],
+    size: &[u32],
+    expression_kind: &[u32],
+    expression_name: &[u32],
+    expression_size: &[u32],
+    constraint: &[u32],
+    kinds: &[u32; 16],
+    variables: usize,
+    record: &[u32],
+) -> bool
+    requires { ⌜ ConstrainedPre (now label) (now size) (now «expression_kind») (now «expression_name») (now «expression_size») (now constraint) (now kinds) variables (now «record») ⌝ }
+    ensures { λ r. ⌜ ObeyedPost (now (label .entry)) (now (size .entry)) (now («expression_kind» .entry)) (now («expression_name» .entry)) (now («expression_size» .entry)) (now (constraint .entry)) (now (kinds .entry)) (now («record» .entry)) r ⌝ }
+{
+    let tables = letters::tables_of(expression_kind, expression_name, expression_size);
+    let name = tables.name;
+    let first = tables.first;
+    let null = tables.null;
+    let cont = tables.cont;
+    let ends = tables.ends;
+    all_obey(
+        label,
+        size,
+        &name,
+        &first,
+        &null,
+        &cont,
+        &ends,
+        constraint,
+        kinds,
+        variables,
+        record,
+    )
+}
+
+// Whether the record is that of a matcher.
+pub fn test(
+    label: &[u32],
+    size: &[u32],
+    kind: &[u32],
+    name: &[u32],
+    pattern_size: &[u32],
+    expression_kind: &[u32],
+    expression_name: &[u32],
+    expression_size: &[u32],
+    constraint: &[u32],
+    record: &[u32],
+) -> Tested
+    ensures { λ r. ⌜ Settled (record {
+      label = now (label .entry);
+      size = now (size .entry);
+      kind = now (kind .entry);
+      name = now (name .entry);
+      patternSize = now («pattern_size» .entry);
+      expressionKind = now («expression_kind» .entry);
+      expressionName = now («expression_name» .entry);
+      expressionSize = now («expression_size» .entry);
+      constraint = now (constraint .entry);
+    }) (now («record» .entry)) r ⌝ }
+{
+    let p = problem::check(
+        label,
+        size,
+        kind,
+        name,
+        pattern_size,
+        expression_kind,
+        expression_name,
+        expression_size,
+        constraint,
+    );
+    let code = p.code;
+    if code != 0 {
+        return Tested::Refused(code);
+    }
+    let kinds = p.kinds;
+    let variables = p.variables;
+    if !record::fits(size, &kinds, variables, record) {
+        return Tested::Refused(15);
+    }
+    if !placed(label, size, kind, name, pattern_size, variables, record) {
+        return Tested::No;
+    }
+    if obeyed(
+        label,
+        size,
+        expression_kind,
+        expression_name,
+        expression_size,
+        constraint,
+        &kinds,
+        variables,
+        record,
+    ) {
+        return Tested::Yes;
+    }
+    Tested::No
+}

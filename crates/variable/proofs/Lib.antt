@@ -1,0 +1,8 @@
+pub mod Lists
+pub mod States
+pub mod Choices
+pub mod Singles
+pub mod Sequences
+pub mod Contexts
+
+-- t

@@ -1,0 +1,7 @@
+pub mod Packs
+pub mod Views
+pub mod Terms
+pub mod Arguments
+pub mod Roots
+pub mod Given
+pub mod Answered
