@@ -4,5 +4,3 @@ pub mod Choices
 pub mod Singles
 pub mod Sequences
 pub mod Contexts
-
--- t

@@ -22,7 +22,7 @@ use Rattle.variable.specs.declared.Bound.the-variants as bound
 use Rattle.variable.specs.declared.Step.{Step}
 use Rattle.variable.specs.declared.Step.the-variants as step
 
--- the answer at a variable without choices, with the record R, is the walk's; where it goes on, m variables are bound
+-- the answer at a symbol or a variable without choices, with the record R, is the walk's; where it goes on, m variables are bound
 pub data Meets (L S R : List ℕ) (Q : List Kind) (limit m : ℕ) : Bound → Res → Type 0 where
   meets-fail : Meets L S R Q limit m bound.Fail fail
   meets-ok : {B : List Entry} {cs : List ℕ} {k : ℕ} → k ≡ m → State L S R Q limit k B cs → Meets L S R Q limit m (bound.Ok k) (ok B cs)
