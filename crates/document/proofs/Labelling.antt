@@ -1,0 +1,118 @@
+-- Labels, row by row.
+use mathlib.Core.Path.{_≡_, refl, sym, ap, _∙_}
+use mathlib.Core.Bool.{Bool, true, false, cond}
+use mathlib.Core.List.{List, [], _∷_, _++_}
+use Prim.Native.Nat.{ℕ, zero, suc, _+_, _-_, _≤_, _<_}
+use native.Mathlib.Omega.{arith}
+use native.Mathlib.Numerals.{add-one}
+use lib.Dec.{ltb}
+use lib.ListN.{length, getD, set, take, length-append}
+use lib.Seq.{take-suc}
+use Rattle.rows.specs.Filled.{Filled}
+use Rattle.rows.proofs.Upto.{Upto, upto-more, upto-all}
+use Rattle.dictionary.specs.Scan.{range}
+use Rattle.dictionary.specs.Labels.{placeOf, learn, knownAfter, labelsOf}
+use Rattle.dictionary.specs.Index.{Indexed, MayLabel, Labelled}
+use Rattle.dictionary.proofs.Labels.{place-le, known-next, length-labels}
+use Rattle.document.specs.Labelling.{MayLabelRows}
+
+-- a row's label: the place of its spelling among those known before it
+label-at : (ns ws : List (List ℕ)) (r : ℕ) → r < length ws → getD (labelsOf ns ws) r 0 ≡ placeOf (knownAfter ns (take r ws)) (getD ws r [])
+label-at ns [] r h = absurd (omega arith)
+label-at ns (w ∷ ws) zero h = refl
+label-at ns (w ∷ ws) (suc r) h = label-at (learn ns w) ws r (omega arith)
+
+known-more : (ns ws : List (List ℕ)) (r : ℕ) → r < length ws → knownAfter ns (take (r + 1) ws) ≡ learn (knownAfter ns (take r ws)) (getD ws r [])
+known-more ns ws r h = rw (add-one r, take-suc ws r [] h) (known-next ns (take r ws) (getD ws r []))
+
+learn-count : (ns : List (List ℕ)) (v : List ℕ) → length (learn ns v) ≡ cond (ltb (placeOf ns v) (length ns)) (length ns) (length ns + 1)
+learn-count ns v = go (ltb (placeOf ns v) (length ns))
+  where
+    go : (t : Bool) → length (cond t ns (ns ++ (v ∷ []))) ≡ cond t (length ns) (length ns + 1)
+    go true = refl
+    go false = length-append ns (v ∷ [])
+
+-- THE LOOP'S INVARIANT
+pub record LabelledTo (d w : List ℕ) (names : ℕ) (index₀ label₀ index label : List ℕ) (known ws : List (List ℕ)) (rows count row : ℕ) : Type 0 where
+  pub indexed : Indexed d w names index (knownAfter known (take row ws))
+  pub kept : length index ≡ length index₀
+  pub counted : length (knownAfter known (take row ws)) ≡ count
+  pub low : names ≤ count
+  pub high : count ≤ names + row
+  pub within : row ≤ rows
+  pub labelled : Upto (labelsOf known ws) label₀ row label
+
+module _ {d w : List ℕ} {names : ℕ} {index₀ label₀ start width : List ℕ} {rows : ℕ} {known ws : List (List ℕ)}
+    (m : MayLabelRows d w names index₀ label₀ start width rows known ws) where
+  pub labels-begin : LabelledTo d w names index₀ label₀ index₀ label₀ known ws rows names 0
+  labels-begin = record {
+    indexed = m .indexed;
+    kept = refl;
+    counted = m .counted;
+    low = omega arith;
+    high = omega arith;
+    within = omega arith;
+    labelled = record { is = refl; long = refl };
+  }
+
+  module _ {index label : List ℕ} {count row : ℕ} (k : LabelledTo d w names index₀ label₀ index label known ws rows count row) where
+    pub labels-end : rows ≤ row → Filled (labelsOf known ws) label₀ label
+    labels-end h = upto-all (k .labelled) (omega (arith, k .within, m .all, length-labels known ws))
+
+    module _ (here : row < rows) {from to : ℕ} (is-from : from ≡ getD start row 0) (is-to : to ≡ from + getD width row 0) where
+      to-is : to ≡ getD start row 0 + getD width row 0
+      to-is = is-to ∙ ap (λ (n : ℕ). n + getD width row 0) is-from
+
+      pub to-short : to ≤ 32768
+      to-short = omega (arith, to-is, m .spells row here .inside, m .short)
+
+      pub from-short : getD start row 0 + getD width row 0 ≤ 32768
+      from-short = omega (arith, m .spells row here .inside, m .short)
+
+      pub may-label : MayLabel d w names index count from to (knownAfter known (take row ws))
+      may-label = record {
+        indexed = k .indexed;
+        counted = k .counted;
+        named = k .low;
+        room = omega (arith, k .high, k .kept, m .few-names, m .few-rows, m .large);
+        countable = omega (arith, k .high, m .few-names, m .few-rows);
+        ordered = omega (arith, is-to);
+        inside = omega (arith, to-is, m .spells row here .inside);
+        short = omega (arith, to-short);
+      }
+
+      spelling : range w from to ≡ getD ws row []
+      spelling = rw (to-is, is-from) (m .spells row here .is)
+
+      module _ {index' : List ℕ} {found : ℕ} (done : Labelled d w names index index' (knownAfter known (take row ws)) (range w from to) found) where
+        place : found ≡ placeOf (knownAfter known (take row ws)) (getD ws row [])
+        place = done .placed ∙ ap (placeOf (knownAfter known (take row ws))) spelling
+
+        pub found-few : found ≤ count
+        found-few = omega (arith, place, place-le (knownAfter known (take row ws)) (getD ws row []), k .counted)
+
+        pub count-few : count ≤ 3071
+        count-few = omega (arith, k .high, m .few-names, m .few-rows)
+
+        pub label-room : row < length label
+        label-room = omega (arith, k .labelled .long, m .room-label)
+
+        in-ws : row < length ws
+        in-ws = omega (arith, m .all)
+
+        pub labels-next : {count' : ℕ} → count' ≡ cond (ltb found count) count (count + 1) →
+            LabelledTo d w names index₀ label₀ index' (set label row found) known ws rows count' (row + 1)
+        labels-next {count'} e = record {
+          indexed = rw (known-more known ws row in-ws) (rw spelling at (done .indexed));
+          kept = done .kept ∙ k .kept;
+          counted = ap length (known-more known ws row in-ws) ∙ learn-count (knownAfter known (take row ws)) (getD ws row []) ∙ rw (← place, k .counted) (sym e);
+          low = bounds (ltb found count) e .0;
+          high = bounds (ltb found count) e .1;
+          within = omega arith;
+          labelled = upto-more (k .labelled) (omega (arith, length-labels known ws, m .all, m .room-label)) (omega (arith, length-labels known ws, in-ws))
+              (label-at known ws row in-ws ∙ sym place) refl;
+        }
+          where
+            bounds : (t : Bool) → count' ≡ cond t count (count + 1) → (names ≤ count') × (count' ≤ names + (row + 1))
+            bounds true h = (omega (arith, h, k .low), omega (arith, h, k .high))
+            bounds false h = (omega (arith, h, k .low), omega (arith, h, k .high))

@@ -1,0 +1,4 @@
+pub mod Labelling
+pub mod Filling
+pub mod Answers
+pub mod Promises

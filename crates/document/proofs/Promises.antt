@@ -1,0 +1,184 @@
+-- What is promised of `read` and `check` beside their contracts.
+use mathlib.Core.Path.{_≡_, refl, sym, ap, _∙_}
+use mathlib.Core.List.{List, []}
+use Prim.Native.Nat.{ℕ, _+_, _-_, _*_, _≤_, _<_}
+use native.Mathlib.Omega.{arith}
+use lib.ListN.{length, getD, take, drop, length-map, length-append}
+use lib.Seq.{take-at}
+use Rattle.meaning.specs.Forest.{Forest, none, some, rows, Term, _◂_}
+use Rattle.tree.specs.Good.{Good}
+use Rattle.tree.specs.Rows.{labels, sizes, depth}
+use Rattle.grammar.specs.Grammar.{Bytes, _⊲_, Content, Document}
+use Rattle.grammar.specs.Tree.{shape}
+use Rattle.grammar.specs.Rows.{Row, rowsOf}
+use Rattle.grammar.proofs.Unique.{one-reading}
+use Rattle.grammar.proofs.Trees.{one-term, depth-is, shape-depth}
+use Rattle.judge.specs.Verdict.{Verdict}
+use Rattle.judge.proofs.OneVerdict.{one-verdict}
+use Rattle.dictionary.specs.Scan.{range}
+use Rattle.dictionary.specs.Names.{GoodDictionary}
+use Rattle.dictionary.specs.Labels.{labelsOf}
+use Rattle.dictionary.proofs.Names.{good-unique}
+use Rattle.dictionary.proofs.Labels.{length-labels, label-below}
+use Rattle.document.specs.Labels.{spellingsOf, labelOf, treeOf}
+use Rattle.document.specs.Reading.{Unchanged, Written, Read, badDictionary, badDocument, noRoom, filled}
+use Rattle.document.specs.Checked.{bad, judged}
+use Rattle.document.specs.Promises.{Same, OneAnswer, OneCheck, CheckIsRead, TreeIsGood, Spelt, SpellingsInside}
+use Rattle.document.proofs.Filling.{tree-labels, rows-spell}
+use Rattle.document.proofs.Answers.{whole}
+
+-- ONE ANSWER
+module _ {label size start width label₁ size₁ start₁ width₁ label₂ size₂ start₂ width₂ : List ℕ} {c₁ p₁ n₁ c₂ p₂ n₂ : ℕ} where
+  -- where nothing is written
+  same-kept : (c₁ ≡ c₂) × (p₁ ≡ p₂) × (n₁ ≡ n₂) → Unchanged label size start width label₁ size₁ start₁ width₁ →
+      Unchanged label size start width label₂ size₂ start₂ width₂ → Same c₁ p₁ n₁ label₁ size₁ start₁ width₁ c₂ p₂ n₂ label₂ size₂ start₂ width₂
+  same-kept e u v = record {
+    code-same = e .0;
+    place-same = e .1;
+    rows-same = e .2;
+    label-same = u .label-kept ∙ sym (v .label-kept);
+    size-same = u .size-kept ∙ sym (v .size-kept);
+    start-same = u .start-kept ∙ sym (v .start-kept);
+    width-same = u .width-kept ∙ sym (v .width-kept);
+  }
+
+  same-written : {names : List (List ℕ)} {f : Content} → (c₁ ≡ c₂) × (p₁ ≡ p₂) × (n₁ ≡ n₂) →
+      Written names f label size start width label₁ size₁ start₁ width₁ → Written names f label size start width label₂ size₂ start₂ width₂ →
+      Same c₁ p₁ n₁ label₁ size₁ start₁ width₁ c₂ p₂ n₂ label₂ size₂ start₂ width₂
+  same-written e u v = record {
+    code-same = e .0;
+    place-same = e .1;
+    rows-same = e .2;
+    label-same = u .label-is ∙ sym (v .label-is);
+    size-same = u .size-is ∙ sym (v .size-is);
+    start-same = u .start-is ∙ sym (v .start-is);
+    width-same = u .width-is ∙ sym (v .width-is);
+  }
+
+  same-both : {d w : List ℕ} {names names' : List (List ℕ)} {f f' : Content} {t t' : Bytes} → GoodDictionary d names → GoodDictionary d names' →
+      Document w f t → Document w f' t' → (c₁ ≡ c₂) × (p₁ ≡ p₂) × (n₁ ≡ n₂) → Written names f label size start width label₁ size₁ start₁ width₁ →
+      Written names' f' label size start width label₂ size₂ start₂ width₂ → Same c₁ p₁ n₁ label₁ size₁ start₁ width₁ c₂ p₂ n₂ label₂ size₂ start₂ width₂
+  same-both {d} {w} {names} {names'} {f} {f'} g g' y y' e u v =
+      let a : names' ≡ names = good-unique g' g in
+      let b : f' ≡ f = one-reading y' y .0 in
+      same-written e u (rw (a, b) at v)
+
+pub one-answer : OneAnswer
+one-answer d w _ _ _ _ _ _ _ _ _ _ _ _ _ _ _ _ _ _ (badDictionary h u) (badDictionary k v) = same-kept (refl, refl, refl) u v
+one-answer d w _ _ _ _ _ _ _ _ _ _ _ _ _ _ _ _ _ _ (badDictionary h u) (badDocument g x z v) = absurd (h _ g)
+one-answer d w _ _ _ _ _ _ _ _ _ _ _ _ _ _ _ _ _ _ (badDictionary h u) (noRoom g x z v) = absurd (h _ g)
+one-answer d w _ _ _ _ _ _ _ _ _ _ _ _ _ _ _ _ _ _ (badDictionary h u) (filled g x z y v) = absurd (h _ g)
+one-answer d w _ _ _ _ _ _ _ _ _ _ _ _ _ _ _ _ _ _ (badDocument g x z u) (badDictionary h v) = absurd (h _ g)
+one-answer d w _ _ _ _ _ _ _ _ _ _ _ _ _ _ _ _ _ _ (badDocument g x z u) (badDocument g' x' z' v) = same-kept (one-verdict x x') u v
+one-answer d w _ _ _ _ _ _ _ _ _ _ _ _ _ _ _ _ _ _ (badDocument g x z u) (noRoom g' x' z' v) = absurd (z (one-verdict x x' .0))
+one-answer d w _ _ _ _ _ _ _ _ _ _ _ _ _ _ _ _ _ _ (badDocument g x z u) (filled g' x' z' y v) = absurd (z (one-verdict x x' .0))
+one-answer d w _ _ _ _ _ _ _ _ _ _ _ _ _ _ _ _ _ _ (noRoom g x z u) (badDictionary h v) = absurd (h _ g)
+one-answer d w _ _ _ _ _ _ _ _ _ _ _ _ _ _ _ _ _ _ (noRoom g x z u) (badDocument g' x' z' v) = absurd (z' (one-verdict x' x .0))
+one-answer d w _ _ _ _ _ _ _ _ _ _ _ _ _ _ _ _ _ _ (noRoom g x z u) (noRoom g' x' z' v) = same-kept (refl, refl, refl) u v
+one-answer d w _ _ _ _ _ _ _ _ _ _ _ _ _ _ _ _ _ _ (noRoom g x z u) (filled g' x' z' y v) = absurd (omega (arith, one-verdict x x' .2))
+one-answer d w _ _ _ _ _ _ _ _ _ _ _ _ _ _ _ _ _ _ (filled g x z y u) (badDictionary h v) = absurd (h _ g)
+one-answer d w _ _ _ _ _ _ _ _ _ _ _ _ _ _ _ _ _ _ (filled g x z y u) (badDocument g' x' z' v) = absurd (z' (one-verdict x' x .0))
+one-answer d w _ _ _ _ _ _ _ _ _ _ _ _ _ _ _ _ _ _ (filled g x z y u) (noRoom g' x' z' v) = absurd (omega (arith, one-verdict x x' .2))
+one-answer d w _ _ _ _ _ _ _ _ _ _ _ _ _ _ _ _ _ _ (filled g x z y u) (filled g' x' z' y' v) = same-both g g' y y' (refl, refl, one-verdict x x' .2) u v
+
+pub one-check : OneCheck
+one-check d w r s (bad h) (bad k) = refl
+one-check d w r s (bad h) (judged g v) = absurd (h _ g)
+one-check d w r s (judged g v) (bad h) = absurd (h _ g)
+one-check d w r s (judged g v) (judged g' v') = rw (one-verdict v v' .0, one-verdict v v' .1, one-verdict v v' .2) refl
+
+-- THE CHECK IS THE READER
+pub check-is-read : CheckIsRead
+check-is-read d w label size start width label' size' start' width' c p n r room (badDictionary h u) k = one-check d w r (1 * 4294967296) k (bad h)
+check-is-read d w label size start width label' size' start' width' c p n r room (badDocument g v z u) k = one-check d w r (c * 4294967296 + (p + n)) k (judged g v)
+check-is-read d w label size start width label' size' start' width' c p n r room (noRoom g v z u) k = absurd (omega (arith, whole v refl .few))
+check-is-read d w label size start width label' size' start' width' c p n r room (filled g v z y u) k = one-check d w r (0 * 4294967296 + (0 + n)) k (judged g v)
+
+-- A TREE THAT WAS READ
+length-sizes : (F : Forest) → length (sizes F) ≡ rows F
+unfolding sizes rows
+length-sizes none = refl
+length-sizes (some l us r) = omega (arith, length-append (sizes us) (sizes r), length-sizes us, length-sizes r)
+
+length-labels-of : (F : Forest) → length (labels F) ≡ rows F
+unfolding labels rows
+length-labels-of none = refl
+length-labels-of (some l us r) = omega (arith, length-append (labels us) (labels r), length-labels-of us, length-labels-of r)
+
+module _ {d w label size start width label' size' start' width' : List ℕ} {names : List (List ℕ)} {f : Content} {t : Bytes} {n : ℕ}
+    (g : GoodDictionary d names) (v : Verdict w 0 0 n) (y : Document w f t) (u : Written names f label size start width label' size' start' width') where
+  same-f : whole v refl .f ≡ f
+  same-f = one-reading (whole v refl .document) y .0
+
+  rows-n : length (rowsOf f) ≡ n
+  rows-n = rw same-f at (whole v refl .rows-are)
+
+  spellings-n : length (spellingsOf f) ≡ n
+  spellings-n = length-map (rowsOf f) (λ (x : Row). x .spelling ⊲ []) ∙ rows-n
+
+  labels-n : length (labelsOf names (spellingsOf f)) ≡ n
+  labels-n = length-labels names (spellingsOf f) ∙ spellings-n
+
+  first-labels : take n label' ≡ labels (treeOf names f)
+  first-labels = ap (take n) (u .label-is) ∙ take-at (labels (treeOf names f)) _ n (ap length (tree-labels names f) ∙ labels-n)
+
+  first-sizes : take n size' ≡ sizes (treeOf names f)
+  first-sizes = ap (take n) (u .size-is) ∙ take-at (sizes (treeOf names f)) _ n (length-sizes (treeOf names f) ∙ sym (length-labels-of (treeOf names f)) ∙ ap length (tree-labels names f) ∙ labels-n)
+
+  deep : depth (treeOf names f) ≤ 64
+  unfolding depth
+  deep =
+      let e : depth (shape f) ≤ 64 = rw same-f at (whole v refl .shallow) in
+      omega (arith, e, shape-depth f, depth-is (labelOf names f) f none)
+
+  pub good-tree : Good (take n label') (take n size')
+  good-tree =
+      let o : (T : Term) × (treeOf names f ≡ (T ◂ none)) = one-term (labelOf names f) y in (
+        o .0,
+        record {
+          labelled = first-labels ∙ ap labels (o .1);
+          sized = first-sizes ∙ ap sizes (o .1);
+          few = omega (arith, ap length first-labels, ap length (tree-labels names f), labels-n, whole v refl .few);
+          shallow = rw (o .1) at deep;
+          small = record { each = λ i h. small i h };
+        },
+      )
+    where
+      small : (i : ℕ) → i < length (take n label') → getD (take n label') i 0 < 65536
+      small i h =
+          let e : take n label' ≡ labelsOf names (spellingsOf f) = first-labels ∙ tree-labels names f in
+          let p : i < length (spellingsOf f) = omega (arith, ap length e, labels-n, spellings-n) in
+          rw e (omega (arith, label-below names (spellingsOf f) i p, g .few, spellings-n, whole v refl .few))
+
+  pub spelt : Spelt w label' start' width' n names (spellingsOf f)
+  spelt = record {
+    all = spellings-n;
+    inside = λ r h. rows-spell start start' width width' y (u .start-is) (u .width-is) r (omega (arith, rows-n)) .inside;
+    bytes = λ r h. bytes-of r (rows-spell start start' width width' y (u .start-is) (u .width-is) r (omega (arith, rows-n)) .is);
+    labelled = first-labels ∙ tree-labels names f;
+  }
+    where
+      bytes-of : (r : ℕ) → range w (getD start' r 0) (getD start' r 0 + getD width' r 0) ≡ getD (spellingsOf f) r [] →
+          take (getD width' r 0) (drop (getD start' r 0) w) ≡ getD (spellingsOf f) r []
+      bytes-of r e =
+          let n : getD start' r 0 + getD width' r 0 - getD start' r 0 ≡ getD width' r 0 = omega arith in
+          rw n at e
+
+pub tree-is-good : TreeIsGood
+tree-is-good d w _ _ _ _ _ _ _ _ p n r = go r refl
+  where
+    go : {d w label size start width label' size' start' width' : List ℕ} {c p n : ℕ} → Read d w label size start width label' size' start' width' c p n → c ≡ 0 → Good (take n label') (take n size')
+    go (badDictionary h u) e = absurd (omega (arith, e))
+    go (badDocument g v z u) e = absurd (z e)
+    go (noRoom g v z u) e = absurd (omega (arith, e))
+    go (filled g v z y u) e = good-tree g v y u
+
+pub spellings-inside : SpellingsInside
+spellings-inside d w _ _ _ _ _ _ _ _ p n r = go r refl
+  where
+    go : {d w label size start width label' size' start' width' : List ℕ} {c p n : ℕ} → Read d w label size start width label' size' start' width' c p n → c ≡ 0 →
+        (names spellings : List (List ℕ)) × Spelt w label' start' width' n names spellings
+    go (badDictionary h u) e = absurd (omega (arith, e))
+    go (badDocument g v z u) e = absurd (z e)
+    go (noRoom g v z u) e = absurd (omega (arith, e))
+    go (filled {names} {f} g v z y u) e = (names, spellingsOf f, spelt g v y u)

@@ -1,0 +1,5 @@
+pub mod Labels
+pub mod Reading
+pub mod Checked
+pub mod Labelling
+pub mod Promises

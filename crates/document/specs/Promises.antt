@@ -1,0 +1,55 @@
+-- 01, "What the contracts have to decide": "Each public function has a contract that settles its result and every lent list afterwards, on
+-- all inputs, refused ones too; uniqueness of both is shown". And what else is promised of a document that was read.
+use mathlib.Core.Path.{_≡_}
+use mathlib.Core.List.{List, []}
+use Prim.Native.Nat.{ℕ, _+_, _*_, _≤_, _<_}
+use lib.ListN.{length, getD, take, drop}
+use Rattle.tree.specs.Good.{Good}
+use Rattle.dictionary.specs.Labels.{labelsOf}
+use Rattle.document.specs.Reading.{Read, shortest}
+use Rattle.document.specs.Checked.{Checked}
+
+pub record Same (code place rows : ℕ) (label size start width : List ℕ) (code' place' rows' : ℕ) (label' size' start' width' : List ℕ) : Type 0 where
+  pub code-same : code ≡ code'
+  pub place-same : place ≡ place'
+  pub rows-same : rows ≡ rows'
+  pub label-same : label ≡ label'
+  pub size-same : size ≡ size'
+  pub start-same : start ≡ start'
+  pub width-same : width ≡ width'
+
+-- two answers, with the lists after them, that both keep the promise of `read` are equal
+abbrev pub OneAnswer : Type 0
+OneAnswer =
+    (d w label size start width label₁ size₁ start₁ width₁ label₂ size₂ start₂ width₂ : List ℕ) (c₁ p₁ n₁ c₂ p₂ n₂ : ℕ) →
+    Read d w label size start width label₁ size₁ start₁ width₁ c₁ p₁ n₁ → Read d w label size start width label₂ size₂ start₂ width₂ c₂ p₂ n₂ →
+    Same c₁ p₁ n₁ label₁ size₁ start₁ width₁ c₂ p₂ n₂ label₂ size₂ start₂ width₂
+
+-- .. and of `check`
+abbrev pub OneCheck : Type 0
+OneCheck = (d w : List ℕ) (r s : ℕ) → Checked d w r → Checked d w s → r ≡ s
+
+-- with room enough `read` does not give 6, and then `check` gives its code, place and rows
+abbrev pub CheckIsRead : Type 0
+CheckIsRead =
+    (d w label size start width label' size' start' width' : List ℕ) (code place rows r : ℕ) → 2048 ≤ shortest label size start width →
+    Read d w label size start width label' size' start' width' code place rows → Checked d w r → r ≡ code * 4294967296 + (place + rows)
+
+-- a tree that was read is good for the tree check: it is never refused as 11
+abbrev pub TreeIsGood : Type 0
+TreeIsGood =
+    (d w label size start width label' size' start' width' : List ℕ) (place rows : ℕ) →
+    Read d w label size start width label' size' start' width' 0 place rows → Good (take rows label') (take rows size')
+
+-- each row's spelling lies within the document, and the labels are those of the spellings: a name's place, and then by first appearance
+pub record Spelt (w label start width : List ℕ) (rows : ℕ) (names spellings : List (List ℕ)) : Type 0 where
+  pub all : length spellings ≡ rows
+  pub inside : (row : ℕ) → row < rows → getD start row 0 + getD width row 0 ≤ length w
+  pub bytes : (row : ℕ) → row < rows → take (getD width row 0) (drop (getD start row 0) w) ≡ getD spellings row []
+  pub labelled : take rows label ≡ labelsOf names spellings
+
+abbrev pub SpellingsInside : Type 0
+SpellingsInside =
+    (d w label size start width label' size' start' width' : List ℕ) (place rows : ℕ) →
+    Read d w label size start width label' size' start' width' 0 place rows →
+    (names spellings : List (List ℕ)) × Spelt w label' start' width' rows names spellings

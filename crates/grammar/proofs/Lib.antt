@@ -1,0 +1,6 @@
+pub mod Theory
+pub mod Unique
+pub mod Trees
+pub mod Positions
+pub mod Rows
+pub mod Emitted

@@ -1,0 +1,7 @@
+pub mod Classes
+pub mod Grammar
+pub mod Place
+pub mod Tree
+pub mod Rows
+pub mod Machine
+pub mod Depths

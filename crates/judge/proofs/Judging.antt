@@ -1,0 +1,281 @@
+-- What the pass over a document keeps, and what it ends with.
+use mathlib.Core.Path.{_≡_, refl, sym, ap, _∙_}
+use mathlib.Core.Bool.{false, true≢false}
+use mathlib.Core.List.{List, [], _∷_}
+use Prim.Native.Nat.{ℕ, zero, suc, _+_, _*_, _-_, _≤_, _<_, max}
+use native.Mathlib.Omega.{arith}
+use lib.Dec.{eqb}
+use lib.ListN.{length, getD, set, length-set}
+use lib.Seq.{getD-set-same, getD-set-other, take-all}
+use borrow.Author.Tests.{ne-eqb}
+use Rattle.meaning.specs.Forest.{rows}
+use Rattle.tree.specs.Rows.{depth}
+use Rattle.grammar.specs.Grammar.{Bytes, ε, Content, nothing, emptyElement, element, noElement, Document}
+use Rattle.grammar.specs.Place.{OutsideAt}
+use Rattle.grammar.specs.Tree.{shape}
+use Rattle.grammar.specs.Machine.{Open, inRun, level, runs, initial, Final, At}
+use Rattle.grammar.proofs.Theory.{accepted, accepts}
+use Rattle.grammar.proofs.Trees.{leafRows, contentRows, contentDepth, one-leaf, shape-rows, shape-depth}
+use Rattle.grammar.proofs.Positions.{posS, at-good, at-place, three}
+use Rattle.judge.specs.Tokens.{Span, bytes, levelOf, runAt}
+use Rattle.judge.specs.Tags.{RunTo, Named, opened, Closed, closed, OpenedTo, EmptyTo, Top, Tagging, Done, too-deep, too-many, done, Last, ended, early}
+use Rattle.judge.specs.Verdict.{Verdict, outside, deep, many, read}
+use Rattle.judge.proofs.Machine.{run-walk, run-refused}
+
+-- THE LAST RUN
+pub early-is : {length at depth rows deep c p n : ℕ} → (c ≡ 3) × (p ≡ at) × (n ≡ 0) → (length ≤ at → depth ≡ 0 → 0 < rows → ⊥) →
+    Last length at depth rows deep c p n
+early-is h k = rw (h .0, h .1, h .2) (early k)
+
+-- WHAT THE OPEN ELEMENTS HAVE MADE
+-- x is where the innermost's name starts, and S has at k that of the element that k others hold
+abbrev pub Held : List ℕ → List ℕ → ℕ → List Open → Type 0
+Held w S x [] = Unit {0}
+Held w S x (p ∷ o) = Named w x (p .name) × Held w S (getD S (length o) 0) o
+
+unfoldable pub rowsO : List Open → ℕ
+rowsO [] = 0
+rowsO (p ∷ o) = rowsO o + contentRows (p .before) + leafRows (p .run) + 1
+
+unfoldable pub deepO : List Open → ℕ
+deepO [] = 0
+deepO (p ∷ o) = max (max (deepO o) (length o + contentDepth (p .before))) (length o + 1)
+
+-- the loop's invariant
+pub record Scanned (w S : List ℕ) (i x depth rows deep : ℕ) : Type 0 where
+  pub o : List Open
+  pub f : Content
+  pub here : At w i (inRun o f ε)
+  pub depth-is : depth ≡ length o
+  pub held : Held w S x o
+  pub room : length S ≡ 10922
+  pub small : x < 65536
+  pub rows-are : rows ≡ rowsO o + contentRows f
+  pub deep-is : deep ≡ max (deepO o) (length o + contentDepth f)
+  pub few : rows ≤ 2 * i
+
+pub begins : (w S : List ℕ) → length S ≡ 10922 → Scanned w S 0 0 0 0 0
+unfolding rowsO deepO contentRows contentDepth
+begins w S h = record {
+  o = [];
+  f = nothing;
+  here = record { within = omega arith; is = refl };
+  depth-is = refl;
+  held = tt;
+  room = h;
+  small = omega arith;
+  rows-are = refl;
+  deep-is = refl;
+  few = omega arith;
+}
+
+-- sums of depths
+max-open : (a l c r : ℕ) → r ≤ 1 → max (max (max a (l + c)) (l + r)) (l + 1) ≡ max (max (max a (l + c)) (l + 1)) (suc l + 0)
+max-open a l c r h = go (max a (l + c))
+  where
+    go : (m : ℕ) → max (max m (l + r)) (l + 1) ≡ max (max m (l + 1)) (suc l + 0)
+    go m = omega arith
+
+max-empty : (a l c r : ℕ) → r ≤ 1 → max (max (max a (l + c)) (l + r)) (l + 1) ≡ max a (l + max c 1)
+max-empty a l c r h = omega arith
+
+max-close : (a l b c r : ℕ) →
+    max (max (max (max a (l + b)) (l + 1)) (suc l + c)) (suc l + r) ≡ max a (l + max b (suc (max c r)))
+max-close a l b c r = left (max (max a (l + b)) (l + 1)) ∙ right (max c r)
+  where
+    left : (m : ℕ) → max (max m (suc l + c)) (suc l + r) ≡ max m (suc l + max c r)
+    left m = omega arith
+
+    right : (m : ℕ) → max (max (max a (l + b)) (l + 1)) (suc l + m) ≡ max a (l + max b (suc m))
+    right m = omega arith
+
+pub level-is : (o : List Open) → levelOf (length o) ≡ level o
+level-is [] = refl
+level-is (p ∷ o) = refl
+
+held-set : (w S : List ℕ) (x k v : ℕ) (o : List Open) → length o ≤ k → Held w S x o → Held w (set S k v) x o
+held-set w S x k v [] h q = tt
+held-set w S x k v (p ∷ o) h q =
+    (q .0, rw (getD-set-other S k (length o) v 0 (λ e. omega arith)) (held-set w S (getD S (length o) 0) k v o (omega arith) (q .1)))
+
+pub closed-within : (w : List ℕ) (e : ℕ) (o : List Open) (f : Content) (t : Bytes) → Closed w e o f t → e ≤ length w
+closed-within w e (p ∷ o) f t (closed h k) = k .within
+
+-- three bytes or more for each open element
+few-open : {w : List ℕ} {i : ℕ} {o : List Open} {f : Content} → At w i (inRun o f ε) → length w ≤ 32768 → length o ≤ 10922
+unfolding posS
+few-open {w} {i} {o} {f} h s = omega (arith, three o (at-good h tt .0), at-place h tt, h .within)
+
+some-rows : (f : Content) (n : ℕ) → n ≡ 0 → eqb (contentRows f + n) 0 ≡ noElement f
+unfolding contentRows
+some-rows nothing n h = rw h refl
+some-rows (emptyElement f t m g) n h = ne-eqb (contentRows (emptyElement f t m g) + n) 0 (λ e. omega arith)
+some-rows (element f t m g i l k) n h = ne-eqb (contentRows (element f t m g i l k) + n) 0 (λ e. omega arith)
+
+-- a document's answer
+verdict : {w : List ℕ} {f : Content} {t : Bytes} {m d c p n : ℕ} → length w ≤ 32768 → Document w f t → m ≡ rows (shape f) → d ≡ depth (shape f) →
+    Done m d c p n → Verdict w c p n
+verdict short k is-m is-d (too-deep h) = deep short k (omega (arith, is-d))
+verdict short k is-m is-d (too-many h j) = many short k (omega (arith, is-d)) (omega (arith, is-m))
+verdict short k is-m is-d (done h j) = rw is-m (read short k (omega (arith, is-d)) (omega (arith, is-m)))
+
+-- A TURN: the run that starts at i ends at a, and makes n rows
+module _ {w S : List ℕ} {i x depth rows deep : ℕ} (k : Scanned w S i x depth rows deep) {a n : ℕ} (run : RunTo w depth i a n) (short : length w ≤ 32768) where
+  abbrev T : Bytes
+  T = bytes w i (a - i)
+
+  from : i ≤ a
+  from = run .span .passed .from
+
+  till : a ≤ length w
+  till = run .span .passed .within
+
+  span : Span (runAt (level (k .o)) w i) w i a
+  span = rw (← (level-is (k .o)), ← (k .depth-is)) (run .span)
+
+  at-run : At w a (inRun (k .o) (k .f) T)
+  at-run = run-walk (k .o) (k .f) (span .passed) (k .here)
+
+  made : n ≡ leafRows T
+  unfolding leafRows
+  made = run .makes
+
+  made-few : n ≤ 1
+  made-few = run .few
+
+  top : (o : List Open) → Held w S x o → Top w x o
+  top [] h = tt
+  top (p ∷ o) h = h .0
+
+  outer-rows : depth ≡ 0 → rows + n ≡ contentRows (k .f) + n
+  unfolding rowsO
+  outer-rows d = go (k .o) (k .depth-is) (k .rows-are)
+    where
+      go : (o : List Open) → depth ≡ length o → rows ≡ rowsO o + contentRows (k .f) → rows + n ≡ contentRows (k .f) + n
+      go [] e r = omega (arith, r)
+      go (p ∷ o) e r = absurd (omega (arith, d, e))
+
+  pub tagging : getD w a 0 ≡ 60 → Tagging w x depth (rows + n) a (k .o) (k .f) T
+  tagging h = record {
+    here = at-run;
+    less = h;
+    depth-is = k .depth-is;
+    top = top (k .o) (k .held);
+    none-yet = λ d. rw (outer-rows d) (some-rows (k .f) n (run .outside d));
+  }
+
+  -- bounds, where the tag ends at e
+  pub room-open : (e : ℕ) → OpenedTo w (a + 1) e (k .o) (k .f) T → depth < 10922
+  room-open e h = omega (arith, few-open (h .here) short, k .depth-is)
+
+  pub room-close : depth ≤ 10922
+  room-close = omega (arith, few-open (k .here) short, k .depth-is)
+
+  -- what is kept
+  pub opens : (e : ℕ) → a + 1 < e → OpenedTo w (a + 1) e (k .o) (k .f) T → (d₁ d₂ : ℕ) → d₁ ≡ max deep (depth + n) → d₂ ≡ max d₁ (depth + 1) →
+      Scanned w (set S depth x) e (a + 1) (depth + 1) (rows + n + 1) d₂
+  unfolding rowsO deepO contentRows contentDepth
+  opens e l h d₁ d₂ is₁ is₂ = record {
+    o = opened (k .f) T (h .name) (h .space) ∷ k .o;
+    f = nothing;
+    here = h .here;
+    depth-is = omega (arith, k .depth-is);
+    held = (
+      h .named,
+      rw (← (k .depth-is), getD-set-same S depth x 0 (omega (arith, k .room, room-open e h)))
+          (held-set w S x depth x (k .o) (omega (arith, k .depth-is)) (k .held)),
+    );
+    room = length-set S depth x ∙ k .room;
+    small = omega (arith, h .here .within);
+    rows-are = rw made (omega (arith, k .rows-are));
+    deep-is = is₂ ∙ rw (is₁, k .deep-is, k .depth-is, made) (max-open (deepO (k .o)) (length (k .o)) (contentDepth (k .f)) (leafRows T) (one-leaf T));
+    few = omega (arith, k .few, from, made-few);
+  }
+
+  pub empties : (e : ℕ) → a + 1 < e → EmptyTo w e (k .o) (k .f) T → (d₁ d₂ : ℕ) → d₁ ≡ max deep (depth + n) → d₂ ≡ max d₁ (depth + 1) →
+      Scanned w S e x depth (rows + n + 1) d₂
+  unfolding contentRows contentDepth
+  empties e l h d₁ d₂ is₁ is₂ = record {
+    o = k .o;
+    f = emptyElement (k .f) T (h .name) (h .space);
+    here = h .here;
+    depth-is = k .depth-is;
+    held = k .held;
+    room = k .room;
+    small = k .small;
+    rows-are = rw made (omega (arith, k .rows-are));
+    deep-is = is₂ ∙ rw (is₁, k .deep-is, k .depth-is, made) (max-empty (deepO (k .o)) (length (k .o)) (contentDepth (k .f)) (leafRows T) (one-leaf T));
+    few = omega (arith, k .few, from, made-few);
+  }
+
+  pub some-open : (e : ℕ) → Closed w e (k .o) (k .f) T → 0 < depth
+  some-open e h = go (k .o) (k .depth-is) h
+    where
+      go : (o : List Open) → depth ≡ length o → Closed w e o (k .f) T → 0 < depth
+      go (p ∷ o) d (closed h q) = omega (arith, d)
+
+  pub closes : (e : ℕ) → a + 1 < e → Closed w e (k .o) (k .f) T → (d₁ y : ℕ) → d₁ ≡ max deep (depth + n) → (y ≡ getD S (depth - 1) 0) × (y < 65536) →
+      Scanned w S e y (depth - 1) (rows + n) d₁
+  unfolding rowsO deepO contentRows contentDepth
+  closes e l h d₁ y is₁ is-y = go (k .o) h (k .depth-is) (k .held) (k .rows-are) (k .deep-is)
+    where
+      go : (o : List Open) → Closed w e o (k .f) T → depth ≡ length o → Held w S x o → rows ≡ rowsO o + contentRows (k .f) →
+          deep ≡ max (deepO o) (length o + contentDepth (k .f)) → Scanned w S e y (depth - 1) (rows + n) d₁
+      go (p ∷ o) (closed h q) d held r m =
+          let z : length o ≡ depth - 1 = omega (arith, d) in
+          record {
+            o = o;
+            f = element (p .before) (p .run) (p .name) (p .space) (k .f) T h;
+            here = q;
+            depth-is = sym z;
+            held = rw (is-y .0, ← z) (held .1);
+            room = k .room;
+            small = is-y .1;
+            rows-are = rw made (omega (arith, r));
+            deep-is = is₁ ∙ rw (m, d, made) (max-close (deepO o) (length o) (contentDepth (p .before)) (contentDepth (k .f)) (leafRows T));
+            few = omega (arith, k .few, from, made-few);
+          }
+
+  -- WHAT IT ENDS WITH
+  refused : (getD w a 0 ≡ 60 → ⊥) → (length w ≤ a → depth ≡ 0 → 0 < rows + n → ⊥) → OutsideAt w a
+  unfolding runAt
+  refused b h = run-refused (k .o) (k .f) T at-run (λ q. final q (k .o) (k .depth-is)) (span .stop) (ne-eqb (getD w a 0) 60 b)
+    where
+      final : length w ≤ a → (o : List Open) → depth ≡ length o → Final (inRun o (k .f) T) → ⊥
+      final q [] d y =
+          let z : eqb (rows + n) 0 ≡ false = rw (outer-rows d) (some-rows (k .f) n (run .outside d) ∙ y) in
+          h q d (positive (rows + n) z)
+        where
+          positive : (m : ℕ) → eqb m 0 ≡ false → 0 < m
+          positive zero e = absurd (true≢false e)
+          positive (suc m) e = omega arith
+      final q (p ∷ o) d y = y
+
+  whole : length w ≤ a → depth ≡ 0 → 0 < rows + n → {d₁ c p m : ℕ} → d₁ ≡ max deep (depth + n) → Done (rows + n) d₁ c p m → Verdict w c p m
+  unfolding deepO rowsO
+  whole q d r {d₁} {c} {p} {m} is₁ h = go (k .o) (k .depth-is) (ap (runs initial) (sym (take-all a w q)) ∙ at-run .is) (k .deep-is)
+    where
+      has : noElement (k .f) ≡ false
+      has = sym (some-rows (k .f) n (run .outside d)) ∙ ne-eqb (contentRows (k .f) + n) 0 (λ e. omega (arith, outer-rows d, r, e))
+
+      go : (o : List Open) → depth ≡ length o → runs initial w ≡ inRun o (k .f) T → deep ≡ max (deepO o) (length o + contentDepth (k .f)) → Verdict w c p m
+      go [] e s u =
+          let D : (f : Content) × (t : Bytes) × Document w f t = accepted w (rw s has) in
+          let same : inRun [] (k .f) T ≡ inRun [] (D .0) (D .1) = sym s ∙ accepts (D .2) in
+          let f-is : k .f ≡ D .0 = cc in
+          verdict short (D .2)
+          (outer-rows d ∙ rw (run .outside d) (omega arith) ∙ ap contentRows f-is ∙ sym (shape-rows (D .0)))
+          (is₁ ∙ level (run .outside d) u ∙ ap contentDepth f-is ∙ sym (shape-depth (D .0)))
+          h
+        where
+          level : n ≡ 0 → deep ≡ max 0 (0 + contentDepth (k .f)) → max deep (depth + n) ≡ contentDepth (k .f)
+          level y z = omega (arith, y, z, d)
+      go (p ∷ o) e s u = absurd (omega (arith, d, e))
+
+  pub ends : (getD w a 0 ≡ 60 → ⊥) → {d₁ c p m : ℕ} → d₁ ≡ max deep (depth + n) → Last (length w) a depth (rows + n) d₁ c p m → Verdict w c p m
+  ends b is₁ (ended q d r h) = whole q d r is₁ h
+  ends b is₁ (early h) = outside short (refused b h)
+
+-- code 3
+pub outside-is : {w : List ℕ} {q c p n : ℕ} → length w ≤ 32768 → OutsideAt w q → (c ≡ 3) × (p ≡ q) × (n ≡ 0) → Verdict w c p n
+outside-is short h e = rw (e .0, e .1, e .2) (outside short h)

@@ -1,0 +1,6 @@
+pub mod Table
+pub mod Spans
+pub mod Machine
+pub mod Turns
+pub mod Judging
+pub mod OneVerdict

@@ -1,0 +1,157 @@
+-- The laws of classes and of the places where tokens end.
+use mathlib.Core.Path.{_≡_, refl, sym, ap, _∙_}
+use mathlib.Core.Bool.{Bool, true, false, cond, _&&_, _||_, not}
+use mathlib.Core.List.{List}
+use Prim.Native.Nat.{ℕ, zero, suc, _+_, _-_, _≤_, _<_}
+use native.Mathlib.Omega.{arith}
+use lib.Dec.{eqb, ltb}
+use lib.ListN.{length, getD}
+use borrow.Author.Tests.{eqb-true, eq-eqb, ne-eqb, lt-ltb, le-ltb, ltb-true, ltb-false}
+use Rattle.grammar.specs.Classes.{classOf, within, white, nameStart, nameByte, text}
+use Rattle.grammar.specs.Grammar.{Bytes, inner, mayFollow, brackets}
+use Rattle.judge.specs.Tokens.{Passed, Span, bytes, runAt, textAt, sameAt}
+
+-- A CLASS c OF A BYTE b TELLS
+module _ (c b : ℕ) (is : c ≡ classOf b) where
+  pub white-yes : c ≡ 3 → white b ≡ true
+  unfolding white
+  white-yes h = eq-eqb (classOf b) 3 (sym is ∙ h)
+
+  pub white-not : (c ≡ 3 → ⊥) → white b ≡ false
+  unfolding white
+  white-not h = ne-eqb (classOf b) 3 (λ e. h (is ∙ e))
+
+  pub name-yes : 3 < c → nameByte b ≡ true
+  unfolding nameByte
+  name-yes h = lt-ltb 3 (classOf b) (omega (arith, is))
+
+  pub name-not : c ≤ 3 → nameByte b ≡ false
+  unfolding nameByte
+  name-not h = le-ltb 3 (classOf b) (omega (arith, is))
+
+  pub start-yes : 5 ≤ c → c ≤ 5 → nameStart b ≡ true
+  unfolding nameStart
+  start-yes h k = eq-eqb (classOf b) 5 (omega (arith, is))
+
+  pub start-not : c < 5 → nameStart b ≡ false
+  unfolding nameStart
+  start-not h = ne-eqb (classOf b) 5 (λ e. omega (arith, is, e))
+
+  -- `>` has a class of its own
+  only : c ≡ 1 → b ≡ 62
+  unfolding classOf
+  only h = eqb-true b 62 (go (ltb 127 b) (eqb b 9 || eqb b 10 || eqb b 32) (within 65 90 b || within 97 122 b || eqb b 95 || eqb b 58) (within 48 57 b || eqb b 45 || eqb b 46) (eqb b 60 || eqb b 38 || ltb b 32) (eqb b 62) (sym is ∙ h))
+    where
+      go : (u v w x y z : Bool) → _≡_ {A = ℕ} (cond u 0 (cond v 3 (cond w 5 (cond x 4 (cond y 0 (cond z 1 2)))))) 1 → z ≡ true
+      go true v w x y z e = absurd (omega (arith, e))
+      go false true w x y z e = absurd (omega (arith, e))
+      go false false true x y z e = absurd (omega (arith, e))
+      go false false false true y z e = absurd (omega (arith, e))
+      go false false false false true z e = absurd (omega (arith, e))
+      go false false false false false true e = refl
+      go false false false false false false e = absurd (omega (arith, e))
+
+  other : (c ≡ 1 → ⊥) → eqb b 62 ≡ false
+  unfolding classOf
+  other h = ne-eqb b 62 (λ e. h (is ∙ ap classOf e))
+
+  -- what it tells of text behind the bytes s
+  pub text-yes : (s : Bytes) → 1 < c → mayFollow inner s b ≡ true
+  unfolding text
+  text-yes s h = simp (other (λ e. omega (arith, h, e)), lt-ltb 0 (classOf b) (omega (arith, is)))
+
+  pub text-not : (s : Bytes) → c ≡ 0 → mayFollow inner s b ≡ false
+  unfolding text
+  text-not s h = simp (other (λ e. omega (arith, h, e)), le-ltb 0 (classOf b) (omega (arith, is)))
+
+  pub text-bracket : (s : Bytes) → c ≡ 1 → mayFollow inner s b ≡ not (brackets s)
+  unfolding text classOf
+  text-bracket s h = rw (only h) (go (brackets s))
+    where
+      go : (y : Bool) → cond y false true ≡ not y
+      go true = refl
+      go false = refl
+
+pub few-classes : (b : ℕ) → classOf b ≤ 5
+unfolding classOf
+few-classes b = go (ltb 127 b) (eqb b 9 || eqb b 10 || eqb b 32) (within 65 90 b || within 97 122 b || eqb b 95 || eqb b 58) (within 48 57 b || eqb b 45 || eqb b 46) (eqb b 60 || eqb b 38 || ltb b 32) (eqb b 62)
+  where
+    go : (u v w x y z : Bool) → cond u 0 (cond v 3 (cond w 5 (cond x 4 (cond y 0 (cond z 1 2))))) ≤ 5
+    go true v w x y z = omega arith
+    go false true w x y z = omega arith
+    go false false true x y z = omega arith
+    go false false false true y z = omega arith
+    go false false false false true z = omega arith
+    go false false false false false true = omega arith
+    go false false false false false false = omega arith
+
+-- A LOOP OVER A TOKEN
+pub passed-none : (test : ℕ → Bool) (w : List ℕ) (a : ℕ) → a ≤ length w → Passed test w a a
+passed-none test w a h = record { from = omega arith; within = h; each = λ k p q. absurd (omega arith) }
+
+pub passed-more : {test : ℕ → Bool} {w : List ℕ} {a i : ℕ} → Passed test w a i → i < length w → test i ≡ true → Passed test w a (i + 1)
+passed-more {test} {w} {a} {i} h p e = record {
+  from = omega (arith, h .from);
+  within = omega arith;
+  each = λ k q r. go k q r (ltb k i) refl;
+}
+  where
+    go : (k : ℕ) → a ≤ k → k < i + 1 → (t : Bool) → ltb k i ≡ t → test k ≡ true
+    go k q r true u = h .each k q (ltb-true k i u)
+    go k q r false u = let z : k ≡ i = omega (arith, ltb-false k i u) in rw z e
+
+pub stops : {test : ℕ → Bool} {w : List ℕ} {a i : ℕ} → Passed test w a i → test i ≡ false → Span test w a i
+stops h e = record { passed = h; stop = λ p. e }
+
+pub at-end : {test : ℕ → Bool} {w : List ℕ} {a i : ℕ} → Passed test w a i → length w ≤ i → Span test w a i
+at-end h e = record { passed = h; stop = λ p. absurd (omega arith) }
+
+-- the name that stands again
+pub same-yes : (w : List ℕ) (name a i k e : ℕ) → k ≡ name + (i - a) → e ≡ getD w k 0 → nameByte e ≡ true → getD w i 0 ≡ e → sameAt w name a i ≡ true
+unfolding sameAt
+same-yes w name a i k e is-k is-e n h =
+    let z : e ≡ getD w (name + (i - a)) 0 = rw is-k at is-e in
+    rw (← z, n) (eq-eqb (getD w i 0) e h)
+
+pub same-ended : (w : List ℕ) (name a i k e : ℕ) → k ≡ name + (i - a) → e ≡ getD w k 0 → nameByte e ≡ false → sameAt w name a i ≡ false
+unfolding sameAt
+same-ended w name a i k e is-k is-e n =
+    let z : e ≡ getD w (name + (i - a)) 0 = rw is-k at is-e in
+    rw (← z, n)
+
+pub same-differs : (w : List ℕ) (name a i k e : ℕ) → k ≡ name + (i - a) → e ≡ getD w k 0 → nameByte e ≡ true → (getD w i 0 ≡ e → ⊥) → sameAt w name a i ≡ false
+unfolding sameAt
+same-differs w name a i k e is-k is-e n h =
+    let z : e ≡ getD w (name + (i - a)) 0 = rw is-k at is-e in
+    rw (← z, n) (ne-eqb (getD w i 0) e h)
+
+-- THE LAST TWO BYTES OF A RUN
+pub brackets-few : (w : List ℕ) (a n : ℕ) → n < 2 → brackets (bytes w a n) ≡ false
+unfolding bytes
+brackets-few w a zero h = refl
+brackets-few w a (suc zero) h = refl
+brackets-few w a (suc (suc n)) h = absurd (omega arith)
+
+pub brackets-two : (w : List ℕ) (a k : ℕ) → a ≤ k → 2 ≤ k - a →
+    brackets (bytes w a (k - a)) ≡ eqb (getD w (k - 2) 0) 93 && eqb (getD w (k - 1) 0) 93
+unfolding bytes
+brackets-two w a k h p = rw (is-n) (go (k - a - 2) (omega arith) (omega arith))
+  where
+    is-n : k - a ≡ suc (suc (k - a - 2))
+    is-n = omega arith
+
+    go : (n : ℕ) → a + n ≡ k - 2 → a + suc n ≡ k - 1 → brackets (bytes w a (suc (suc n))) ≡ eqb (getD w (k - 2) 0) 93 && eqb (getD w (k - 1) 0) 93
+    go n p q = rw (← p, ← q) refl
+
+module _ (w : List ℕ) (a k c : ℕ) (is : c ≡ classOf (getD w k 0)) where
+  pub text-at-yes : 1 < c → textAt w a k ≡ true
+  unfolding runAt
+  text-at-yes h = text-yes c (getD w k 0) is (bytes w a (k - a)) h
+
+  pub text-at-not : c ≡ 0 → textAt w a k ≡ false
+  unfolding runAt
+  text-at-not h = text-not c (getD w k 0) is (bytes w a (k - a)) h
+
+  pub text-at-bracket : c ≡ 1 → textAt w a k ≡ not (brackets (bytes w a (k - a)))
+  unfolding runAt
+  text-at-bracket h = text-bracket c (getD w k 0) is (bytes w a (k - a)) h

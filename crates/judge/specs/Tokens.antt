@@ -1,0 +1,51 @@
+-- Not needed to believe the promise: where a token of the document ends, which the token loops answer.
+use mathlib.Core.Path.{_≡_}
+use mathlib.Core.Bool.{Bool, true, false, cond}
+use mathlib.Core.List.{List}
+use Prim.Native.Nat.{ℕ, zero, suc, _+_, _-_, _≤_, _<_}
+use lib.Dec.{eqb}
+use lib.ListN.{length, getD}
+use Rattle.grammar.specs.Classes.{classOf, white, nameByte}
+use Rattle.grammar.specs.Grammar.{Bytes, ε, _▸_, mayFollow, Level, outer, inner}
+
+-- a table that has the class of each ASCII code
+pub record Classed (table : List ℕ) : Type 0 where
+  pub each : (k : ℕ) → k < 128 → getD table k 0 ≡ classOf k
+
+-- n bytes of w from the place a on
+unfoldable pub bytes : List ℕ → ℕ → ℕ → Bytes
+bytes w a zero = ε
+bytes w a (suc n) = bytes w a n ▸ getD w (a + n) 0
+
+-- the test holds of every place from a up to r
+pub record Passed (test : ℕ → Bool) (w : List ℕ) (a r : ℕ) : Type 0 where
+  pub from : a ≤ r
+  pub within : r ≤ length w
+  pub each : (k : ℕ) → a ≤ k → k < r → test k ≡ true
+
+-- .. and r is the first where it does not, or the end
+pub record Span (test : ℕ → Bool) (w : List ℕ) (a r : ℕ) : Type 0 where
+  pub passed : Passed test w a r
+  pub stop : r < length w → test r ≡ false
+
+abbrev pub whiteAt : List ℕ → ℕ → Bool
+whiteAt w k = white (getD w k 0)
+
+abbrev pub nameAt : List ℕ → ℕ → Bool
+nameAt w k = nameByte (getD w k 0)
+
+-- outside the root depth is 0
+abbrev pub levelOf : ℕ → Level
+levelOf zero = outer
+levelOf (suc n) = inner
+
+-- the byte at k goes on with the run that starts at a
+unfoldable pub runAt : Level → List ℕ → ℕ → ℕ → Bool
+runAt l w a k = mayFollow l (bytes w a (k - a)) (getD w k 0)
+
+abbrev pub textAt : List ℕ → ℕ → ℕ → Bool
+textAt w a k = runAt inner w a k
+
+-- the byte at k goes on with the name that starts at name and stands again from a on
+unfoldable pub sameAt : List ℕ → ℕ → ℕ → ℕ → Bool
+sameAt w name a k = cond (nameByte (getD w (name + (k - a)) 0)) (eqb (getD w k 0) (getD w (name + (k - a)) 0)) false

@@ -1,0 +1,173 @@
+// Judging a document, in one pass and with nothing written.
+ghost use mathlib.Core.Path.{_≡_};
+ghost use Prim.Native.Nat.{_+_, _≤_, _<_, max};
+ghost use lib.ListN.{length};
+ghost use Rattle.judge.specs.Tokens.{Classed};
+ghost use Rattle.judge.specs.Tags.{RunTo, Done, Last};
+ghost use Rattle.judge.specs.Verdict.{Verdict};
+
+pub mod class;
+pub mod tags;
+pub mod tokens;
+
+use class::byte_at;
+use class::table;
+use tags::Tag;
+use tags::next_tag;
+use tokens::text_end;
+use tokens::white_end;
+
+// Where a run ends, and how many rows it makes: none if it is white space only, else one.
+pub struct Run {
+    pub end: usize,
+    pub rows: usize,
+}
+
+pub fn run_end(document: &[u8], class: &[u8; 128], depth: usize, start: usize) -> Run
+    requires { ⌜ Classed (now class) × (start ≤ length (now document)) ⌝ }
+    ensures { λ r. ⌜ RunTo (now (document .entry)) depth start (r .end) (r .rows) ⌝ }
+{
+    let white = white_end(document, class, start);
+    if depth == 0 {
+        return Run {
+            end: white,
+            rows: 0,
+        };
+    }
+    let end = text_end(document, class, start, white);
+    if white < end {
+        return Run { end: end, rows: 1 };
+    }
+    Run { end: end, rows: 0 }
+}
+
+fn larger(a: usize, b: usize) -> usize
+    ensures { λ r. ⌜ r ≡ max a b ⌝ }
+{
+    if a < b { b } else { a }
+}
+
+fn wide(x: u16) -> usize
+    ensures { λ r. ⌜ (r ≡ x) × (r < 65536) ⌝ }
+{
+    x as usize
+}
+
+// The code of the first rule that is broken, or 0; the place, 0 unless the code is 3; the rows, 0 unless it is 0.
+pub struct Judged {
+    pub code: u32,
+    pub place: u32,
+    pub rows: u32,
+}
+
+fn outside(place: usize) -> Judged
+    requires { ⌜ place ≤ 32768 ⌝ }
+    ensures { λ r. ⌜ (r .code ≡ 3) × (r .place ≡ place) × (r .rows ≡ 0) ⌝ }
+{
+    Judged {
+        code: 3,
+        place: place as u32,
+        rows: 0,
+    }
+}
+
+// A whole document's answer.
+fn whole(rows: usize, deep: usize) -> Judged
+    ensures { λ r. ⌜ Done rows deep (r .code) (r .place) (r .rows) ⌝ }
+{
+    if 64 < deep {
+        return Judged {
+            code: 4,
+            place: 0,
+            rows: 0,
+        };
+    }
+    if 2048 < rows {
+        return Judged {
+            code: 5,
+            place: 0,
+            rows: 0,
+        };
+    }
+    Judged {
+        code: 0,
+        place: 0,
+        rows: rows as u32,
+    }
+}
+
+// The answer where no tag follows: the last run ends at `at`.
+fn last(length: usize, at: usize, depth: usize, rows: usize, deep: usize) -> Judged
+    requires { ⌜ at ≤ 32768 ⌝ }
+    ensures { λ r. ⌜ Last length at depth rows deep (r .code) (r .place) (r .rows) ⌝ }
+{
+    if at < length {
+        return outside(at);
+    }
+    if 0 < depth {
+        return outside(at);
+    }
+    if rows == 0 {
+        return outside(at);
+    }
+    whole(rows, deep)
+}
+
+// The pass. `name` is where the innermost open element's name starts, `names` has those of the elements around it.
+// An open element has three bytes or more, so 32,768 bytes have room for 10,922 of them.
+fn pass(document: &[u8], class: &[u8; 128]) -> Judged
+    requires { ⌜ Classed (now class) × (length (now document) ≤ 32768) ⌝ }
+    ensures { λ r. ⌜ Verdict (now (document .entry)) (r .code) (r .place) (r .rows) ⌝ }
+{
+    let mut names = [0u16; 10922];
+    let mut name: usize = 0;
+    let mut depth: usize = 0;
+    let mut rows: usize = 0;
+    let mut deep: usize = 0;
+    let mut i: usize = 0;
+    loop {
+        let text = run_end(document, class, depth, i);
+        let at = text.end;
+        let leaves = text.rows;
+        rows = rows + leaves;
+        deep = larger(deep, depth + leaves);
+        if byte_at(document, at) != 60 {
+            return last(document.len(), at, depth, rows, deep);
+        }
+        match next_tag(document, class, name, depth, rows, at) {
+            Tag::Refused(place) => return outside(place),
+            Tag::Opens(next) => {
+                names[depth] = name as u16;
+                name = at + 1;
+                depth = depth + 1;
+                rows = rows + 1;
+                deep = larger(deep, depth);
+                i = next;
+            }
+            Tag::Empty(next) => {
+                rows = rows + 1;
+                deep = larger(deep, depth + 1);
+                i = next;
+            }
+            Tag::Closes(next) => {
+                depth = depth - 1;
+                name = wide(names[depth]);
+                i = next;
+            }
+        }
+    }
+}
+
+pub fn judge(document: &[u8]) -> Judged
+    ensures { λ r. ⌜ Verdict (now (document .entry)) (r .code) (r .place) (r .rows) ⌝ }
+{
+    if 32768 < document.len() {
+        return Judged {
+            code: 2,
+            place: 0,
+            rows: 0,
+        };
+    }
+    let class = table();
+    pass(document, &class)
+}

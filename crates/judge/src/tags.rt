@@ -1,0 +1,82 @@
+// One tag: where it ends and what it does, or where no document goes on.
+ghost use Prim.Native.Nat.{_+_, _≤_, _<_};
+ghost use lib.ListN.{length};
+ghost use Rattle.judge.specs.Tokens.{Classed};
+ghost use Rattle.judge.specs.Tags.{Started, Ended, Tagged};
+use super::class::byte_at;
+use super::class::class_of;
+use super::tokens::name_end;
+use super::tokens::same_end;
+use super::tokens::white_end;
+
+// Each holds a place: that of code 3, or that behind the tag.
+pub enum Tag {
+    Refused(usize),
+    Opens(usize),
+    Empty(usize),
+    Closes(usize),
+}
+
+// The tag whose `<` stands before `at`.
+fn start_tag(document: &[u8], class: &[u8; 128], at: usize) -> Tag
+    requires { ⌜ Classed (now class) × (at ≤ length (now document)) ⌝ }
+    ensures { λ r. ⌜ Started (now (document .entry)) at r ⌝ }
+{
+    if class_of(class, byte_at(document, at)) < 5 {
+        return Tag::Refused(at);
+    }
+    let end = name_end(document, class, at + 1);
+    let shut = white_end(document, class, end);
+    let b = byte_at(document, shut);
+    if b == 62 {
+        return Tag::Opens(shut + 1);
+    }
+    if b == 47 {
+        if byte_at(document, shut + 1) == 62 {
+            return Tag::Empty(shut + 2);
+        }
+        return Tag::Refused(shut + 1);
+    }
+    Tag::Refused(shut)
+}
+
+// The end tag whose `</` stands before `at`; the innermost open element's name starts at `name`.
+fn end_tag(document: &[u8], class: &[u8; 128], name: usize, at: usize) -> Tag
+    requires { ⌜ Classed (now class) × (at ≤ length (now document)) × (name < 65536) ⌝ }
+    ensures { λ r. ⌜ Ended (now (document .entry)) name at r ⌝ }
+{
+    let end = same_end(document, class, name, at);
+    let rest = name + (end - at);
+    if 3 < class_of(class, byte_at(document, rest)) {
+        return Tag::Refused(end);
+    }
+    let shut = white_end(document, class, end);
+    if byte_at(document, shut) == 62 {
+        return Tag::Closes(shut + 1);
+    }
+    Tag::Refused(shut)
+}
+
+// The tag whose `<` stands at `at`, in `depth` open elements and behind `rows` rows.
+pub fn next_tag(
+    document: &[u8],
+    class: &[u8; 128],
+    name: usize,
+    depth: usize,
+    rows: usize,
+    at: usize,
+) -> Tag
+    requires { ⌜ Classed (now class) × (at < length (now document)) × (name < 65536) ⌝ }
+    ensures { λ r. ⌜ Tagged (now (document .entry)) name depth rows at r ⌝ }
+{
+    if depth == 0 {
+        if 0 < rows {
+            return Tag::Refused(at);
+        }
+        return start_tag(document, class, at + 1);
+    }
+    if byte_at(document, at + 1) == 47 {
+        return end_tag(document, class, name, at + 2);
+    }
+    start_tag(document, class, at + 1)
+}

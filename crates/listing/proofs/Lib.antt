@@ -1,0 +1,12 @@
+pub mod Back
+pub mod Events
+pub mod Ascent
+pub mod Run
+pub mod Plain
+pub mod Ranks
+pub mod Fill
+pub mod Loop
+pub mod Given
+pub mod Levels
+pub mod Whole
+pub mod Facts

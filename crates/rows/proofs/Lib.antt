@@ -1,0 +1,4 @@
+pub mod Upto
+pub mod InDocument
+pub mod Marking
+pub mod Stepping
