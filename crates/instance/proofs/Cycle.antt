@@ -1,0 +1,194 @@
+-- The cycle of terms and arguments: what each call asks follows from what was asked, and each return says what was to be said.
+use Prim.Native.Nat.{ℕ, suc, _+_, _-_, _<_, _≤_}
+use mathlib.Core.Path.{_≡_}
+use mathlib.Core.Logic.{_≢_}
+use mathlib.Core.List.{List}
+use lib.ListN.{length, getD}
+use native.Mathlib.Omega.{arith}
+use Rattle.meaning.specs.Forest.{none, _◂_, rows, _⊕_}
+use Rattle.meaning.specs.Value.{at, asForest, asContext}
+use Rattle.meaning.specs.Apply.{apply, applyAll}
+use Rattle.meaning.proofs.Laws.{rows-of}
+use Rattle.instance.specs.Places.{meant}
+use Rattle.instance.specs.Pieces.{IndividualPre, IndividualPost, SequencePre, SequencePost, FillingPre, FillingPost, ContextPre, ContextPost, HeadPre, HeadPost}
+use Rattle.instance.specs.Cycle.{TermPre, TermPost, ArgumentsPre, ArgumentsPost}
+use Rattle.instance.proofs.Glue.{written-both, written-head, written-none, same-room, part-room, hole-room, term-row, is-individual, is-context, is-headed, is-nil, is-sequence, is-cons}
+
+module _ {L S K N Z W OL OS : List ℕ} {p t : ℕ} where
+  -- an individual variable
+  module _ (k : getD K p 0 ≡ 1) where
+    pub individual-pre : TermPre L S K N Z W OL OS p t → IndividualPre L S W OL OS (getD N p 0) t
+    unfolding apply
+    individual-pre h =
+        let s = h .some in
+        let i = is-individual (s .4) k in
+        record { some = (s .0, s .1, s .3, i .1, rw (i .0) at (s .5)) }
+
+    pub individual-post : {r : ℕ} {NL NS : List ℕ} → IndividualPost L S W OL OS (getD N p 0) t r NL NS → TermPost L S K N Z W OL OS p t r NL NS
+    unfolding apply
+    individual-post {r} {NL} {NS} h =
+        record {
+          is = λ Q R q g a.
+              let i = is-individual a k in
+              rw (i .0) (h .is Q R g (i .1));
+        }
+
+  -- a context variable: the row of its hole, what fills the hole, and what stands around
+  module _ (k : getD K p 0 ≡ 4) where
+    pub filling-pre : TermPre L S K N Z W OL OS p t → length OL < 18446744073709551616 → FillingPre W (getD N p 0) t
+    unfolding apply
+    filling-pre h m =
+        let s = h .some in
+        let i = is-context (s .4) k in
+        let r = rw (i .1) at (s .5) in
+        record { some = (L, S, s .0, s .1, s .3, i .2, omega (arith, r .labelled, hole-room (asContext (at (meant W (s .0) (s .1)) (getD N p 0))) (apply (meant W (s .0) (s .1)) (i .0)))) }
+
+    pub under-falls : TermPre L S K N Z W OL OS p t → (getD Z p 0 ≡ suc (getD Z (p + 1) 0)) × (p < length K)
+    under-falls h = (is-context (h .some .4) k .3, term-row (h .some .4) .0)
+
+    module _ {f : ℕ} (o : FillingPost W (getD N p 0) t f) where
+      pub under-pre : TermPre L S K N Z W OL OS p t → TermPre L S K N Z W OL OS (p + 1) f
+      unfolding apply
+      under-pre h =
+          let s = h .some in
+          let i = is-context (s .4) k in
+          let r = rw (i .1) at (s .5) in
+          let z = o .is L S (s .0) (s .1) (s .3) (i .2) in
+          let l = hole-room (asContext (at (meant W (s .0) (s .1)) (getD N p 0))) (apply (meant W (s .0) (s .1)) (i .0)) in
+          record { some = (s .0, s .1, i .0, s .3, i .4, part-room r (omega arith) (omega arith)) }
+
+      module _ {e : ℕ} {NL NS : List ℕ} (u : TermPost L S K N Z W OL OS (p + 1) f e NL NS) where
+        pub context-pre : TermPre L S K N Z W OL OS p t → length NL ≡ length OL → length NS ≡ length OS → ContextPre L S W NL NS (getD N p 0) t f e
+        unfolding apply
+        context-pre h a b =
+            let s = h .some in
+            let i = is-context (s .4) k in
+            let r = rw (i .1) at (s .5) in
+            record {
+              some = (s .0, s .1, apply (meant W (s .0) (s .1)) (i .0), s .3, i .2, o .is L S (s .0) (s .1) (s .3) (i .2), u .is (s .0) (s .1) (i .0) (s .3) (i .4) .0, same-room a b r);
+            }
+
+        pub context-post : {r : ℕ} {ML MS : List ℕ} → ContextPost L S W NL NS (getD N p 0) t f e r ML MS → TermPost L S K N Z W OL OS p t r ML MS
+        unfolding apply
+        context-post {r} {ML} {MS} h =
+            record {
+              is = λ Q R q g a.
+                  let i = is-context a k in
+                  let x = u .is Q R (i .0) g (i .4) in
+                  rw (i .1) (h .is Q R (apply (meant W Q R) (i .0)) OL OS g (i .2) (o .is L S Q R g (i .2)) (x .0) (x .1));
+            }
+
+  -- a symbol or a function variable: its arguments, and then its row
+  module _ (m : getD K p 0 ≡ 1 → ⊥) (n : getD K p 0 ≡ 4 → ⊥) where
+    pub below-pre : TermPre L S K N Z W OL OS p t → ArgumentsPre L S K N Z W OL OS (p + 1) (p + getD Z p 0) (t + 1)
+    below-pre h =
+        let s = h .some in
+        let i = is-headed (meant W (s .0) (s .1)) (s .4) m n in
+        let r = rw (i .is) at (s .5) in
+        record { some = (s .0, s .1, i .arguments, s .3, i .placed, part-room r (omega arith) (omega arith)) }
+
+    module _ {e : ℕ} {NL NS : List ℕ} (u : ArgumentsPost L S K N Z W OL OS (p + 1) (p + getD Z p 0) (t + 1) e NL NS) where
+      pub head-pre : TermPre L S K N Z W OL OS p t → length NL ≡ length OL → length NS ≡ length OS → HeadPre L K N W NL NS p t e
+      head-pre h a b =
+          let s = h .some in
+          let i = is-headed (meant W (s .0) (s .1)) (s .4) m n in
+          let r = rw (i .is) at (s .5) in
+          let x = u .is (s .0) (s .1) (i .arguments) (s .3) (i .placed) .0 in
+          let w = term-row (s .4) in
+          record {
+            inKind = w .0;
+            inName = w .1;
+            some = (S, s .0, s .1, i .label, s .3, i .head);
+            first = omega arith;
+            room = part-room (same-room a b r) (omega arith) (omega arith);
+          }
+
+      pub head-post : {ML MS : List ℕ} → HeadPost L K N W NL NS p t e ML MS → TermPost L S K N Z W OL OS p t e ML MS
+      head-post {ML} {MS} h =
+          record {
+            is = λ Q R q g a.
+                let i = is-headed (meant W Q R) a m n in
+                let x = u .is Q R (i .arguments) g (i .placed) in
+                let z : e - t ≡ suc (rows (applyAll (meant W Q R) (i .arguments))) = omega (arith, x .0) in
+                rw (i .is) (omega (arith, x .0), written-head (i .label) (applyAll (meant W Q R) (i .arguments)) (x .1) (h .labelled S Q R (i .label) g (i .head)) (rw z at (h .sized)));
+          }
+
+-- a list of arguments
+module _ {L S K N Z W OL OS : List ℕ} {p e t : ℕ} where
+  pub end-post : p ≡ e → ArgumentsPost L S K N Z W OL OS p e t t OL OS
+  unfolding applyAll rows
+  end-post z =
+      record {
+        is = λ Q R ps g a.
+            let i = is-nil a z in
+            rw i (omega arith, written-none);
+      }
+
+  -- a sequence variable first
+  module _ (n : p ≢ e) (k : getD K p 0 ≡ 2) where
+    pub sequence-pre : ArgumentsPre L S K N Z W OL OS p e t → SequencePre L S W OL OS (getD N p 0) t
+    unfolding applyAll
+    sequence-pre h =
+        let s = h .some in
+        let i = is-sequence (s .4) n k in
+        let r = rw (i .1) at (s .5) in
+        let z = rows-of (asForest (at (meant W (s .0) (s .1)) (getD N p 0))) (applyAll (meant W (s .0) (s .1)) (i .0)) in
+        record { some = (s .0, s .1, s .3, i .2, part-room r (omega arith) (omega arith)) }
+
+    module _ {f : ℕ} {NL NS : List ℕ} (u : SequencePost L S W OL OS (getD N p 0) t f NL NS) where
+      pub behind-pre : ArgumentsPre L S K N Z W OL OS p e t → length NL ≡ length OL → length NS ≡ length OS → ArgumentsPre L S K N Z W NL NS (p + 1) e f
+      unfolding applyAll
+      behind-pre h a b =
+          let s = h .some in
+          let i = is-sequence (s .4) n k in
+          let r = rw (i .1) at (s .5) in
+          let z = rows-of (asForest (at (meant W (s .0) (s .1)) (getD N p 0))) (applyAll (meant W (s .0) (s .1)) (i .0)) in
+          let x = u .is (s .0) (s .1) (s .3) (i .2) .0 in
+          record { some = (s .0, s .1, i .0, s .3, i .3, part-room (same-room a b r) (omega arith) (omega arith)) }
+
+      pub behind-post : {r : ℕ} {ML MS : List ℕ} → ArgumentsPost L S K N Z W NL NS (p + 1) e f r ML MS → ArgumentsPost L S K N Z W OL OS p e t r ML MS
+      unfolding applyAll
+      behind-post {r} {ML} {MS} h =
+          record {
+            is = λ Q R ps g a.
+                let i = is-sequence a n k in
+                let v = asForest (at (meant W Q R) (getD N p 0)) in
+                let x = u .is Q R g (i .2) in
+                let y = h .is Q R (i .0) g (i .3) in
+                rw (i .1) (omega (arith, x .0, y .0, rows-of v (applyAll (meant W Q R) (i .0))), written-both v (applyAll (meant W Q R) (i .0)) (x .1) (x .0) (y .1));
+          }
+
+  -- a term first
+  module _ (n : p ≢ e) (k : getD K p 0 ≡ 2 → ⊥) where
+    pub first-pre : ArgumentsPre L S K N Z W OL OS p e t → TermPre L S K N Z W OL OS p t
+    unfolding applyAll rows
+    first-pre h =
+        let s = h .some in
+        let i = is-cons (s .4) n k in
+        let r = rw (i .2) at (s .5) in
+        record { some = (s .0, s .1, i .0, s .3, i .3, part-room r (omega arith) (omega arith)) }
+
+    pub first-falls : ArgumentsPre L S K N Z W OL OS p e t → (p + getD Z p 0 ≤ e) × (1 ≤ getD Z p 0)
+    first-falls h = let i = is-cons (h .some .4) n k in (i .4, term-row (i .3) .3)
+
+    module _ {f : ℕ} {NL NS : List ℕ} (u : TermPost L S K N Z W OL OS p t f NL NS) where
+      pub rest-pre : ArgumentsPre L S K N Z W OL OS p e t → length NL ≡ length OL → length NS ≡ length OS → ArgumentsPre L S K N Z W NL NS (p + getD Z p 0) e f
+      unfolding applyAll rows
+      rest-pre h a b =
+          let s = h .some in
+          let i = is-cons (s .4) n k in
+          let r = rw (i .2) at (s .5) in
+          let x = u .is (s .0) (s .1) (i .0) (s .3) (i .3) .0 in
+          record { some = (s .0, s .1, i .1, s .3, i .5, part-room (same-room a b r) (omega arith) (omega arith)) }
+
+      pub rest-post : {r : ℕ} {ML MS : List ℕ} → ArgumentsPost L S K N Z W NL NS (p + getD Z p 0) e f r ML MS → ArgumentsPost L S K N Z W OL OS p e t r ML MS
+      unfolding applyAll rows _⊕_
+      rest-post {r} {ML} {MS} h =
+          record {
+            is = λ Q R ps g a.
+                let i = is-cons a n k in
+                let T = apply (meant W Q R) (i .0) in
+                let x = u .is Q R (i .0) g (i .3) in
+                let y = h .is Q R (i .1) g (i .5) in
+                rw (i .2) (omega (arith, x .0, y .0), written-both (T ◂ none) (applyAll (meant W Q R) (i .1)) (x .1) (omega (arith, x .0)) (y .1));
+          }

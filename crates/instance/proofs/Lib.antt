@@ -1,0 +1,12 @@
+pub mod Writes
+pub mod Listing
+pub mod Above
+pub mod Filled
+pub mod Values
+pub mod Pieces
+pub mod Sums
+pub mod Rows
+pub mod Glue
+pub mod Cycle
+pub mod Whole
+pub mod Promises

@@ -1,0 +1,98 @@
+-- The promises: the contract settles the answer and both lists, and for the record of a matcher the instance is the tree.
+use Prim.Native.Nat.{ℕ, _<_, _≤_}
+use mathlib.Core.Path.{_≡_, refl, ap, ap₂, _∙_, sym}
+use mathlib.Core.Logic.{inl, inr}
+use mathlib.Core.List.{List, _++_}
+use lib.ListN.{length, drop}
+use native.Mathlib.Omega.{arith}
+use native.Mathlib.Decide.{ℕ-discrete}
+use Rattle.meaning.specs.Forest.{none, Term, _◂_, rows, size}
+use Rattle.meaning.specs.Pattern.{Pattern, Kind}
+use Rattle.meaning.specs.Value.{Value}
+use Rattle.meaning.specs.Apply.{apply}
+use Rattle.meaning.specs.Read.{readOff}
+use Rattle.meaning.specs.Matcher.{IsRecord}
+use Rattle.meaning.specs.Lowest.{accept}
+use Rattle.meaning.proofs.OneCode.{one-refuse, one-accept}
+use Rattle.meaning.proofs.Round.{round, round-good}
+use Rattle.tree.specs.Rows.{labels, sizes}
+use Rattle.tree.specs.Good.{GoodTree}
+use Rattle.tree.proofs.Unique.{good-lengths}
+use Rattle.pattern.specs.Good.{GoodPattern}
+use Rattle.instance.specs.declared.Made.{Made}
+use Rattle.instance.specs.declared.Made.the-variants.{Refused, Rows}
+use Rattle.instance.specs.Instance.{codeGiven, rowsGiven, Lists, Instance, Codes}
+use Rattle.instance.specs.Promises.{OneMaking, MatcherMade}
+use Rattle.instance.proofs.Whole.{one-instance}
+
+-- one code
+one-code : (l : Lists) (m n a b : ℕ) → Codes l m n a → Codes l m n b → a ≡ b
+one-code l m n a b =
+    one-refuse 11 _ _ a b λ a b. one-refuse 12 _ _ a b λ a b. one-refuse 15 _ _ a b λ a b. one-refuse 16 _ _ a b λ a b. one-refuse 17 _ accept a b one-accept
+
+-- the two numbers tell the answers apart, where an instance has rows
+one-number : (r s : Made) → codeGiven r ≡ codeGiven s → rowsGiven r ≡ rowsGiven s → (codeGiven r ≡ 0 → 0 < rowsGiven r) → r ≡ s
+one-number (Refused a) (Refused b) p q h = ap Refused p
+one-number (Refused a) (Rows n) p q h = absurd (omega (arith, h p))
+one-number (Rows m) (Refused b) p q h = absurd (omega (arith, h refl))
+one-number (Rows m) (Rows n) p q h = ap Rows q
+
+pub one-making : OneMaking
+one-making l OL OS r s NL NS XL XS x y = go (ℕ-discrete (codeGiven r) 0)
+  where
+    same : codeGiven r ≡ codeGiven s
+    same = one-code l (length OL) (length OS) (codeGiven r) (codeGiven s) (x .coded) (y .coded)
+
+    go : Dec (codeGiven r ≡ 0) → (r ≡ s) × (NL ≡ XL) × (NS ≡ XS)
+    go (yes e) =
+        let m = x .accepted e in
+        let n = y .accepted (sym same ∙ e) in
+        let i = one-instance (m .its) (n .its) in (
+          one-number r s same (m .answered ∙ ap size i ∙ sym (n .answered)) (λ _. omega (arith, m .answered)),
+          m .labelled ∙ ap (λ (U : Term). labels (U ◂ none) ++ drop (size U) OL) i ∙ sym (n .labelled),
+          m .sized ∙ ap (λ (U : Term). sizes (U ◂ none) ++ drop (size U) OS) i ∙ sym (n .sized),
+        )
+    go (no e) =
+        let m = x .refused e in
+        let n = y .refused (λ z. e (same ∙ z)) in
+        (one-number r s same (m .answered ∙ sym (n .answered)) (λ z. absurd (e z)), m .labelled ∙ sym (n .labelled), m .sized ∙ sym (n .sized))
+
+module _ (Allowed : ℕ → Value → Type 0) (allowed? : (x : ℕ) (v : Value) → Dec (Allowed x v)) {l : Lists} {T : Term} {P : Pattern} {Q : List Kind}
+    (t : GoodTree (l .label) (l .size) T) (p : GoodPattern (l .kind) (l .name) (l .patternSize) P Q) (m : IsRecord Allowed Q P T (l .numbers)) where
+  -- for the record of a matcher the instance is the tree
+  pub matcher-instance : Instance l T
+  matcher-instance =
+      let e = m .its in
+      let g = p .numbered in
+      record {
+        tree = T;
+        pattern = P;
+        kinds = Q;
+        goodTree = t;
+        goodPattern = p;
+        goodRecord = rw e at (round-good Allowed allowed? g (m .solves));
+        is = sym (ap (λ (r : List ℕ). apply (readOff Q (T ◂ none) r) P) (sym e) ∙ ap (λ (σ : List Value). apply σ P) (round Allowed allowed? g (m .solves)) ∙ m .solves .equal);
+      }
+
+-- a good record whose instance has few rows and fits is not refused
+accepted-code : {l : Lists} {U : Term} {m n : ℕ} → Instance l U → size U ≤ 2048 → size U ≤ m → size U ≤ n → (c : ℕ) → Codes l m n c → c ≡ 0
+accepted-code i h a b c (inl (x, _)) = absurd (x (i .tree, i .goodTree))
+accepted-code i h a b c (inr (_, inl (x, _))) = absurd (x (i .pattern, i .kinds, i .goodPattern))
+accepted-code i h a b c (inr (_, inr (_, inl (x, _)))) = absurd (x (i .tree, i .pattern, i .kinds, i .goodTree, i .goodPattern, i .goodRecord))
+accepted-code {U = U} i h a b c (inr (_, inr (_, inr (_, inl (x, _))))) = absurd (x (U, i, h))
+accepted-code {U = U} i h a b c (inr (_, inr (_, inr (_, inr (_, inl (x, _)))))) = absurd (x (U, i, a, b))
+accepted-code i h a b c (inr (_, inr (_, inr (_, inr (_, inr (_, e)))))) = e
+
+pub matcher-made : MatcherMade
+unfolding rows
+matcher-made Allowed allowed? l T P Q OL OS r NL NS t p m s a b =
+    let i = matcher-instance Allowed allowed? t p m in
+    let n = good-lengths t in
+    let z : size T ≡ length (l .label) = omega (arith, n .0) in
+    let e = accepted-code i (omega (arith, t .few)) (omega arith) (omega arith) (codeGiven r) (s .coded) in
+    let x = s .accepted e in
+    let u = one-instance (x .its) i in (
+      one-number r (Rows (length (l .label))) e (x .answered ∙ ap size u ∙ z) (λ _. omega (arith, x .answered)),
+      x .labelled ∙ ap (λ (U : Term). labels (U ◂ none) ++ drop (size U) OL) u ∙ ap₂ (λ (xs : List ℕ) (k : ℕ). xs ++ drop k OL) (sym (t .labelled)) z,
+      x .sized ∙ ap (λ (U : Term). sizes (U ◂ none) ++ drop (size U) OS) u ∙ ap₂ (λ (xs : List ℕ) (k : ℕ). xs ++ drop k OS) (sym (t .sized)) z,
+    )

@@ -1,0 +1,6 @@
+pub mod Instance
+pub mod Promises
+pub mod Places
+pub mod Pieces
+pub mod Cycle
+pub mod Counting
