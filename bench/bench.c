@@ -1,0 +1,526 @@
+// Times khargovsun_check beside expat, in one process, on generated documents of about 26 kB. README.md says what is measured.
+#include <expat.h>
+#include <stdarg.h>
+#include <stdint.h>
+#include <stdio.h>
+#include <stdlib.h>
+#include <string.h>
+#include <time.h>
+
+// What Rattle exports: a slice is a pointer and then a length.
+uint64_t khargovsun_check(const uint8_t *dictionary, size_t names, const uint8_t *document, size_t bytes);
+
+enum { TARGET = 26000, LIMIT = 32768, DEEPEST = 60, ROUNDS = 20, TURNS = 21 };
+
+// The names that a site with blocks would know. The check looks at them in every call, so they are part of its time.
+static const char DICTIONARY[] =
+    "project\nscript\nblock\ntype\nfield\nvalue\nnext\nstatement\nmutation\ncomment\nvariable\nvariables\nsprite\nstage\n"
+    "costume\nsound\nlist\nitem\nname\nid\nx\ny\nrepeat\nforever\nif\nelse\nmove\nturn\nsay\nthink\nwait\nbroadcast\n"
+    "receive\noperator\nadd\nsubtract\nmultiply\ndivide\nrandom\nless\nequal\ngreater\nand\nor\nnot\njoin\nletter\nlength\n";
+
+static void fail(const char *document, const char *why) {
+    fprintf(stderr, "bench: %s: %s\n", document, why);
+    exit(1);
+}
+
+// ---- Writing documents ----
+
+struct doc {
+    const char *name;
+    size_t length;
+    uint32_t random;
+    int depth;
+    struct { size_t at; int length; } open[64]; // where the names of the open elements stand
+    char bytes[LIMIT];
+    uint32_t rows;
+    double check_turns[TURNS], expat_turns[TURNS]; // seconds of each turn of this round
+    double check, expat;                           // seconds of the best round so far
+};
+
+// A fixed generator and fixed seeds: every machine measures the same documents.
+static unsigned any(struct doc *d, unsigned below) {
+    d->random ^= d->random << 13;
+    d->random ^= d->random >> 17;
+    d->random ^= d->random << 5;
+    return d->random % below;
+}
+
+static int more(const struct doc *d) { return d->length < TARGET; }
+
+__attribute__((format(printf, 2, 3)))
+static void put(struct doc *d, const char *format, ...) {
+    size_t room = LIMIT - d->length;
+    va_list rest;
+    va_start(rest, format);
+    int n = vsnprintf(d->bytes + d->length, room, format, rest);
+    va_end(rest);
+    if (n < 0 || (size_t)n >= room) fail(d->name, "over 32,768 bytes: a fault in bench.c");
+    d->length += (size_t)n;
+}
+
+static void fill(struct doc *d, int byte, int count) {
+    while (count-- > 0) put(d, "%c", byte);
+}
+
+static void open_tag(struct doc *d, const char *name) {
+    d->open[d->depth].at = d->length + 1;
+    d->open[d->depth].length = (int)strlen(name);
+    d->depth++;
+    put(d, "<%s>", name);
+}
+
+static void close_tag(struct doc *d) {
+    d->depth--;
+    put(d, "</%.*s>", d->open[d->depth].length, d->bytes + d->open[d->depth].at);
+}
+
+static void close_all(struct doc *d) {
+    while (d->depth > 0) close_tag(d);
+}
+
+static void leaf(struct doc *d, const char *name, const char *text) {
+    put(d, "<%s>%s</%s>", name, text, name);
+}
+
+static void indent(struct doc *d) {
+    put(d, "\n");
+    fill(d, ' ', 2 * d->depth);
+}
+
+static void prose(struct doc *d, int words) {
+    static const char *const WORD[] = {"the", "matcher", "of", "a", "tree", "goes", "from", "left", "to", "right,",
+                                       "and", "every", "sequence", "is", "tried", "once;", "nothing", "was", "guessed."};
+    while (words-- > 0) put(d, "%s ", WORD[any(d, sizeof WORD / sizeof *WORD)]);
+}
+
+// ---- The shapes. 2,048 rows on 26 kB means at least 13 bytes a row, hence no document of `<a/>` only. ----
+
+static void flat_short_text(struct doc *d) {
+    open_tag(d, "list");
+    while (more(d)) put(d, "<list-of-item>%c</list-of-item>", 'a' + any(d, 26));
+    close_all(d);
+}
+
+static void flat_medium_text(struct doc *d) {
+    open_tag(d, "list");
+    while (more(d)) {
+        put(d, "<item>");
+        prose(d, 4);
+        put(d, "</item>");
+    }
+    close_all(d);
+}
+
+static void long_text(struct doc *d) {
+    open_tag(d, "book");
+    while (more(d)) {
+        put(d, "<p>");
+        prose(d, 150);
+        put(d, "</p>");
+    }
+    close_all(d);
+}
+
+static void one_text(struct doc *d) {
+    open_tag(d, "text");
+    while (more(d)) prose(d, 10);
+    close_all(d);
+}
+
+static void text_in_lines(struct doc *d) {
+    open_tag(d, "text");
+    while (more(d)) {
+        prose(d, 12);
+        put(d, "\n");
+    }
+    close_all(d);
+}
+
+// Brackets and `>` in text: both sides have to watch for `]]>`.
+static void brackets(struct doc *d) {
+    open_tag(d, "code");
+    while (more(d)) put(d, "<line>a[b[%u]] > c[%u] ] ></line>", any(d, 1000), any(d, 10));
+    close_all(d);
+}
+
+static void numbers(struct doc *d) {
+    open_tag(d, "table");
+    while (more(d)) {
+        open_tag(d, "row");
+        for (int k = 0; k < 6; k++) put(d, "<quantity>%u.%02u</quantity>", any(d, 1000000), any(d, 100));
+        close_tag(d);
+    }
+    close_all(d);
+}
+
+static void deep_chains(struct doc *d) {
+    open_tag(d, "root");
+    while (more(d)) {
+        while (d->depth < DEEPEST) open_tag(d, "level");
+        while (d->depth > 1) close_tag(d);
+    }
+    close_all(d);
+}
+
+static void deep_with_text(struct doc *d) {
+    open_tag(d, "root");
+    while (more(d)) {
+        while (d->depth < DEEPEST - 1) {
+            open_tag(d, "statement");
+            prose(d, 2);
+        }
+        while (d->depth > 1) close_tag(d);
+    }
+    close_all(d);
+}
+
+static void up_and_down(struct doc *d) {
+    static const char *const NAME[] = {"statement", "repeat", "forever", "operator", "variable"};
+    open_tag(d, "script");
+    while (more(d)) {
+        if (d->depth < DEEPEST && (d->depth < 2 || any(d, 2))) open_tag(d, NAME[any(d, 5)]);
+        else close_tag(d);
+    }
+    close_all(d);
+}
+
+static void two_branches(struct doc *d, int levels) {
+    static const char *const SIDE[] = {"left-side", "right-side"};
+    if (levels == 0) return;
+    for (int k = 0; k < 2 && more(d); k++) {
+        open_tag(d, SIDE[k]);
+        two_branches(d, levels - 1);
+        close_tag(d);
+    }
+}
+
+static void binary_tree(struct doc *d) {
+    open_tag(d, "tree");
+    while (more(d)) two_branches(d, 9);
+    close_all(d);
+}
+
+static void many_names(struct doc *d) {
+    open_tag(d, "names");
+    for (int k = 0; more(d); k++) put(d, "<name%04d></name%04d>", k * 7919 % 10000, k * 7919 % 10000);
+    close_all(d);
+}
+
+static void named_by_size(struct doc *d, int shortest, int spread) {
+    char name[2048];
+    open_tag(d, "names");
+    while (more(d)) {
+        int size = shortest + (int)any(d, (unsigned)spread);
+        for (int k = 0; k < size; k++) name[k] = (char)('a' + any(d, 26));
+        name[size] = 0;
+        leaf(d, name, "long");
+    }
+    close_all(d);
+}
+
+static void long_names(struct doc *d) { named_by_size(d, 40, 40); }
+
+static void very_long_names(struct doc *d) { named_by_size(d, 800, 400); }
+
+static void names_with_marks(struct doc *d) {
+    open_tag(d, "x:names");
+    while (more(d)) put(d, "<x:_%u.a-%u/>", any(d, 100000), any(d, 100000));
+    close_all(d);
+}
+
+// Each name is the one around it and one more letter, so that an end name agrees up to its last byte.
+static void prefix_names(struct doc *d) {
+    char name[64];
+    open_tag(d, "n");
+    while (more(d)) {
+        for (int k = 2; k <= 30; k++) {
+            memset(name, 'n', (size_t)k);
+            name[k] = 0;
+            open_tag(d, name);
+        }
+        while (d->depth > 1) close_tag(d);
+    }
+    close_all(d);
+}
+
+static void white_between(struct doc *d) {
+    open_tag(d, "list");
+    while (more(d)) {
+        put(d, "\n\t\t  ");
+        fill(d, ' ', (int)any(d, 20));
+        put(d, "<item>\n\t</item>");
+    }
+    close_all(d);
+}
+
+static void much_white(struct doc *d) {
+    open_tag(d, "list");
+    while (more(d)) {
+        fill(d, ' ', 300);
+        put(d, "\n<item/>");
+    }
+    close_all(d);
+}
+
+static void white_in_tags(struct doc *d) {
+    open_tag(d, "list");
+    while (more(d)) put(d, "<variable \n\t>%u</variable   ><separator  />", any(d, 1000));
+    close_all(d);
+}
+
+static void empty_tags(struct doc *d) {
+    static const char *const NAME[] = {"placeholder", "horizontal-line", "page-break", "separator-1"};
+    open_tag(d, "page");
+    while (more(d)) put(d, "<%s/>", NAME[any(d, 4)]);
+    close_all(d);
+}
+
+static void empty_tags_white(struct doc *d) {
+    open_tag(d, "page");
+    while (more(d)) {
+        indent(d);
+        put(d, "    <line-break />");
+    }
+    close_all(d);
+}
+
+static void mixed_text(struct doc *d) {
+    open_tag(d, "page");
+    while (more(d)) {
+        put(d, "<p>");
+        for (int k = 0; k < 5; k++) {
+            prose(d, 7);
+            leaf(d, any(d, 2) ? "em" : "strong", "so it is");
+        }
+        put(d, "</p>\n");
+    }
+    close_all(d);
+}
+
+// A block as block editors store it, without attributes; `lines` says whether it is written one tag a line.
+static void block(struct doc *d, int lines, int levels) {
+    static const char *const TYPE[] = {"control_repeat", "motion_move", "looks_say", "data_set", "operator_add"};
+    open_tag(d, "block");
+    if (lines) indent(d);
+    leaf(d, "type", TYPE[any(d, 5)]);
+    if (lines) indent(d);
+    put(d, "<field><name>NUMBER_OF_STEPS_%u</name><value>%u</value></field>", any(d, 9), any(d, 10000));
+    if (levels > 0 && more(d)) {
+        if (lines) indent(d);
+        open_tag(d, any(d, 2) ? "statement" : "next");
+        if (lines) indent(d);
+        block(d, lines, levels - 1);
+        close_tag(d);
+    }
+    if (lines) indent(d);
+    close_tag(d);
+}
+
+static void project(struct doc *d, int lines) {
+    open_tag(d, "project");
+    while (more(d)) {
+        if (lines) indent(d);
+        open_tag(d, "script");
+        block(d, lines, 1 + (int)any(d, 12));
+        close_tag(d);
+    }
+    close_all(d);
+    put(d, "\n");
+}
+
+static void project_dense(struct doc *d) { project(d, 0); }
+
+static void project_in_lines(struct doc *d) { project(d, 1); }
+
+// No plan at all: what comes next is drawn each time.
+static void drawn(struct doc *d) {
+    static const char *const NAME[] = {"a", "block", "ab", "value-of-field", "x", "operator", "abc", "say"};
+    open_tag(d, "root");
+    while (more(d)) {
+        unsigned what = any(d, 8);
+        if (what < 2 && d->depth < DEEPEST) open_tag(d, NAME[any(d, 8)]);
+        else if (what < 4 && d->depth > 1) close_tag(d);
+        else if (what < 6) prose(d, 1 + (int)any(d, 9));
+        else if (what < 7) put(d, "<%s/>", NAME[any(d, 8)]);
+        else indent(d);
+    }
+    close_all(d);
+}
+
+static const struct { const char *name; void (*write)(struct doc *); } SHAPES[] = {
+    {"flat, short text", flat_short_text}, {"flat, medium text", flat_medium_text},
+    {"long text", long_text}, {"one text", one_text},
+    {"text in lines", text_in_lines}, {"brackets in text", brackets},
+    {"table of numbers", numbers}, {"chains 60 deep", deep_chains},
+    {"59 deep, with text", deep_with_text}, {"up and down to 60", up_and_down},
+    {"binary tree", binary_tree}, {"many names", many_names},
+    {"long names", long_names}, {"very long names", very_long_names},
+    {"names with : _ . -", names_with_marks}, {"names that are prefixes", prefix_names},
+    {"white between tags", white_between}, {"much white space", much_white},
+    {"white inside tags", white_in_tags}, {"empty tags", empty_tags},
+    {"empty tags, white", empty_tags_white}, {"mixed text", mixed_text},
+    {"block project, dense", project_dense}, {"block project, lines", project_in_lines},
+    {"drawn at random", drawn},
+};
+
+enum { DOCS = sizeof SHAPES / sizeof *SHAPES };
+
+// ---- The two sides ----
+
+static uint64_t check(const struct doc *d) {
+    return khargovsun_check((const uint8_t *)DICTIONARY, sizeof DICTIONARY - 1, (const uint8_t *)d->bytes, d->length);
+}
+
+struct count { size_t starts, ends, bytes, rows; int in_row; };
+
+static void XMLCALL on_start(void *to, const XML_Char *name, const XML_Char **attributes) {
+    (void)name, (void)attributes;
+    ((struct count *)to)->starts++;
+}
+
+static void XMLCALL on_end(void *to, const XML_Char *name) {
+    (void)name;
+    ((struct count *)to)->ends++;
+}
+
+static void XMLCALL on_text(void *to, const XML_Char *text, int length) {
+    (void)text;
+    ((struct count *)to)->bytes += (size_t)length;
+}
+
+// A reset forgets the handlers. The fixed salt spares expat a system call for each document.
+static void reset(XML_Parser parser, struct count *count) {
+    memset(count, 0, sizeof *count);
+    XML_ParserReset(parser, NULL);
+    XML_SetHashSalt(parser, 1);
+    XML_SetUserData(parser, count);
+    XML_SetElementHandler(parser, on_start, on_end);
+    XML_SetCharacterDataHandler(parser, on_text);
+}
+
+static int parse(XML_Parser parser, const struct doc *d) {
+    return XML_Parse(parser, d->bytes, (int)d->length, 1) == XML_STATUS_OK;
+}
+
+// ---- Do both accept, and do they see the same rows? Not timed. ----
+
+static void row_start(void *to, const XML_Char *name, const XML_Char **attributes) {
+    on_start(to, name, attributes);
+    ((struct count *)to)->rows++;
+    ((struct count *)to)->in_row = 0;
+}
+
+static void row_end(void *to, const XML_Char *name) {
+    on_end(to, name);
+    ((struct count *)to)->in_row = 0;
+}
+
+// expat gives a run in pieces: it is one row as soon as one piece is not white space only.
+static void row_text(void *to, const XML_Char *text, int length) {
+    struct count *count = to;
+    for (int k = 0; k < length && !count->in_row; k++) {
+        if (strchr(" \t\n", text[k])) continue;
+        count->rows++;
+        count->in_row = 1;
+    }
+}
+
+static void agree(XML_Parser parser, struct doc *d) {
+    struct count count;
+    uint64_t answer = check(d);
+    if (answer >> 32 != 0) {
+        fprintf(stderr, "bench: code %u, place %u\n", (unsigned)(answer >> 32), (unsigned)answer);
+        fail(d->name, "the check does not answer code 0");
+    }
+    reset(parser, &count);
+    XML_SetElementHandler(parser, row_start, row_end);
+    XML_SetCharacterDataHandler(parser, row_text);
+    if (!parse(parser, d)) fail(d->name, XML_ErrorString(XML_GetErrorCode(parser)));
+    if (count.rows != (uint32_t)answer) fail(d->name, "the two count different rows");
+    d->rows = (uint32_t)answer;
+}
+
+// ---- Timing ----
+
+static double now(void) {
+    struct timespec t;
+    clock_gettime(CLOCK_PROCESS_CPUTIME_ID, &t);
+    return (double)t.tv_sec + (double)t.tv_nsec * 1e-9;
+}
+
+static int by_size(const void *a, const void *b) {
+    double x = *(const double *)a, y = *(const double *)b;
+    return (x > y) - (x < y);
+}
+
+// A round counts by its middle turn: on a busy machine the clock now and then shows a single turn too short.
+static void keep_best(double *best, double *turns) {
+    qsort(turns, TURNS, sizeof *turns, by_size);
+    if (*best == 0 || turns[TURNS / 2] < *best) *best = turns[TURNS / 2];
+}
+
+static void time_check(struct doc *d, int turn) {
+    double from = now();
+    uint64_t answer = check(d);
+    d->check_turns[turn] = now() - from;
+    if (answer != d->rows) fail(d->name, "another answer than before");
+}
+
+static void time_expat(XML_Parser parser, struct doc *d, int turn) {
+    struct count count;
+    reset(parser, &count);
+    double from = now();
+    int accepted = parse(parser, d);
+    d->expat_turns[turn] = now() - from;
+    if (!accepted || count.starts != count.ends) fail(d->name, "expat gives another answer than before");
+}
+
+// All documents in turn, so that no branch predictor learns one by heart; who goes first changes with the turn.
+static void time_round(XML_Parser parser, struct doc *docs) {
+    for (int turn = 0; turn < TURNS; turn++) {
+        for (int k = 0; k < DOCS; k++) {
+            if (turn % 2) time_expat(parser, &docs[k], turn);
+            time_check(&docs[k], turn);
+            if (turn % 2 == 0) time_expat(parser, &docs[k], turn);
+        }
+    }
+    for (int k = 0; k < DOCS; k++) {
+        keep_best(&docs[k].check, docs[k].check_turns);
+        keep_best(&docs[k].expat, docs[k].expat_turns);
+    }
+}
+
+static void print_table(const struct doc *docs) {
+    double ratio[DOCS];
+    int met = 0;
+    printf("| document | bytes | rows | check, MB/s | expat, MB/s | ratio | at least 3 |\n|---|---|---|---|---|---|---|\n");
+    for (int k = 0; k < DOCS; k++) {
+        const struct doc *d = &docs[k];
+        double megabytes = (double)d->length * 1e-6;
+        ratio[k] = d->expat / d->check;
+        met += ratio[k] >= 3;
+        printf("| %s | %zu | %u | %.0f | %.0f | %.2f | %s |\n", d->name, d->length, d->rows, megabytes / d->check,
+               megabytes / d->expat, ratio[k], ratio[k] >= 3 ? "yes" : "no");
+    }
+    qsort(ratio, DOCS, sizeof *ratio, by_size);
+    printf("\nratio: lowest %.2f, middle %.2f, highest %.2f; at least 3 on %d of %d documents\n", ratio[0],
+           ratio[DOCS / 2], ratio[DOCS - 1], met, (int)DOCS);
+}
+
+int main(void) {
+    struct doc *docs = calloc(DOCS, sizeof *docs);
+    XML_Parser parser = XML_ParserCreate(NULL);
+    if (!docs || !parser) fail("start", "no memory");
+    for (int k = 0; k < DOCS; k++) {
+        docs[k].name = SHAPES[k].name;
+        docs[k].random = 2463534242u + (uint32_t)k;
+        SHAPES[k].write(&docs[k]);
+        agree(parser, &docs[k]);
+    }
+    for (int round = 0; round < ROUNDS; round++) time_round(parser, docs);
+    printf("%s, process CPU time, best of %d rounds of %d turns\n\n", XML_ExpatVersion(), ROUNDS, TURNS);
+    print_table(docs);
+    XML_ParserFree(parser);
+    free(docs);
+    return 0;
+}

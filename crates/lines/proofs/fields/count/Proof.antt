@@ -1,0 +1,50 @@
+use Prim.Native.Nat.{_≤_, _-_, _+_}
+use lib.ListN.{length}
+use borrow.Author.Needs.{needs}
+use Rattle.lines.proofs.fields.count.Statement.{statement}
+use Rattle.lines.proofs.fields.count.Tie as tie
+
+abbrev Inv-loop : tie.InvT-loop
+Inv-loop text separator fields₀ at₀ fields at = (at ≤ length text) × (fields ≤ at + 1)
+
+abbrev μ-loop : tie.MeasureT-loop
+μ-loop text separator fields₀ at₀ fields at = length text - at
+
+find-requires : tie.Need-find-requires Inv-loop μ-loop
+find-requires c κs = search needs
+
+loop-holds : tie.Need-loop-holds Inv-loop μ-loop
+loop-holds c = search needs
+
+add-fields : tie.Need-add-fields Inv-loop μ-loop
+add-fields c = search needs
+
+add-find : tie.Need-add-find Inv-loop μ-loop
+add-find c = search needs
+
+find-requires-2 : tie.Need-find-requires-2 Inv-loop μ-loop
+find-requires-2 c κs = search needs
+
+loop-less : tie.Need-loop-less Inv-loop μ-loop
+loop-less c = search needs
+
+loop-again : tie.Need-loop-again Inv-loop μ-loop
+loop-again c = search needs
+
+returns : tie.Need-returns Inv-loop μ-loop
+returns c = search needs
+
+pub count-spec : {M : Type 1} → statement M
+count-spec =
+    tie.close
+    (tie.spec
+    Inv-loop
+    μ-loop
+    find-requires
+    loop-holds
+    add-fields
+    add-find
+    find-requires-2
+    loop-less
+    loop-again
+    returns)
