@@ -2,3 +2,4 @@ pub mod Labelling
 pub mod Filling
 pub mod Answers
 pub mod Promises
+pub mod Lookup

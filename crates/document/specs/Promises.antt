@@ -6,6 +6,7 @@ use Prim.Native.Nat.{ℕ, _+_, _*_, _≤_, _<_}
 use lib.ListN.{length, getD, take, drop}
 use Rattle.tree.specs.Good.{Good}
 use Rattle.dictionary.specs.Labels.{labelsOf}
+use Rattle.dictionary.specs.Spelling.{SpellingAnswered}
 use Rattle.document.specs.Reading.{Read, shortest}
 use Rattle.document.specs.Checked.{Checked}
 
@@ -53,3 +54,11 @@ SpellingsInside =
     (d w label size start width label' size' start' width' : List ℕ) (place rows : ℕ) →
     Read d w label size start width label' size' start' width' 0 place rows →
     (names spellings : List (List ℕ)) × Spelt w label' start' width' rows names spellings
+
+-- the spelling lookup of a tree that was read gives a row the bytes that stand at its start and length in the document, also where the
+-- dictionary answers
+abbrev pub LookupIsRead : Type 0
+LookupIsRead =
+    (d w label size start width label' size' start' width' : List ℕ) (place rows row : ℕ) (bytes : List ℕ) →
+    Read d w label size start width label' size' start' width' 0 place rows → row < rows → SpellingAnswered d w label' start' width' row bytes →
+    bytes ≡ take (getD width' row 0) (drop (getD start' row 0) w)

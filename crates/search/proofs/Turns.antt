@@ -28,25 +28,25 @@ use Rattle.listing.proofs.Fill.{Filled, fill, rest, ahead}
 use Rattle.listing.proofs.Levels.{Level, Levels, levels-back, levels-need}
 use Rattle.listing.proofs.Loop.{Fixed, Stands, At, at-rest, at-back, all-done, at-spent, at-next, at-fail, at-need, at-match, no-room, room-left, need-deep}
 use Rattle.listing.proofs.Whole.{outcome, is-tame}
-use Rattle.lister.specs.Search.{Search, AttemptPre, AttemptPost, GoAsked, GoPre, GoPost}
-use Rattle.lister.specs.declared.Found.{Found}
-use Rattle.lister.proofs.Going.{few, Walked, Leveled, try-kind, try-answered}
+use Rattle.search.specs.Search.{Search, AttemptPre, AttemptPost, GoAsked, GoPre, GoPost}
+use Rattle.search.specs.declared.Found.{Found}
+use Rattle.search.proofs.Going.{few, Walked, Leveled, try-kind, try-answered}
 
 -- what the answer says of the walk
-said-fail : {R : List ℕ} {r : Res} → Answers R answer.Fail r → r ≡ fail
+pub said-fail : {R : List ℕ} {r : Res} → Answers R answer.Fail r → r ≡ fail
 said-fail fails = refl
 
-said-need : {R : List ℕ} {r : Res} (x s lo hi : ℕ) → Answers R (answer.Need x s lo hi) r → (B : List Entry) × (r ≡ need B s lo hi) × (length B ≡ x) × (take (x + x) R ≡ numbers B)
+pub said-need : {R : List ℕ} {r : Res} (x s lo hi : ℕ) → Answers R (answer.Need x s lo hi) r → (B : List Entry) × (r ≡ need B s lo hi) × (length B ≡ x) × (take (x + x) R ≡ numbers B)
 said-need x s lo hi (needs {B = B} l n) = (B, refl, l, n)
 
-said-done : {R : List ℕ} {r : Res} (n : ℕ) → Answers R (answer.Ok n) r → (B : List Entry) × (r ≡ ok B []) × (take (n + n) R ≡ numbers B) × (length B ≡ n)
+pub said-done : {R : List ℕ} {r : Res} (n : ℕ) → Answers R (answer.Ok n) r → (B : List Entry) × (r ≡ ok B []) × (take (n + n) R ≡ numbers B) × (length B ≡ n)
 said-done n (matches {B = B} l k) = (B, refl, k, l)
 
-numbers-double : (B : List Entry) → length (numbers B) ≡ length B + length B
+pub numbers-double : (B : List Entry) → length (numbers B) ≡ length B + length B
 numbers-double [] = refl
 numbers-double (e ∷ B) = omega (arith, numbers-double B)
 
-tree-small : {L S : List ℕ} {T : Term} → GoodTree L S T → size T ≤ 2048
+pub tree-small : {L S : List ℕ} {T : Term} → GoodTree L S T → size T ≤ 2048
 unfolding rows
 tree-small t = omega (arith, t .few, good-lengths t)
 

@@ -16,7 +16,7 @@ use Rattle.problem.specs.Judge.{JudgePre, JudgePost}
 use Rattle.walk.specs.Walked.{WalkPre, WalkPost, Problem}
 use Rattle.walk.specs.declared.Out.{Out}
 use Rattle.walk.specs.declared.Out.the-variants as out
-use Rattle.lister.specs.Search.{Search, AttemptPre, AttemptPost}
+use Rattle.search.specs.Search.{Search, AttemptPre, AttemptPost}
 
 module _ {L S M name first : List ℕ} {null : List Bool} {cont : List ℕ} {ends : List Bool} {C kinds R : List ℕ} {x s v : ℕ} (p : AttemptPre L S M name first null cont ends C kinds R x s v) where
   pub try-judged : JudgePre L S name first null cont ends C kinds x s v

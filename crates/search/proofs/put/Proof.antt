@@ -8,10 +8,10 @@ use borrow.Author.Needs.{needs}
 use borrow.Author.Tests.{eq-eqb, ne-eqb, le-leb, lt-leb}
 use lib.ListN.{length, getD, take, drop, set, length-set}
 use lib.Seq.{paste, paste-zero, paste-suc}
-use Rattle.lister.proofs.put.Statement.{statement}
-use Rattle.lister.proofs.put.Tie as tie
-use Rattle.lister.proofs.put.Reads as reads
-use Rattle.lister.proofs.put.Lts as lts
+use Rattle.search.proofs.put.Statement.{statement}
+use Rattle.search.proofs.put.Tie as tie
+use Rattle.search.proofs.put.Reads as reads
+use Rattle.search.proofs.put.Lts as lts
 
 abbrev Inv-loop : tie.InvT-loop
 Inv-loop out₀ at rec n j₀ out j = (out ≡ paste out₀ at rec j) × (j ≤ n) × (length out ≡ length out₀)

@@ -8,10 +8,10 @@ use borrow.Author.Needs.{needs}
 use borrow.Author.Tests.{eq-eqb, ne-eqb, le-leb, lt-leb}
 use lib.ListN.{length, getD, take, drop, set, length-set}
 use native.Mathlib.Decide.{decLe}
-use Rattle.lister.proofs.back.Statement.{statement}
-use Rattle.lister.proofs.back.Tie as tie
-use Rattle.lister.proofs.back.Reads as reads
-use Rattle.lister.proofs.back.Lts as lts
+use Rattle.search.proofs.back.Statement.{statement}
+use Rattle.search.proofs.back.Tie as tie
+use Rattle.search.proofs.back.Reads as reads
+use Rattle.search.proofs.back.Lts as lts
 
 pos-of-ne : {n : ℕ} → (n ≡ 0 → ⊥) → 0 < n
 pos-of-ne h = omega arith

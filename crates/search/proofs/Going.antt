@@ -33,8 +33,8 @@ use Rattle.listing.proofs.Given.{Chosen, given-cut}
 use Rattle.listing.proofs.Levels.{Level, level-kind, level-within, Levels, levels-back, levels-kept, levels-next, levels-set, levels-given, levels-need}
 use Rattle.listing.proofs.Loop.{Fixed, At, at-rest, at-back, all-done, at-spent, at-next, at-fail, at-need, at-match, no-room, room-left, need-deep}
 use Rattle.listing.proofs.Whole.{walked, outcome, is-tame}
-use Rattle.lister.specs.Search.{Search, AttemptPre, AttemptPost, GoAsked, GoPre, GoPost}
-use Rattle.lister.specs.declared.Found.{Found}
+use Rattle.search.specs.Search.{Search, AttemptPre, AttemptPost, GoAsked, GoPre, GoPost}
+use Rattle.search.specs.declared.Found.{Found}
 
 -- individual and function variables have no constraint
 unjudged : {es : List Expression} (k : Kind) {a b : ℕ} {c : Constraint} (v : Value) → weight k ≡ 0 → Pair es k a b c → Obeys c v
@@ -60,10 +60,10 @@ module _ {L S M name first : List ℕ} {null : List Bool} {cont : List ℕ} {end
   abbrev pub Walked : List ℕ → Outcome
   Walked = walked (Allowed cs) (allowed? cs) numbered T
 
-  individuals : (x : ℕ) (v : Value) → look Q x ≡ old anIndividual → Allowed cs x v
+  pub individuals : (x : ℕ) (v : Value) → look Q x ≡ old anIndividual → Allowed cs x v
   individuals x v e = unjudged anIndividual v refl (pair-at x (w .judging .given) e)
 
-  functions : (x : ℕ) (v : Value) → look Q x ≡ old aFunction → Allowed cs x v
+  pub functions : (x : ℕ) (v : Value) → look Q x ≡ old aFunction → Allowed cs x v
   functions x v e = unjudged aFunction v refl (pair-at x (w .judging .given) e)
 
   -- the levels below the depth

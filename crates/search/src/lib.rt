@@ -2,8 +2,8 @@ ghost use mathlib.Core.Path.{_≡_};
 ghost use Prim.Native.Nat.{_+_, _*_, _≤_, _<_};
 ghost use lib.ListN.{length};
 ghost use lib.Seq.{paste};
-ghost use Rattle.listing.proofs.Back.{BackTo, fitting};
-ghost use Rattle.lister.specs.Search.{AttemptPre, AttemptPost, GoPre, GoPost};
+ghost use Rattle.listing.proofs.Back.{BackTo};
+ghost use Rattle.search.specs.Search.{AttemptPre, AttemptPost, GoPre, GoPost};
 
 // What the search comes to: the ending, how many records were written, and the tries.
 pub struct Found {
@@ -13,7 +13,7 @@ pub struct Found {
 }
 
 // The first n numbers of the record go into out, from at on.
-fn put(out: &mut [u32], at: usize, record: &[u32; 32], n: usize)
+pub fn put(out: &mut [u32], at: usize, record: &[u32; 32], n: usize)
     requires { ⌜ (n ≤ 32) × (length (now «record») ≡ 32) × (at + n ≤ length (now out)) ⌝ }
     ensures { λ _. ⌜ now (out .exit) ≡ paste (now (out .entry)) at (now («record» .entry)) n ⌝ }
 {
@@ -37,13 +37,6 @@ fn back(lefts: &[usize; 16], depth: usize) -> usize
         d -= 1;
     }
     0
-}
-
-// How many records of a width fit into a list; where they have no numbers, the only one there can be.
-fn room_for(n: usize, width: usize) -> usize
-    ensures { λ r. ⌜ r ≡ fitting n width ⌝ }
-{
-    if width == 0 { 1 } else { n / width }
 }
 
 // One try: the variable x, which starts at the row s, takes the value v. The constraint is judged before the walk goes on.
@@ -87,7 +80,7 @@ fn attempt(
 }
 
 // The search from levels that stand after some choices: the last level's next value is tried, and what the walk finds is noted.
-fn go(
+pub fn go(
     label: &[u32],
     size: &[u32],
     pattern: &[u32],

@@ -1,15 +1,15 @@
 use Prim.Native.Nat.{_-_}
 use native.Mathlib.Omega.{arith}
 use mathlib.Core.Path.{refl}
-use Rattle.lister.proofs.Turns.{Going, going-start, going-depth, going-back, going-end, going-spent, attempt-asked, going-values, going-try, tried-fail, need-fits, tried-need, tried-full, put-asked, tried-match, tried-long, going-long, positive}
+use Rattle.search.proofs.Turns.{Going, going-start, going-depth, going-back, going-end, going-spent, attempt-asked, going-values, going-try, tried-fail, need-fits, tried-need, tried-full, put-asked, tried-match, tried-long, going-long, positive}
 use borrow.Author.Needs.{needs}
-use Rattle.lister.proofs.go.Statement.{statement}
-use Rattle.lister.proofs.go.Tie as tie
-use Rattle.lister.proofs.go.Reads as reads
-use Rattle.lister.proofs.go.Lts as lts
-use Rattle.lister.proofs.attempt.Reads as attempt-reads
-use Rattle.lister.proofs.back.Reads as back-reads
-use Rattle.lister.proofs.put.Reads as put-reads
+use Rattle.search.proofs.go.Statement.{statement}
+use Rattle.search.proofs.go.Tie as tie
+use Rattle.search.proofs.go.Reads as reads
+use Rattle.search.proofs.go.Lts as lts
+use Rattle.search.proofs.attempt.Reads as attempt-reads
+use Rattle.search.proofs.back.Reads as back-reads
+use Rattle.search.proofs.put.Reads as put-reads
 
 abbrev Inv-loop : tie.InvT-loop
 Inv-loop label size pattern name first null cont ends constraint kinds budget room width start out₀ record₀ variables₀ starts₀ nexts₀ lefts₀ depth₀ count₀ tries₀ out «record» variables starts nexts lefts depth count tries =

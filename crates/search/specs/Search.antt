@@ -24,7 +24,7 @@ use Rattle.walk.specs.declared.Out.the-variants as out
 use Rattle.listing.proofs.Fill.{fill, rest}
 use Rattle.listing.proofs.Levels.{Levels}
 use Rattle.listing.proofs.Whole.{walked}
-use Rattle.lister.specs.declared.Found.{Found}
+use Rattle.search.specs.declared.Found.{Found}
 
 -- the problem that is searched: the tree, the packed pattern, the constraints and the tables of the expressions
 pub record Search (L S M name first : List ℕ) (null : List Bool) (cont : List ℕ) (ends : List Bool) (C kinds : List ℕ) (T : Term) (P : Pattern) (Q : List Kind) (es : List Expression) (cs : List Constraint) : Type 0 where

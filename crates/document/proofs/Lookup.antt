@@ -1,0 +1,80 @@
+-- The spelling lookup of a tree that was read.
+use mathlib.Core.Path.{_≡_, refl, sym, ap, _∙_}
+use mathlib.Core.Bool.{Bool, true, false, cond, _&&_}
+use mathlib.Core.List.{List, [], _++_}
+use Prim.Native.Nat.{ℕ, _+_, _≤_, _<_}
+use native.Mathlib.Omega.{arith}
+use lib.Dec.{leb, ltb}
+use lib.ListN.{length, getD, take, drop, length-append, length-map}
+use lib.Seq.{getD-take}
+use borrow.Author.Tests.{ltb-true, lt-ltb, le-leb}
+use Rattle.tree.specs.Rows.{labels}
+use Rattle.grammar.specs.Grammar.{_⊲_}
+use Rattle.grammar.specs.Rows.{#, Row, rowsOf}
+use Rattle.rows.specs.Filled.{starts, lengths}
+use Rattle.dictionary.specs.Names.{GoodDictionary}
+use Rattle.dictionary.specs.Labels.{labelsOf, knownAfter}
+use Rattle.dictionary.specs.Spelling.{partOfDictionary, partOfDocument, spellingOf, bytesOf, SpellingAnswered}
+use Rattle.dictionary.proofs.Labels.{length-labels, label-spelling, known-at}
+use Rattle.dictionary.proofs.Parts.{name-bytes}
+use Rattle.document.specs.Labels.{spellingsOf, treeOf}
+use Rattle.document.specs.Reading.{Written, Read, badDictionary, badDocument, noRoom, filled}
+use Rattle.document.specs.Promises.{Spelt, LookupIsRead}
+use Rattle.document.proofs.Filling.{tree-labels}
+use Rattle.document.proofs.Promises.{spelt}
+
+module _ {d w label start width : List ℕ} {names spellings : List (List ℕ)} {rows row : ℕ} (g : GoodDictionary d names) (s : Spelt w label start width rows names spellings)
+    (l : row < rows) (in-label : row < length label) (in-start : row < length start) (in-width : row < length width) where
+  its-label : getD label row 0 ≡ getD (labelsOf names spellings) row 0
+  its-label = sym (getD-take rows label row 0 l) ∙ ap (λ (xs : List ℕ). getD xs row 0) (s .labelled)
+
+  -- where the dictionary answers
+  by-name : getD label row 0 < length names → bytesOf d w (partOfDictionary names (getD label row 0)) ≡ getD spellings row []
+  by-name p =
+      name-bytes d names g (getD label row 0) p w
+      ∙ sym (known-at names spellings (getD label row 0) p)
+      ∙ ap (λ (k : ℕ). getD (knownAfter names spellings) k []) its-label
+      ∙ label-spelling names spellings row (omega (arith, s .all))
+
+  -- where the document does
+  by-document : bytesOf d w (partOfDocument w (getD start row 0) (getD width row 0)) ≡ getD spellings row []
+  by-document = rw (le-leb (getD start row 0 + getD width row 0) (length w) (s .inside row l)) (s .bytes row l)
+
+  answered : bytesOf d w (spellingOf names w label start width row) ≡ getD spellings row []
+  unfolding spellingOf
+  answered =
+      rw (lt-ltb row (length label) in-label, lt-ltb row (length start) in-start, lt-ltb row (length width) in-width)
+      (either (ltb (getD label row 0) (length names)) refl)
+    where
+      either : (t : Bool) → ltb (getD label row 0) (length names) ≡ t →
+          bytesOf d w (cond t (partOfDictionary names (getD label row 0)) (partOfDocument w (getD start row 0) (getD width row 0))) ≡ getD spellings row []
+      either true e = by-name (ltb-true (getD label row 0) (length names) e)
+      either false e = by-document
+
+  pub looked-up : {bytes : List ℕ} → SpellingAnswered d w label start width row bytes → bytes ≡ take (getD width row 0) (drop (getD start row 0) w)
+  looked-up x =
+      x .bytes-are
+      ∙ ap (λ (ns : List (List ℕ)). bytesOf d w (spellingOf ns w label start width row)) (x .taken .good names g)
+      ∙ answered
+      ∙ sym (s .bytes row l)
+
+-- a list that begins with xs has the places of xs
+begun : {n row : ℕ} (xs before after : List ℕ) → after ≡ xs ++ drop (length xs) before → length xs ≡ n → row < n → row < length after
+begun xs before after e h l = omega (arith, ap length e, length-append xs (drop (length xs) before))
+
+pub lookup-is-read : LookupIsRead
+lookup-is-read d w _ _ _ _ _ _ _ _ p n row bytes r l x = go r refl l x
+  where
+    go : {label size start width label' size' start' width' : List ℕ} {c p n : ℕ} → Read d w label size start width label' size' start' width' c p n → c ≡ 0 → row < n →
+        SpellingAnswered d w label' start' width' row bytes → bytes ≡ take (getD width' row 0) (drop (getD start' row 0) w)
+    go (badDictionary h u) e l x = absurd (omega (arith, e))
+    go (badDocument g v z u) e l x = absurd (z e)
+    go (noRoom g v z u) e l x = absurd (omega (arith, e))
+    go {label} {size} {start} {width} {label'} {size'} {start'} {width'} (filled {names} {f} g v z y u) e l x =
+        let s = spelt g v y u in
+        let k : length (rowsOf f) ≡ _ = sym (length-map (rowsOf f) (λ (x : Row). x .spelling ⊲ [])) ∙ s .all in
+        looked-up g s l
+        (begun (labels (treeOf names f)) label label' (u .label-is) (ap length (tree-labels names f) ∙ length-labels names (spellingsOf f) ∙ s .all) l)
+        (begun (starts f) start start' (u .start-is) (length-map (rowsOf f) (λ (x : Row). x .start) ∙ k) l)
+        (begun (lengths f) width width' (u .width-is) (length-map (rowsOf f) (λ (x : Row). # (x .spelling)) ∙ k) l)
+        x
