@@ -10,7 +10,7 @@ pub fn section(line: &[u8], number: usize) -> &[u8] {
 }
 
 // What stands for a text that is no number below 2^32.
-const TOO_LARGE: usize = 4294967296;
+pub const TOO_LARGE: usize = 4294967296;
 
 // The place up to which numbers are filled where they cannot be: behind the end of any list, so that all that follows is refused too.
 const NOWHERE: usize = 18446744073709551615;
@@ -36,7 +36,7 @@ fn appended(value: usize, digit: u8) -> usize {
     value * 10 + (digit - b'0') as usize
 }
 
-fn number(digits: &[u8]) -> usize {
+pub fn number(digits: &[u8]) -> usize {
     if digits.len() == 0 {
         return TOO_LARGE;
     }
