@@ -1,0 +1,93 @@
+use native.Mathlib.Omega.{arith}
+use mathlib.Core.Path.{refl}
+use lib.ListN.{replicate}
+use Rattle.lister.proofs.Begun.{first-asked, walked-long, begun-fail, begun-full, begun-put, begun-done, need-fits, go-asked, begun-need}
+use borrow.Author.Needs.{needs}
+use Rattle.lister.proofs.begin.Statement.{statement}
+use Rattle.lister.proofs.begin.Tie as tie
+use Rattle.lister.proofs.begin.Reads as reads
+use Rattle.lister.proofs.begin.Lts as lts
+use Rattle.search.proofs.go.Reads as go-reads
+use Rattle.search.proofs.put.Reads as put-reads
+use Rattle.walk.proofs.walk.Reads as walk-reads
+
+slice-aggregate-walk : tie.Need-slice-aggregate-walk
+slice-aggregate-walk c = search needs
+
+walk-requires : tie.Need-walk-requires
+walk-requires c κs = first-asked _ _ _ _ _ _ _ _ _ _ 0 _ _ _ (c .before .before .before .before .before .before .pre) refl
+
+enum-told : tie.Need-enum-told
+enum-told c = search needs
+
+enum-known-x : tie.Need-enum-known-x
+enum-known-x c = search needs
+
+array-write-variables : tie.Need-array-write-variables
+array-write-variables c = search needs
+
+array-write-starts : tie.Need-array-write-starts
+array-write-starts c = search needs
+
+array-write-nexts : tie.Need-array-write-nexts
+array-write-nexts c = search needs
+
+add-lefts : tie.Need-add-lefts
+add-lefts c = omega (arith, need-fits _ _ _ _ _ _ _ _ _ _ 0 _ _ _ refl (c .before .before .before .before .walk .ensures) (c .before .x .given .1) (c .before .before .before .before .before .before .before .before .before .before .before .pre))
+
+sub-lefts : tie.Need-sub-lefts
+sub-lefts c = omega (arith, need-fits _ _ _ _ _ _ _ _ _ _ 0 _ _ _ refl (c .before .before .before .before .walk .ensures) (c .before .x .given .1) (c .before .before .before .before .before .before .before .before .before .before .before .pre))
+
+array-write-lefts : tie.Need-array-write-lefts
+array-write-lefts c = search needs
+
+go-requires : tie.Need-go-requires
+go-requires c κs = go-asked _ _ _ _ _ _ _ _ _ _ 0 _ _ _ refl (c .before .before .before .before .before .walk .ensures) (c .before .before .x .given .1) (replicate 16 0) (replicate 16 0) (replicate 16 0) (replicate 16 0) (replicate 16 0) refl refl refl refl refl (c .before .before .before .before .before .before .before .before .before .before .before .before .pre)
+
+enum-told-2 : tie.Need-enum-told-2
+enum-told-2 c = search needs
+
+returns : tie.Need-returns
+returns c = begun-full _ _ _ _ _ _ _ _ _ _ _ _ _ _ refl (c .before .before .before .before .walk .ensures) (c .before .enum-told2 .given .1) (c .if1 .taken)
+
+put-requires : tie.Need-put-requires
+put-requires c κs = let p = begun-put _ _ _ _ _ _ _ _ _ _ 0 _ _ _ refl (c .before .before .before .before .before .before .walk .ensures) (c .before .before .before .enum-told2 .given .1) (c .before .before .before .before .before .before .before .before .before .before .before .before .before .pre) (c .before .before .if1 .left) in (p .0, walked-long _ _ _ _ _ _ _ _ _ _ 0 _ _ _ refl (c .before .before .before .before .before .before .walk .ensures) (c .before .before .before .before .before .before .before .before .before .before .before .before .before .pre), p .1)
+
+returns-2 : tie.Need-returns-2
+returns-2 c = begun-fail _ _ _ _ _ _ _ _ _ _ _ _ _ _ refl (c .before .before .before .walk .ensures) (c .enum-told .given .1)
+
+same-length : tie.Need-same-length
+same-length c = search needs
+
+returns-3 : tie.Need-returns-3
+returns-3 c = begun-need _ _ _ _ _ _ _ _ _ _ _ _ _ _ refl (c .before .before .before .before .before .before .before .before .walk .ensures) (c .before .before .before .before .before .x .given .1) (replicate 16 0) (replicate 16 0) (replicate 16 0) (replicate 16 0) (replicate 16 0) refl refl refl refl refl (c .before .before .before .before .before .before .before .before .before .before .before .before .before .before .before .pre) (c .before .before .go .ensures)
+
+same-length-2 : tie.Need-same-length-2
+same-length-2 c = search needs
+
+returns-4 : tie.Need-returns-4
+returns-4 c = rw (c .before .before .put .ensures) (begun-done _ _ _ _ _ _ _ _ _ _ _ _ _ _ refl (c .before .before .before .before .before .before .before .before .before .walk .ensures) (c .before .before .before .before .before .before .enum-told2 .given .1) (c .before .before .before .before .before .if1 .left))
+
+pub begin-spec : {M : Type 1} → statement M
+begin-spec =
+    tie.close
+    (tie.spec
+    slice-aggregate-walk
+    walk-requires
+    enum-told
+    enum-known-x
+    array-write-variables
+    array-write-starts
+    array-write-nexts
+    add-lefts
+    sub-lefts
+    array-write-lefts
+    go-requires
+    enum-told-2
+    returns
+    put-requires
+    returns-2
+    same-length
+    returns-3
+    same-length-2
+    returns-4)

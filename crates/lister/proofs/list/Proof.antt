@@ -1,0 +1,63 @@
+use native.Mathlib.Omega.{arith}
+use mathlib.Core.Path.{refl}
+use mathlib.Core.List.{[]}
+use Rattle.lister.proofs.Whole.{list-refused, tables-asked, pack-asked, few-variables, begin-asked, list-done}
+use borrow.Author.Needs.{needs}
+use Rattle.lister.proofs.list.Statement.{statement}
+use Rattle.lister.proofs.list.Tie as tie
+use Rattle.lister.proofs.list.Reads as reads
+use Rattle.lister.proofs.list.Lts as lts
+use Rattle.letters.proofs.tables_of.Reads as tables-of-reads
+use Rattle.lister.proofs.begin.Reads as begin-reads
+use Rattle.lister.proofs.room_for.Reads as room-for-reads
+use Rattle.problem.proofs.check.Reads as check-reads
+use Rattle.walk.proofs.pack.Reads as pack-reads
+
+check-requires : tie.Need-check-requires
+check-requires c κs = search needs
+
+returns : tie.Need-returns
+returns c = list-refused _ (c .before .check .ensures) _ _ (c .if1 .taken)
+
+tables-of-requires : tie.Need-tables-of-requires
+tables-of-requires c κs = tables-asked _ (c .before .before .check .ensures) 0 [] (c .before .if1 .left)
+
+slice-aggregate-pack : tie.Need-slice-aggregate-pack
+slice-aggregate-pack c = search needs
+
+pack-requires : tie.Need-pack-requires
+pack-requires c κs = pack-asked _ (c .before .before .before .before .before .before .before .before .before .check .ensures) 0 [] (c .before .before .before .before .before .before .before .before .if1 .left) refl
+
+add-width : tie.Need-add-width
+add-width c = omega (arith, few-variables _ (c .before .before .before .before .before .before .before .before .before .before .before .check .ensures) 0 [] (c .before .before .before .before .before .before .before .before .before .before .if1 .left))
+
+room-for-requires : tie.Need-room-for-requires
+room-for-requires c κs = search needs
+
+slice-aggregate-begin : tie.Need-slice-aggregate-begin
+slice-aggregate-begin c = search needs
+
+begin-requires : tie.Need-begin-requires
+begin-requires c κs = begin-asked _ (c .before .before .before .before .before .before .before .before .before .before .before .before .before .before .before .before .before .before .before .before .check .ensures) 0 _ (c .before .before .before .before .before .before .before .before .before .before .before .before .before .before .before .before .before .before .before .if1 .left) (c .before .before .before .before .before .before .before .before .before .before .before .before .before .before .before .before .before .tables-of .ensures) (c .before .before .before .before .before .before .before .before .before .before .pack .ensures) refl (c .before .before .before .before .before .before .before .before .room-for .ensures)
+
+same-length : tie.Need-same-length
+same-length c = search needs
+
+returns-2 : tie.Need-returns-2
+returns-2 c = list-done _ (c .before .before .before .before .before .before .before .before .before .before .before .before .before .before .before .before .before .before .before .before .before .before .before .check .ensures) _ _ (c .before .before .before .before .before .before .before .before .before .before .before .before .before .before .before .before .before .before .before .before .before .before .if1 .left) (c .before .before .before .before .before .before .before .before .before .before .before .before .before .before .before .before .before .before .before .before .tables-of .ensures) (c .before .before .before .before .before .before .before .before .before .before .before .before .before .pack .ensures) refl (c .before .before .before .before .before .before .before .before .before .before .before .room-for .ensures) (c .before .before .begin .ensures)
+
+pub list-spec : {M : Type 1} → statement M
+list-spec =
+    tie.close
+    (tie.spec
+    check-requires
+    returns
+    tables-of-requires
+    slice-aggregate-pack
+    pack-requires
+    add-width
+    room-for-requires
+    slice-aggregate-begin
+    begin-requires
+    same-length
+    returns-2)

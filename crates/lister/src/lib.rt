@@ -1,0 +1,182 @@
+// The lister of matchers: checks the problem, and lists every matcher once, in order, as far as room and budget go.
+ghost use mathlib.Core.Path.{_≡_};
+ghost use Prim.Native.Nat.{_+_, _*_, _≤_, _<_};
+ghost use lib.ListN.{length};
+ghost use Rattle.listing.proofs.Back.{fitting};
+ghost use Rattle.lister.specs.Begun.{BeginPre, BeginPost};
+ghost use Rattle.lister.specs.Listed.{Settled};
+use search::Found;
+
+// What the lister answers; all but the code are 0 in a refusal.
+pub struct Listed {
+    pub code: u32,
+    pub ending: u32,
+    pub records: usize,
+    pub tries: u32,
+}
+
+// How many records of a width fit into a list; where they have no numbers, the only one there can be.
+fn room_for(n: usize, width: usize) -> usize
+    ensures { λ r. ⌜ r ≡ fitting n width ⌝ }
+{
+    if width == 0 { 1 } else { n / width }
+}
+
+// The search from its first walk on, before any choice.
+fn begin(
+    label: &[u32],
+    size: &[u32],
+    pattern: &[u32],
+    name: &[u32; 64],
+    first: &[u64; 64],
+    null: &[bool; 64],
+    cont: &[u64; 64],
+    ends: &[bool; 64],
+    constraint: &[u32],
+    kinds: &[u32; 16],
+    budget: u32,
+    room: usize,
+    width: usize,
+    out: &mut [u32],
+) -> Found
+    requires { ⌜ BeginPre (now label) (now size) (now pattern) (now name) (now first) (now null) (now cont) (now ends) (now constraint) (now kinds) room width (now out) ⌝ }
+    ensures { λ r. ⌜ BeginPost (now (label .entry)) (now (size .entry)) (now (pattern .entry)) (now (name .entry)) (now (first .entry)) (now (null .entry)) (now (cont .entry)) (now (ends .entry)) (now (constraint .entry)) (now (kinds .entry)) budget room width (now (out .entry)) r (now (out .exit)) ⌝ }
+{
+    let mut record = [0u32; 32];
+    match walk::walk(label, size, pattern, &mut record, 0) {
+        walk::Out::Fail => Found {
+            ending: 0,
+            records: 0,
+            tries: 0,
+        },
+        walk::Out::Need(x, s, lo, hi) => {
+            let mut variables = [0usize; 16];
+            let mut starts = [0usize; 16];
+            let mut nexts = [0usize; 16];
+            let mut lefts = [0usize; 16];
+            variables[0] = x;
+            starts[0] = s;
+            nexts[0] = lo;
+            lefts[0] = hi + 1 - lo;
+            search::go(
+                label,
+                size,
+                pattern,
+                name,
+                first,
+                null,
+                cont,
+                ends,
+                constraint,
+                kinds,
+                budget,
+                room,
+                width,
+                record,
+                variables,
+                starts,
+                nexts,
+                lefts,
+                1,
+                out,
+            )
+        }
+        walk::Out::Ok(_) => {
+            if room == 0 {
+                return Found {
+                    ending: 1,
+                    records: 0,
+                    tries: 0,
+                };
+            }
+            search::put(out, 0, &record, width);
+            Found {
+                ending: 0,
+                records: 1,
+                tries: 0,
+            }
+        }
+    }
+}
+
+// Lists the matchers' records one after another into out, as many as room and budget allow.
+pub fn list(
+    label: &[u32],
+    size: &[u32],
+    kind: &[u32],
+    name: &[u32],
+    pattern_size: &[u32],
+    expression_kind: &[u32],
+    expression_name: &[u32],
+    expression_size: &[u32],
+    constraint: &[u32],
+    budget: u32,
+    out: &mut [u32],
+) -> Listed
+    ensures { λ r. ⌜ Settled (record {
+      label = now (label .entry);
+      size = now (size .entry);
+      kind = now (kind .entry);
+      name = now (name .entry);
+      patternSize = now («pattern_size» .entry);
+      expressionKind = now («expression_kind» .entry);
+      expressionName = now («expression_name» .entry);
+      expressionSize = now («expression_size» .entry);
+      constraint = now (constraint .entry);
+    }) budget (now (out .entry)) r (now (out .exit)) ⌝ }
+{
+    let p = problem::check(
+        label,
+        size,
+        kind,
+        name,
+        pattern_size,
+        expression_kind,
+        expression_name,
+        expression_size,
+        constraint,
+    );
+    let code = p.code;
+    if code != 0 {
+        return Listed {
+            code,
+            ending: 0,
+            records: 0,
+            tries: 0,
+        };
+    }
+    let kinds = p.kinds;
+    let variables = p.variables;
+    let tables = letters::tables_of(expression_kind, expression_name, expression_size);
+    let letter = tables.name;
+    let first = tables.first;
+    let null = tables.null;
+    let cont = tables.cont;
+    let ends = tables.ends;
+    let mut packed = [0u32; 768];
+    walk::pack(kind, name, pattern_size, &mut packed);
+    let width = variables + variables;
+    let room = room_for(out.len(), width);
+    let found = begin(
+        label,
+        size,
+        &packed,
+        &letter,
+        &first,
+        &null,
+        &cont,
+        &ends,
+        constraint,
+        &kinds,
+        budget,
+        room,
+        width,
+        out,
+    );
+    Listed {
+        code: 0,
+        ending: found.ending,
+        records: found.records,
+        tries: found.tries,
+    }
+}
