@@ -93,6 +93,12 @@ static void prose(struct doc *d, int words) {
     while (words-- > 0) put(d, "%s ", WORD[any(d, sizeof WORD / sizeof *WORD)]);
 }
 
+static void prose_in(struct doc *d, const char *name, int words) {
+    put(d, "<%s>", name);
+    prose(d, words);
+    put(d, "</%s>", name);
+}
+
 // ---- The shapes. 2,048 rows on 26 kB means at least 13 bytes a row, hence no document of `<a/>` only. ----
 
 static void flat_short_text(struct doc *d) {
@@ -103,21 +109,13 @@ static void flat_short_text(struct doc *d) {
 
 static void flat_medium_text(struct doc *d) {
     open_tag(d, "list");
-    while (more(d)) {
-        put(d, "<item>");
-        prose(d, 4);
-        put(d, "</item>");
-    }
+    while (more(d)) prose_in(d, "item", 4);
     close_all(d);
 }
 
 static void long_text(struct doc *d) {
     open_tag(d, "book");
-    while (more(d)) {
-        put(d, "<p>");
-        prose(d, 150);
-        put(d, "</p>");
-    }
+    while (more(d)) prose_in(d, "p", 150);
     close_all(d);
 }
 
