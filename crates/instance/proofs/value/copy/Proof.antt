@@ -7,8 +7,8 @@ use native.Mathlib.Omega.{arith}
 use borrow.Author.Needs.{needs}
 use Rattle.instance.specs.Places.{along, number}
 use Rattle.instance.proofs.Writes.{sets-more}
-use Rattle.instance.proofs.copy.Statement.{statement}
-use Rattle.instance.proofs.copy.Tie as tie
+use Rattle.instance.proofs.value.copy.Statement.{statement}
+use Rattle.instance.proofs.value.copy.Tie as tie
 
 abbrev Inv-loop : tie.InvT-loop
 Inv-loop list from count out₀ to i₀ out i = (i ≤ count) × (length out ≡ length out₀) × (out ≡ sets out₀ to (along (number list) from i))

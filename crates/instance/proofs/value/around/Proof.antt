@@ -7,8 +7,8 @@ use lib.ListN.{getD}
 use mathlib.Core.List.{List}
 use mathlib.Core.Path.{ap, _∙_}
 use borrow.Author.Needs.{needs}
-use Rattle.instance.proofs.around.Statement.{statement}
-use Rattle.instance.proofs.around.Tie as tie
+use Rattle.instance.proofs.value.around.Statement.{statement}
+use Rattle.instance.proofs.value.around.Tie as tie
 
 sub-left : tie.Need-sub-left
 sub-left c = c .before .before .before .before .pre .low

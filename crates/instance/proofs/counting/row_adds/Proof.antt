@@ -1,8 +1,8 @@
 use Rattle.instance.proofs.Rows.{adds-symbol, adds-function-row, reads-variable, individual-row, adds-individual-row, past-row, sequence-row, adds-sequence-row, context-row, adds-context-row}
 use native.Mathlib.Omega.{arith}
 use borrow.Author.Needs.{needs}
-use Rattle.instance.proofs.row_adds.Statement.{statement}
-use Rattle.instance.proofs.row_adds.Tie as tie
+use Rattle.instance.proofs.counting.row_adds.Statement.{statement}
+use Rattle.instance.proofs.counting.row_adds.Tie as tie
 
 mul-k : tie.Need-mul-k
 mul-k c = search needs

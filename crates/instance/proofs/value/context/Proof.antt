@@ -1,8 +1,8 @@
 use Rattle.instance.proofs.Pieces.{context-reads, context-fits, context-made}
 use native.Mathlib.Omega.{arith}
 use borrow.Author.Needs.{needs}
-use Rattle.instance.proofs.context.Statement.{statement}
-use Rattle.instance.proofs.context.Tie as tie
+use Rattle.instance.proofs.value.context.Statement.{statement}
+use Rattle.instance.proofs.value.context.Tie as tie
 
 add-at : tie.Need-add-at
 add-at c = search needs

@@ -1,8 +1,8 @@
 use Rattle.instance.proofs.Pieces.{individual-fits, individual-made}
 use native.Mathlib.Omega.{arith}
 use borrow.Author.Needs.{needs}
-use Rattle.instance.proofs.individual.Statement.{statement}
-use Rattle.instance.proofs.individual.Tie as tie
+use Rattle.instance.proofs.value.individual.Statement.{statement}
+use Rattle.instance.proofs.value.individual.Tie as tie
 
 add-at : tie.Need-add-at
 add-at c = search needs

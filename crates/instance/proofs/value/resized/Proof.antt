@@ -2,8 +2,8 @@ use mathlib.Core.Path.{sym}
 use native.Mathlib.Omega.{arith}
 use borrow.Author.Needs.{needs}
 use Rattle.instance.proofs.Above.{resized-above, resized-beside}
-use Rattle.instance.proofs.resized.Statement.{statement}
-use Rattle.instance.proofs.resized.Tie as tie
+use Rattle.instance.proofs.value.resized.Statement.{statement}
+use Rattle.instance.proofs.value.resized.Tie as tie
 
 at-requires : tie.Need-at-requires
 at-requires c κs = search needs

@@ -2,8 +2,8 @@ use Rattle.instance.proofs.Pieces.{sequence-fits, sequence-made}
 use Rattle.instance.proofs.Values.{its, sequence-pre}
 use native.Mathlib.Omega.{arith}
 use borrow.Author.Needs.{needs}
-use Rattle.instance.proofs.sequence.Statement.{statement}
-use Rattle.instance.proofs.sequence.Tie as tie
+use Rattle.instance.proofs.value.sequence.Statement.{statement}
+use Rattle.instance.proofs.value.sequence.Tie as tie
 
 add-at : tie.Need-add-at
 add-at c = search needs

@@ -7,21 +7,21 @@ use mathlib.Core.Path.{_∙_}
 use Prim.Native.Nat.{ℕ, _<_}
 use borrow.Fn.Kinds.{In}
 use borrow.Fn.PlainCycle.{Measures, is, falls, and}
-use Rattle.instance.proofs.arguments.Reads as arguments
-use Rattle.instance.proofs.arguments.Kinds as arguments-kinds
-use Rattle.instance.proofs.+arguments+term.Lts-arguments as arguments-lts
-use Rattle.instance.proofs.term.Reads as term
-use Rattle.instance.proofs.term.Kinds as term-kinds
-use Rattle.instance.proofs.+arguments+term.Lts-term as term-lts
-use Rattle.instance.proofs.context.Reads as context-reads
-use Rattle.instance.proofs.filling.Reads as filling-reads
-use Rattle.instance.proofs.head.Reads as head-reads
-use Rattle.instance.proofs.individual.Reads as individual-reads
-use Rattle.instance.proofs.sequence.Reads as sequence-reads
+use Rattle.instance.proofs.write.arguments.Reads as arguments
+use Rattle.instance.proofs.write.arguments.Kinds as arguments-kinds
+use Rattle.instance.proofs.write.+arguments+term.Lts-arguments as arguments-lts
+use Rattle.instance.proofs.write.term.Reads as term
+use Rattle.instance.proofs.write.term.Kinds as term-kinds
+use Rattle.instance.proofs.write.+arguments+term.Lts-term as term-lts
+use Rattle.instance.proofs.value.context.Reads as context-reads
+use Rattle.instance.proofs.value.filling.Reads as filling-reads
+use Rattle.instance.proofs.value.head.Reads as head-reads
+use Rattle.instance.proofs.value.individual.Reads as individual-reads
+use Rattle.instance.proofs.value.sequence.Reads as sequence-reads
 use Rattle.tree.proofs.at.Reads as at-reads
 use Rattle.tree.proofs.next.Reads as next-reads
-use Rattle.instance.proofs.+arguments+term.{statement}
-use Rattle.instance.proofs.+arguments+term.Tie.{close}
+use Rattle.instance.proofs.write.+arguments+term.{statement}
+use Rattle.instance.proofs.write.+arguments+term.Tie.{close}
 
 abbrev μ-arguments : Measures 8 arguments-kinds.ps ℕ
 μ-arguments κs a = 2 * (a .1 .1 .1 .1 .1 .1 .1 .0 - a .1 .1 .1 .1 .1 .1 .0) + 1

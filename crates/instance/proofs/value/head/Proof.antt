@@ -2,8 +2,8 @@ use Rattle.instance.proofs.Pieces.{symbol-made, function-fits, function
 use native.Mathlib.Omega.{arith}
 use mathlib.Core.Path.{refl}
 use borrow.Author.Needs.{needs}
-use Rattle.instance.proofs.head.Statement.{statement}
-use Rattle.instance.proofs.head.Tie as tie
+use Rattle.instance.proofs.value.head.Statement.{statement}
+use Rattle.instance.proofs.value.head.Tie as tie
 
 sub-out-size : tie.Need-sub-out-size
 sub-out-size c = search needs

@@ -7,8 +7,8 @@ use native.Mathlib.Omega.{arith}
 use borrow.Author.Needs.{needs}
 use Rattle.instance.specs.Places.{along, resized}
 use Rattle.instance.proofs.Writes.{sets-more}
-use Rattle.instance.proofs.copy_above.Statement.{statement}
-use Rattle.instance.proofs.copy_above.Tie as tie
+use Rattle.instance.proofs.value.copy_above.Statement.{statement}
+use Rattle.instance.proofs.value.copy_above.Tie as tie
 
 abbrev Inv-loop : tie.InvT-loop
 Inv-loop size from count hole taken filled out₀ to i₀ out i = (i ≤ count) × (length out ≡ length out₀) × (out ≡ sets out₀ to (along (resized size hole taken filled) from i))

@@ -3,8 +3,8 @@ use lib.ListN.{length}
 use native.Mathlib.Omega.{arith}
 use Prim.Native.Nat.{_-_}
 use borrow.Author.Needs.{needs}
-use Rattle.instance.proofs.rows_of.Statement.{statement}
-use Rattle.instance.proofs.rows_of.Tie as tie
+use Rattle.instance.proofs.counting.rows_of.Statement.{statement}
+use Rattle.instance.proofs.counting.rows_of.Tie as tie
 
 abbrev Inv-loop : tie.InvT-loop
 Inv-loop size kind name «record» rows₀ row₀ rows row = Summed size kind name «record» row rows

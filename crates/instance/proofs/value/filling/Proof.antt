@@ -1,8 +1,8 @@
 use Rattle.instance.proofs.Pieces.{filling-fits, filling-is}
 use native.Mathlib.Omega.{arith}
 use borrow.Author.Needs.{needs}
-use Rattle.instance.proofs.filling.Statement.{statement}
-use Rattle.instance.proofs.filling.Tie as tie
+use Rattle.instance.proofs.value.filling.Statement.{statement}
+use Rattle.instance.proofs.value.filling.Tie as tie
 
 add-at : tie.Need-add-at
 add-at c = search needs
