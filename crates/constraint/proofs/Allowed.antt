@@ -11,7 +11,7 @@ use Rattle.constraint.specs.Obeys.{Constraint, free, bound, Obeys, given
 use Rattle.constraint.proofs.Decide.{when?}
 use Rattle.constraint.proofs.Language.{in?}
 
-flagged? : (flag : ℕ) (w : List ℕ) → Dec (flag ≡ 1 → w ≡ [] → ⊥)
+unfoldable pub flagged? : (flag : ℕ) (w : List ℕ) → Dec (flag ≡ 1 → w ≡ [] → ⊥)
 flagged? flag (c ∷ w) = yes (λ _ e. let z : _≡_ {A = ℕ} 0 1 = cc in omega arith)
 flagged? flag [] = go (ℕ-discrete flag 1)
   where
@@ -19,9 +19,9 @@ flagged? flag [] = go (ℕ-discrete flag 1)
     go (yes e) = no (λ f. f e refl)
     go (no n) = yes (λ e _. n e)
 
-pub obeys? : (c : Constraint) (v : Value) → Dec (Obeys c v)
+unfoldable pub obeys? : (c : Constraint) (v : Value) → Dec (Obeys c v)
 obeys? free v = yes tt
 obeys? (bound e flag) v = when? (in? e (word v)) (λ _. flagged? flag (word v))
 
-pub allowed? : (cs : List Constraint) (x : ℕ) (v : Value) → Dec (Allowed cs x v)
+unfoldable pub allowed? : (cs : List Constraint) (x : ℕ) (v : Value) → Dec (Allowed cs x v)
 allowed? cs x v = obeys? (givenTo (look cs x)) v

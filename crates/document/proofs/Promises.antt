@@ -119,10 +119,10 @@ module _ {d w label size start width label' size' start' width' : List ℕ} {nam
   labels-n : length (labelsOf names (spellingsOf f)) ≡ n
   labels-n = length-labels names (spellingsOf f) ∙ spellings-n
 
-  first-labels : take n label' ≡ labels (treeOf names f)
+  pub first-labels : take n label' ≡ labels (treeOf names f)
   first-labels = ap (take n) (u .label-is) ∙ take-at (labels (treeOf names f)) _ n (ap length (tree-labels names f) ∙ labels-n)
 
-  first-sizes : take n size' ≡ sizes (treeOf names f)
+  pub first-sizes : take n size' ≡ sizes (treeOf names f)
   first-sizes = ap (take n) (u .size-is) ∙ take-at (sizes (treeOf names f)) _ n (length-sizes (treeOf names f) ∙ sym (length-labels-of (treeOf names f)) ∙ ap length (tree-labels names f) ∙ labels-n)
 
   deep : depth (treeOf names f) ≤ 64

@@ -38,7 +38,7 @@ use Rattle.lister.specs.Listed.{Settled}
 use Rattle.lister.specs.declared.Listed.{Listed}
 
 -- the room of the code is the room of the rules
-in-room : {A : ℕ → Value → Type 0} (a? : (x : ℕ) (v : Value) → Dec (A x v)) {P : Pattern} {T : Term} {budget : ℕ} {x : Result} (n : ℕ) (Q : List Kind) → Numbered P Q
+pub in-room : {A : ℕ → Value → Type 0} (a? : (x : ℕ) (v : Value) → Dec (A x v)) {P : Pattern} {T : Term} {budget : ℕ} {x : Result} (n : ℕ) (Q : List Kind) → Numbered P Q
     → Meant A Q P T budget (atMost (fitting n (length Q + length Q))) x → Meant A Q P T budget (roomOf n (length Q)) x
 in-room a? n [] g m = meant-unlimited a? g m
 in-room {A} a? {P} {T} {budget} {x} n (k ∷ Q) g m =

@@ -10,3 +10,5 @@ pub mod Given
 pub mod Levels
 pub mod Whole
 pub mod Facts
+pub mod Stays
+pub mod Different

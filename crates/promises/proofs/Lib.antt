@@ -1,0 +1,6 @@
+pub mod Refusals
+pub mod Answers
+pub mod Lists
+pub mod Examples
+pub mod Table
+pub mod Demands

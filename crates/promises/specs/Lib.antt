@@ -1,0 +1,5 @@
+pub mod Demands
+pub mod Refusals
+pub mod Answers
+pub mod Lists
+pub mod Table
