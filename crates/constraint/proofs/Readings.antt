@@ -9,6 +9,7 @@ use native.Mathlib.Omega.{arith}
 use Rattle.meaning.specs.Says.{Says}
 use Rattle.meaning.specs.Forest.{Forest, terms, Context}
 use Rattle.meaning.specs.Read.{takeT}
+use Rattle.meaning.proofs.Laws.{dropT}
 use Rattle.tree.specs.Places.{TermsAt, ContextAt}
 use Rattle.tree.specs.Helpers.{ChildPre, ChildPost}
 use Rattle.expression.specs.Expression.{Expression}
@@ -17,8 +18,8 @@ use Rattle.expression.specs.Starts.{StartsAt}
 use Rattle.letters.specs.State.{StateOf, TablesOf}
 use Rattle.letters.proofs.Decide.{decides}
 use Rattle.constraint.specs.Word.{heads, path}
-use Rattle.constraint.specs.Reading.{HeadsPre, PathPre, After}
-use Rattle.constraint.proofs.Words.{HeadsLeft, heads-begin, heads-row, heads-read, heads-end, PathLeft, path-begin, path-row, path-child, path-read, path-end}
+use Rattle.constraint.specs.Reading.{MorePre, ReadTo, ReadOn, PathPre, After}
+use Rattle.constraint.proofs.Words.{none-heads, heads-row, heads-rest, drop-more, heads-more, PathLeft, path-begin, path-row, path-child, path-read, path-end}
 
 -- what `begin` and `step` of `letters` ensure
 abbrev pub Begun : (first : List ℕ) (null : List Bool) (root next : ℕ) (end : Bool) → Type 0
@@ -45,33 +46,70 @@ module _ {name first : List ℕ} {null : List Bool} {cont : List ℕ} {ends : Li
       → StartsAt es e root → Says end (In e w)
   after-decides {es} {e} x t s = decides (x .is es e t s)
 
+-- the heads of neighbours
+module _ {L S name first : List ℕ} {null : List Bool} {cont : List ℕ} {ends : List Bool} {root a : ℕ} where
+  pub no-head : {next : ℕ} {end : Bool} → Begun first null root next end → ReadTo L S name first null cont ends root a 0 a next end
+  unfolding dropT
+  no-head b = record { is = λ e f x h. (x, after-is (none-heads f) (after-none b)) }
+
+  pub one-head : {c row before next after : ℕ} {was end : Bool} → ReadTo L S name first null cont ends root a c row before was → Stepped name cont ends (getD L row 0) before next end
+      → after ≡ row + getD S row 0 → ReadTo L S name first null cont ends root a (suc c) after next end
+  one-head {c} r s p =
+      record {
+        is = λ e f x h.
+            let q = r .is e f x (omega arith) in
+            (rw p (drop-more c f (q .0) (omega arith)), after-is (heads-more c f (q .0) (omega arith)) (after-more (q .1) s));
+      }
+
+-- a reading goes on
+module _ (L S name cont : List ℕ) (ends : List Bool) (start begun : ℕ) (was : Bool) (more : ℕ) where
+  -- so many are left, and stand from the row on
+  pub record Reading (left row next : ℕ) (end : Bool) : Type 0 where
+    pub low : left ≤ more
+    pub there : MorePre L S row left
+    pub read : ReadOn L S name cont ends start begun was (more - left) row next end
+
+  pub reading-begins : MorePre L S start more → Reading more start begun was
+  reading-begins pre =
+      record {
+        low = omega arith;
+        there = pre;
+        read = record { on = λ first null root a c r. let z : c + (more - more) ≡ c = omega arith in rw z r };
+      }
+
+  module _ {left row next : ℕ} {end : Bool} (h : Reading left row next end) where
+    pub reading-row : 0 < left → (row < length L) × (row < length S)
+    reading-row z = let w = h .there .some in heads-row (w .2) (omega (arith, w .3))
+
+    pub reading-on : {after later : ℕ} {still : Bool} → 0 < left → Stepped name cont ends (getD L row 0) next later still → after ≡ row + getD S row 0 → Reading (left - 1) after later still
+    reading-on z s p =
+        let w = h .there .some in
+        let g = heads-rest (w .2) (omega (arith, w .3)) in
+        record {
+          low = omega (arith, h .low);
+          there = record { some = (w .0, g .0, rw p (g .1), omega (arith, w .3, g .2)) };
+          read =
+              record {
+                on = λ first null root a c r.
+                    let y : c + (more - (left - 1)) ≡ suc (c + (more - left)) = omega (arith, h .low) in
+                    rw y (one-head (h .read .on first null root a c r) s p);
+              };
+        }
+
+    pub reading-done : left ≤ 0 → ReadOn L S name cont ends start begun was more row next end
+    reading-done z = let y : more - left ≡ more = omega arith in rw y at (h .read)
+
+-- all heads from the first on
+module _ {L S name first : List ℕ} {null : List Bool} {cont : List ℕ} {ends : List Bool} {root a count : ℕ} where
+  pub from-first : {begun row next : ℕ} {was end : Bool} → Begun first null root begun was → ReadOn L S name cont ends a begun was count row next end
+      → ReadTo L S name first null cont ends root a count row next end
+  from-first b r = let z : 0 + count ≡ count = omega arith in rw z at (r .on first null root a 0 (no-head b))
+
+  pub all-heads : {row next : ℕ} {end : Bool} → ReadTo L S name first null cont ends root a count row next end → (e : ℕ) (f : Forest) → TermsAt L S a e f → count ≤ terms f
+      → After name first null cont ends root (heads (takeT count f)) next end
+  all-heads r e f x h = r .is e f x h .1
+
 module _ (L S name first : List ℕ) (null : List Bool) (cont : List ℕ) (ends : List Bool) (root a : ℕ) where
-  -- some of the heads are read, so many are left from the row on
-  pub record HeadsRead (count left row next : ℕ) (end : Bool) : Type 0 where
-    pub read : List ℕ
-    pub state : After name first null cont ends root read next end
-    pub rest : (e : ℕ) (f : Forest) → TermsAt L S a e f → count ≤ terms f → HeadsLeft L S e row (heads (takeT count f)) read left
-
-  module _ {count : ℕ} where
-    pub no-head : {next : ℕ} {end : Bool} → Begun first null root next end → HeadsRead count count a next end
-    no-head b = record { read = []; state = after-none b; rest = λ e f x h. heads-begin x count h }
-
-    pub head-row : {left row next : ℕ} {end : Bool} → HeadsRead count left row next end → HeadsPre L S root a count → 0 < left
-        → (row < length L) × (row < length S)
-    head-row h pre z = heads-row (h .rest _ _ (pre .some .2) (pre .some .3)) z
-
-    pub one-head : {left row before next after : ℕ} {was end : Bool} → HeadsRead count left row before was → 0 < left → Stepped name cont ends (getD L row 0) before next end → after ≡ row + getD S row 0
-        → HeadsRead count (left - 1) after next end
-    one-head {left} {row} h z s p =
-        let y : left ≡ suc (left - 1) = omega arith in
-        record { read = h .read ++ (getD L row 0 ∷ []); state = after-more (h .state) s; rest = λ e f x k. rw p (heads-read (rw y at (h .rest e f x k))) }
-
-    pub all-heads : {left row next : ℕ} {end : Bool} → HeadsRead count left row next end → left ≤ 0 → (e : ℕ) (f : Forest) → TermsAt L S a e f → count ≤ terms f
-        → After name first null cont ends root (heads (takeT count f)) next end
-    all-heads {left} h z e f x k =
-        let y : left ≡ 0 = omega arith in
-        after-is (heads-end (rw y at (h .rest e f x k))) (h .state)
-
   -- some of the labels on the path are read, down to the row
   pub record PathRead (b row next : ℕ) (end : Bool) : Type 0 where
     pub read : List ℕ

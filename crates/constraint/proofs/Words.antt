@@ -44,41 +44,32 @@ here-hole (at-node v lo hi k) h = absurd (let z : _≡_ {A = ℕ} 0 1 = cc in om
 
 -- A word is read along the rows: what is done, and from the row where the reading stands what is to come.
 
--- read are the heads of the first terms; the others of the count stand from the row t on
-pub record HeadsLeft (L S : List ℕ) (e t : ℕ) (whole read : List ℕ) (left : ℕ) : Type 0 where
-  pub rest : Forest
-  pub here : TermsAt L S t e rest
-  pub enough : left ≤ terms rest
-  pub is : whole ≡ read ++ heads (takeT left rest)
+-- the row of the next head is in the lists
+pub heads-row : {L S : List ℕ} {t e : ℕ} {f : Forest} → TermsAt L S t e f → 0 < terms f → (t < length L) × (t < length S)
+unfolding terms
+heads-row (stop p _ _) m = absurd (omega arith)
+heads-row (step r i b k) m =
+    let x = terms-end k in
+    (omega arith, omega arith)
 
-pub heads-begin : {L S : List ℕ} {a e : ℕ} {f : Forest} → TermsAt L S a e f → (c : ℕ) → c ≤ terms f → HeadsLeft L S e a (heads (takeT c f)) [] c
-heads-begin {f = f} x c h = record { rest = f; here = x; enough = h; is = refl }
+-- behind it stand the others
+pub heads-rest : {L S : List ℕ} {t e : ℕ} {f : Forest} → TermsAt L S t e f → 0 < terms f → (g : Forest) × TermsAt L S (t + getD S t 0) e g × (terms f ≡ suc (terms g))
+unfolding terms
+heads-rest (stop p _ _) m = absurd (omega arith)
+heads-rest (step {rest = rest} r i b k) m = (rest, rw (r .size) k, refl)
 
-module _ {L S : List ℕ} {e t : ℕ} {whole read : List ℕ} where
-  -- the row of the next head
-  pub heads-row : {left : ℕ} → HeadsLeft L S e t whole read left → 0 < left → (t < length L) × (t < length S)
-  unfolding terms
-  heads-row {left = left} h z = go (h .here) (h .enough)
-    where
-      go : {f : Forest} → TermsAt L S t e f → left ≤ terms f → (t < length L) × (t < length S)
-      go (stop p _ _) m = absurd (omega arith)
-      go (step r i b k) m =
-          let x = terms-end k in
-          (omega arith, omega arith)
+pub drop-more : {L S : List ℕ} {t e : ℕ} (i : ℕ) (f : Forest) → TermsAt L S t e (dropT i f) → i < terms f → TermsAt L S (t + getD S t 0) e (dropT (suc i) f)
+unfolding dropT terms
+drop-more i none x h = absurd (omega arith)
+drop-more zero (some l us rest) (step r i b k) h = rw (r .size) k
+drop-more (suc i) (some l us rest) x h = drop-more i rest x (omega arith)
 
-  -- one more head is read
-  pub heads-read : {left : ℕ} → HeadsLeft L S e t whole read (suc left) → HeadsLeft L S e (t + getD S t 0) whole (read ++ (getD L t 0 ∷ [])) left
-  unfolding terms heads takeT
-  heads-read {left = left} h = go (h .here) (h .enough) (h .is)
-    where
-      go : {f : Forest} → TermsAt L S t e f → suc left ≤ terms f → whole ≡ read ++ heads (takeT (suc left) f) → HeadsLeft L S e (t + getD S t 0) whole (read ++ (getD L t 0 ∷ [])) left
-      go (stop p _ _) m q = absurd (omega arith)
-      go (step {us = us} {rest = rest} r i b k) m q =
-          rw (r .size, r .label) (record { rest = rest; here = k; enough = omega arith; is = q ∙ sym (append-assoc read (_ ∷ []) (heads (takeT left rest))) })
-
-  pub heads-end : HeadsLeft L S e t whole read 0 → whole ≡ read
-  unfolding heads takeT
-  heads-end h = h .is ∙ append-nil read
+-- one more term is one more letter
+pub heads-more : {L S : List ℕ} {t e : ℕ} (i : ℕ) (f : Forest) → TermsAt L S t e (dropT i f) → i < terms f → heads (takeT (suc i) f) ≡ heads (takeT i f) ++ (getD L t 0 ∷ [])
+unfolding heads takeT dropT terms
+heads-more i none x h = absurd (omega arith)
+heads-more zero (some l us rest) (step r i b k) h = rw (r .label)
+heads-more (suc i) (some l us rest) x h = ap (λ (w : List ℕ). l ∷ w) (heads-more i rest x (omega arith))
 
 -- read are the labels on the path from the start down to the row t
 pub record PathLeft (L S : List ℕ) (t b : ℕ) (whole read : List ℕ) : Type 0 where
@@ -125,13 +116,6 @@ module _ {L S : List ℕ} {t b : ℕ} {whole read : List ℕ} (h : PathLeft L S 
   path-end e = h .is ∙ ap (λ (c : Context). read ++ path c) (hole-here (h .here) e) ∙ append-nil read
 
 -- For a caller that goes on from one value to the next.
-
--- one more term is one more letter
-pub heads-more : {L S : List ℕ} {t e : ℕ} (i : ℕ) (f : Forest) → TermsAt L S t e (dropT i f) → i < terms f → heads (takeT (suc i) f) ≡ heads (takeT i f) ++ (getD L t 0 ∷ [])
-unfolding heads takeT dropT terms
-heads-more i none x h = absurd (omega arith)
-heads-more zero (some l us rest) (step r i b k) h = rw (r .label)
-heads-more (suc i) (some l us rest) x h = ap (λ (w : List ℕ). l ∷ w) (heads-more i rest x (omega arith))
 
 context-ends : {L S : List ℕ} {a b : ℕ} {c : Context} → ContextAt L S a b c → b + getD S b 0 ≤ a + getD S a 0
 context-ends {S = S} (at-hole n e) = omega (arith, ap (λ (x : ℕ). x + getD S x 0) e)

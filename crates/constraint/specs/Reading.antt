@@ -1,6 +1,6 @@
 -- Not needed to believe the promise: what the functions that read a value's word along the rows ask and answer; only our own
 -- crates call them.
-use Prim.Native.Nat.{ℕ, _<_, _≤_}
+use Prim.Native.Nat.{ℕ, _+_, _<_, _≤_}
 use mathlib.Core.Path.{_≡_}
 use mathlib.Core.Bool.{Bool}
 use mathlib.Core.List.{List, []}
@@ -9,12 +9,13 @@ use Rattle.meaning.specs.Forest.{Forest, terms, Context}
 use Rattle.meaning.specs.Pattern.{Kind, aSequence, aContext}
 use Rattle.meaning.specs.Value.{Value, ofSequence, ofContext}
 use Rattle.meaning.specs.Read.{takeT}
+use Rattle.meaning.proofs.Laws.{dropT}
 use Rattle.tree.specs.Places.{TermsAt, ContextAt}
 use Rattle.pattern.specs.Rows.{code}
 use Rattle.expression.specs.Expression.{Expression}
 use Rattle.expression.specs.Starts.{StartsAt}
 use Rattle.letters.specs.State.{StateOf, TablesOf}
-use Rattle.constraint.specs.Word.{word}
+use Rattle.constraint.specs.Word.{heads, word}
 use Rattle.constraint.specs.Obeys.{Constraint, Obeys}
 use Rattle.constraint.specs.Good.{MayHave}
 use Rattle.constraint.specs.Pair.{Pair}
@@ -39,6 +40,18 @@ pub record PathPre (L S : List ℕ) (root a b : ℕ) : Type 0 where
 -- next and end are the state after the word, for the expression that starts at the row root
 pub record After (name first : List ℕ) (null : List Bool) (cont : List ℕ) (ends : List Bool) (root : ℕ) (w : List ℕ) (next : ℕ) (end : Bool) : Type 0 where
   pub is : (es : List Expression) (e : Expression) → TablesOf es name first null cont ends → StartsAt es e root → StateOf name cont ends e w next end
+
+-- so many neighbours stand from the row on
+pub record MorePre (L S : List ℕ) (row more : ℕ) : Type 0 where
+  pub some : (e : ℕ) × (f : Forest) × TermsAt L S row e f × (more ≤ terms f)
+
+-- the heads of the first c neighbours from the row a on are read: the reading stands at the row, in this state
+pub record ReadTo (L S name first : List ℕ) (null : List Bool) (cont : List ℕ) (ends : List Bool) (root a c row next : ℕ) (end : Bool) : Type 0 where
+  pub is : (e : ℕ) (f : Forest) → TermsAt L S a e f → c ≤ terms f → TermsAt L S row e (dropT c f) × After name first null cont ends root (heads (takeT c f)) next end
+
+-- wherever the reading began, it has gone on by so many
+pub record ReadOn (L S name cont : List ℕ) (ends : List Bool) (row next : ℕ) (end : Bool) (more row′ next′ : ℕ) (end′ : Bool) : Type 0 where
+  pub on : (first : List ℕ) (null : List Bool) (root a c : ℕ) → ReadTo L S name first null cont ends root a c row next end → ReadTo L S name first null cont ends root a (c + more) row′ next′ end′
 
 -- the two numbers start and flag give a variable of this kind a constraint, and the rows a value
 pub record ObeysPre (L S : List ℕ) (start flag kind a b : ℕ) : Type 0 where

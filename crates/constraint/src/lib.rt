@@ -15,7 +15,7 @@ ghost use Rattle.constraint.specs.Good.{GoodConstraints};
 ghost use Rattle.constraint.specs.Whole.{Good};
 ghost use Rattle.pattern.specs.Known.{KindsAre};
 ghost use Rattle.constraint.specs.Pair.{Pair, GivenPre};
-ghost use Rattle.constraint.specs.Reading.{HeadsPre, PathPre, After, ObeysPre, ObeysPost, ForbiddenPost};
+ghost use Rattle.constraint.specs.Reading.{HeadsPre, MorePre, ReadTo, ReadOn, PathPre, After, ObeysPre, ObeysPost, ForbiddenPost};
 
 // Whether a variable of this kind may have these two numbers.
 fn paired(kind: u32, size: &[u32], first: u32, flag: u32) -> bool
@@ -80,8 +80,48 @@ pub fn good(
     given(checked.variables, &kinds, expression_size, constraint)
 }
 
-// The state after the heads of so many neighbours from the row a on, for the expression that starts at the row root. A caller
-// may go on from it with `letters::step`.
+// A reading of heads: the row where it stands, and its state.
+pub struct Mark {
+    pub row: usize,
+    pub next: u64,
+    pub end: bool,
+}
+
+// The reading goes on by so many heads. What has been read before is not read again: a choice that grows by one term reads one
+// more letter.
+pub fn read_on(
+    label: &[u32],
+    size: &[u32],
+    name: &[u32; 64],
+    cont: &[u64; 64],
+    ends: &[bool; 64],
+    start: usize,
+    next: u64,
+    end: bool,
+    more: usize,
+) -> Mark
+    requires { ⌜ MorePre (now label) (now size) start more ⌝ }
+    ensures { λ r. ⌜ ReadOn (now (label .entry)) (now (size .entry)) (now (name .entry)) (now (cont .entry)) (now (ends .entry)) start next end more (r .row) (r .next) (r .end) ⌝ }
+{
+    let mut state = letters::State {
+        next,
+        end,
+    };
+    let mut row = start;
+    let mut left = more;
+    while 0 < left {
+        state = letters::step(state.next, name, cont, ends, label[row]);
+        row = tree::next(size, row);
+        left -= 1;
+    }
+    Mark {
+        row,
+        next: state.next,
+        end: state.end,
+    }
+}
+
+// The reading of the heads of so many neighbours from the row a on, for the expression that starts at the row root.
 pub fn after_heads(
     label: &[u32],
     size: &[u32],
@@ -93,20 +133,12 @@ pub fn after_heads(
     root: usize,
     a: usize,
     count: usize,
-) -> letters::State
+) -> Mark
     requires { ⌜ HeadsPre (now label) (now size) root a count ⌝ }
-    ensures { λ r. ⌜ ((e : ℕ) (f : Forest) → TermsAt (now (label .entry)) (now (size .entry)) a e f → count ≤ terms f
-        → After (now (name .entry)) (now (first .entry)) (now (null .entry)) (now (cont .entry)) (now (ends .entry)) root (heads (takeT count f)) (r .next) (r .end)) ⌝ }
+    ensures { λ r. ⌜ ReadTo (now (label .entry)) (now (size .entry)) (now (name .entry)) (now (first .entry)) (now (null .entry)) (now (cont .entry)) (now (ends .entry)) root a count (r .row) (r .next) (r .end) ⌝ }
 {
-    let mut state = letters::begin(first, null, root);
-    let mut row = a;
-    let mut left = count;
-    while 0 < left {
-        state = letters::step(state.next, name, cont, ends, label[row]);
-        row = tree::next(size, row);
-        left -= 1;
-    }
-    state
+    let state = letters::begin(first, null, root);
+    read_on(label, size, name, cont, ends, a, state.next, state.end, count)
 }
 
 // The state after the labels on the path from the row a down to the row b, that of b left out.

@@ -1,65 +1,16 @@
-use Prim.Native.Nat.{_<_}
-use lib.ListN.{length}
-use native.Mathlib.Omega.{arith}
-use Rattle.constraint.proofs.Readings.{HeadsRead, no-head, head-row, one-head, all-heads}
+use Rattle.constraint.proofs.Readings.{from-first}
 use borrow.Author.Needs.{needs}
 use Rattle.constraint.proofs.after_heads.Statement.{statement}
 use Rattle.constraint.proofs.after_heads.Tie as tie
 
-abbrev Inv-loop : tie.InvT-loop
-Inv-loop label size name first null cont ends root a count state₀ row₀ left₀ state row left = HeadsRead label size name first null cont ends root a count left row (state .next) (state .end)
+begin-requires : tie.Need-begin-requires
+begin-requires c κs = search needs
 
-abbrev μ-loop : tie.MeasureT-loop
-μ-loop label size name first null cont ends root a count state₀ row₀ left₀ state row left = left
+read-on-requires : tie.Need-read-on-requires
+read-on-requires c κs = search needs
 
--- the row of a turn
-row-in : (c : tie.In-loop Inv-loop μ-loop)
-    → (c .before .loop .row < length (c .before .before .before .before .before .args .label .now)) × (c .before .loop .row < length (c .before .before .before .before .before .args .size .now))
-row-in c = head-row _ _ _ _ _ _ _ _ _ (c .before .loop .inv) (c .before .before .before .before .before .pre) (omega (arith, c .loop-test .taken))
-
-begin-requires : tie.Need-begin-requires Inv-loop μ-loop
-begin-requires c κs = c .before .before .pre .low
-
-loop-holds : tie.Need-loop-holds Inv-loop μ-loop
-loop-holds c = no-head _ _ _ _ _ _ _ _ _ (c .begin .ensures)
-
-mul-step : tie.Need-mul-step Inv-loop μ-loop
-mul-step c = omega (arith, row-in c)
-
-shared-slice-read-step : tie.Need-shared-slice-read-step Inv-loop μ-loop
-shared-slice-read-step c = omega (arith, row-in (c .before))
-
-step-requires : tie.Need-step-requires Inv-loop μ-loop
-step-requires c κs = search needs
-
-next-requires : tie.Need-next-requires Inv-loop μ-loop
-next-requires c κs = omega (arith, row-in (c .before .before))
-
-sub-left : tie.Need-sub-left Inv-loop μ-loop
-sub-left c = search needs
-
-loop-less : tie.Need-loop-less Inv-loop μ-loop
-loop-less c = search needs
-
-loop-again : tie.Need-loop-again Inv-loop μ-loop
-loop-again c = one-head _ _ _ _ _ _ _ _ _ (c .before .before .before .before .loop .inv) (omega (arith, c .before .before .before .loop-test .taken)) (c .before .step .ensures) (c .next .ensures)
-
-returns : tie.Need-returns Inv-loop μ-loop
-returns c = all-heads _ _ _ _ _ _ _ _ _ (c .before .loop .inv) (omega (arith, c .loop-test .left))
+returns : tie.Need-returns
+returns c = from-first (c .before .begin .ensures) (c .read-on .ensures)
 
 pub after-heads-spec : {M : Type 1} → statement M
-after-heads-spec =
-    tie.close
-    (tie.spec
-    Inv-loop
-    μ-loop
-    begin-requires
-    loop-holds
-    mul-step
-    shared-slice-read-step
-    step-requires
-    next-requires
-    sub-left
-    loop-less
-    loop-again
-    returns)
+after-heads-spec = tie.close (tie.spec begin-requires read-on-requires returns)

@@ -2,6 +2,7 @@ use native.Mathlib.Omega.{arith}
 use mathlib.Core.Path.{refl}
 use borrow.Author.Needs.{needs}
 use Rattle.constraint.proofs.Judging.{obeys-free, obeys-forbidden, obeys-read, heads-after, path-after, heads-asked, path-asked}
+use Rattle.constraint.proofs.Readings.{all-heads}
 use Rattle.constraint.proofs.obeys.Statement.{statement}
 use Rattle.constraint.proofs.obeys.Tie as tie
 
@@ -23,7 +24,7 @@ after-heads-requires c κs = heads-asked (c .before .before .before .before .bef
 returns-3 : tie.Need-returns-3
 returns-3 c =
     obeys-read _ _ _ _ _ _ _ _ _ _ _ _ (c .before .before .before .before .if1 .left) (c .before .before .before .forbidden .ensures) (c .before .before .if2 .left) refl
-    (heads-after _ _ _ _ _ _ _ _ _ _ (c .before .if3 .taken) (c .after-heads .ensures))
+    (heads-after _ _ _ _ _ _ _ _ _ _ (c .before .if3 .taken) (all-heads (c .after-heads .ensures)))
 
 after-path-requires : tie.Need-after-path-requires
 after-path-requires c κs = path-asked (c .before .before .before .before .before .before .pre) (c .before .before .before .if1 .left) refl (c .if3 .left)
