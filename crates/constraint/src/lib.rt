@@ -103,10 +103,7 @@ pub fn read_on(
     requires { ⌜ MorePre (now label) (now size) start more ⌝ }
     ensures { λ r. ⌜ ReadOn (now (label .entry)) (now (size .entry)) (now (name .entry)) (now (cont .entry)) (now (ends .entry)) start next end more (r .row) (r .next) (r .end) ⌝ }
 {
-    let mut state = letters::State {
-        next,
-        end,
-    };
+    let mut state = letters::State { next, end };
     let mut row = start;
     let mut left = more;
     while 0 < left {
@@ -138,7 +135,17 @@ pub fn after_heads(
     ensures { λ r. ⌜ ReadTo (now (label .entry)) (now (size .entry)) (now (name .entry)) (now (first .entry)) (now (null .entry)) (now (cont .entry)) (now (ends .entry)) root a count (r .row) (r .next) (r .end) ⌝ }
 {
     let state = letters::begin(first, null, root);
-    read_on(label, size, name, cont, ends, a, state.next, state.end, count)
+    read_on(
+        label,
+        size,
+        name,
+        cont,
+        ends,
+        a,
+        state.next,
+        state.end,
+        count,
+    )
 }
 
 // The state after the labels on the path from the row a down to the row b, that of b left out.
@@ -168,7 +175,7 @@ pub fn after_path(
 }
 
 // Whether the flag forbids the value: the empty sequence, or the bare hole.
-fn forbidden(flag: u32, kind: u32, a: usize, b: usize) -> bool
+pub fn forbidden(flag: u32, kind: u32, a: usize, b: usize) -> bool
     ensures { λ r. ⌜ ForbiddenPost flag kind a b r ⌝ }
 {
     if flag != 1 {

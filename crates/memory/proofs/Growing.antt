@@ -1,0 +1,72 @@
+-- A reading is recalled, goes on, and is kept; and what it says of the constraint.
+use Prim.Native.Nat.{ℕ, zero, suc, _+_, _-_, _*_, _≤_, _<_}
+use mathlib.Core.Path.{_≡_, refl, sym}
+use mathlib.Core.Logic.{_≢_}
+use mathlib.Core.Bool.{Bool, true, false}
+use mathlib.Core.List.{List}
+use lib.Dec.{eqb}
+use lib.ListN.{getD}
+use native.Mathlib.Omega.{arith}
+use Rattle.meaning.specs.Forest.{Forest, none, some, terms}
+use Rattle.meaning.proofs.Laws.{dropT}
+use Rattle.constraint.specs.Reading.{HeadsPre, MorePre, ReadTo, ReadOn, ForbiddenPost}
+use Rattle.constraint.proofs.Readings.{Begun, no-head, all-heads}
+use Rattle.constraint.proofs.Judging.{obeys-free, obeys-forbidden, obeys-read, heads-after, heads-asked}
+use Rattle.problem.proofs.Judged.{asked-within, judge-asks, judged-by}
+use Rattle.memory.specs.Memory.{Kept, Remembers, kept, RecallPost, GrownPre, GrownPost, GrowPre, GrowPost}
+use Rattle.memory.proofs.Numbers.{remembers}
+
+-- RECALLED
+module _ (first : List ℕ) (null : List Bool) (root : ℕ) (memory : List ℕ) (x a b : ℕ) where
+  pub recalled : (getD memory (5 * x) 0 ≡ 0 → ⊥) → getD memory (5 * x + 1) 0 ≡ a → getD memory (5 * x + 2) 0 ≤ b
+      → RecallPost first null root memory x a b (getD memory (5 * x) 0) (getD memory (5 * x + 3) 0) (getD memory (5 * x + 2) 0) (eqb (getD memory (5 * x + 4) 0) 1)
+  recalled n e h = record { most = h; is = λ L S name cont ends k. rw e at (k .is n) }
+
+  pub begun : {next : ℕ} {end : Bool} → Begun first null root next end → RecallPost first null root memory x a b a next 0 end
+  begun g = record { most = omega arith; is = λ L S name cont ends k. no-head g }
+
+-- GROWN
+terms-drop : (c : ℕ) (f : Forest) → terms (dropT c f) ≡ terms f - c
+unfolding terms dropT
+terms-drop zero f = omega arith
+terms-drop (suc c) none = omega arith
+terms-drop (suc c) (some l us rest) = let e = terms-drop c rest in omega arith
+
+module _ {L S name first : List ℕ} {null : List Bool} {cont : List ℕ} {ends : List Bool} {C : List ℕ} {root x a b : ℕ} {memory : List ℕ} (p : GrownPre L S name first null cont ends C root x a b memory)
+    {row next count : ℕ} {end : Bool} (post : RecallPost first null root memory x a b row next count end) where
+  was : ReadTo L S name first null cont ends root a count row next end
+  was = post .is L S name cont ends (rw (p .its) (p .remembers .each x (p .few)))
+
+  pub more-there : MorePre L S row (b - count)
+  more-there =
+      let w = p .heads .some in
+      record { some = (w .0, dropT count (w .1), was .is (w .0) (w .1) (w .2) (omega (arith, w .3, post .most)) .0, omega (arith, terms-drop count (w .1), w .3)) }
+
+  pub grown-read : {row′ next′ : ℕ} {end′ : Bool} → ReadOn L S name cont ends row next end (b - count) row′ next′ end′
+      → GrownPost L S name first null cont ends C root a b end′ (kept memory x row′ a b next′ end′)
+  grown-read {row′} {next′} {end′} on =
+      let y : count + (b - count) ≡ b = omega (arith, post .most) in
+      let read : ReadTo L S name first null cont ends root a b row′ next′ end′ = rw y at (on .on first null root a count was) in
+      record { row = row′; next = next′; read = read; remembers = remembers (p .remembers) (p .few) (rw (p .its) at read) }
+
+-- JUDGED
+module _ {L S name first : List ℕ} {null : List Bool} {cont : List ℕ} {ends : List Bool} {C kinds : List ℕ} {x a b : ℕ} {memory : List ℕ} (p : GrowPre L S name first null cont ends C kinds x a b memory) where
+  abbrev Post : Bool → List ℕ → Type 0
+  Post = GrowPost L S name first null cont ends C kinds x a b
+
+  pub grow-free : getD C (x + x) 0 ≡ 0 → Post true memory
+  grow-free z = record { judged = judged-by x a b (obeys-free L S name first null cont ends _ _ _ a b z); remembers = p .remembers }
+
+  module _ (start : getD C (x + x) 0 ≢ 0) {r : Bool} (f : ForbiddenPost (getD C (x + x + 1) 0) (getD kinds x 0) a b r) where
+    pub grow-forbidden : r ≡ true → Post false memory
+    grow-forbidden t = record { judged = judged-by x a b (obeys-forbidden L S name first null cont ends _ _ _ a b start f t); remembers = p .remembers }
+
+    pub grow-read : r ≡ false → getD kinds x 0 ≡ 2 → {root : ℕ} {end : Bool} {later : List ℕ} → root ≡ getD C (x + x) 0 - 1 → GrownPost L S name first null cont ends C root a b end later → Post end later
+    grow-read n k q g =
+        record {
+          judged = judged-by x a b (obeys-read L S name first null cont ends _ _ _ a b start f n q (heads-after L S name first null cont ends _ a b k (all-heads (g .read))));
+          remembers = g .remembers;
+        }
+
+  pub grow-asked : getD C (x + x) 0 ≢ 0 → getD kinds x 0 ≡ 2 → {root : ℕ} → root ≡ getD C (x + x) 0 - 1 → GrownPre L S name first null cont ends C root x a b memory
+  grow-asked start k q = record { heads = heads-asked (judge-asks (p .asked)) start q k; few = asked-within (p .asked) .0; its = q; remembers = p .remembers }

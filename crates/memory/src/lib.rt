@@ -1,0 +1,178 @@
+// What has been read of each variable's sequence, so that a choice that grows by one term reads one more letter.
+ghost use mathlib.Core.Path.{_≡_};
+ghost use Prim.Native.Nat.{_<_, _-_};
+ghost use lib.ListN.{length};
+ghost use Rattle.memory.specs.Memory.{noted, kept, RecallPre, RecallPost, GrownPre, GrownPost, GrowPre, GrowPost};
+
+// A reading of the heads of a sequence: where it stands, its state, and how many are read.
+struct Recalled {
+    row: usize,
+    next: u64,
+    end: bool,
+    count: usize,
+}
+
+fn number(end: bool) -> usize
+    ensures { λ r. ⌜ r ≡ noted end ⌝ }
+{
+    if end { 1 } else { 0 }
+}
+
+// The reading of x that is remembered, where it began at the row a and is not beyond b; else one that begins.
+fn recall(
+    memory: &[usize; 80],
+    first: &[u64; 64],
+    null: &[bool; 64],
+    root: usize,
+    x: usize,
+    a: usize,
+    b: usize,
+) -> Recalled
+    requires { ⌜ RecallPre root (now memory) x ⌝ }
+    ensures { λ r. ⌜ RecallPost (now (first .entry)) (now (null .entry)) root (now (memory .entry)) x a b (r .row) (r .next) (r .count) (r .end) ⌝ }
+{
+    let at = 5 * x;
+    let row = memory[at];
+    let count = memory[at + 2];
+    if row != 0 {
+        if memory[at + 1] == a {
+            if count <= b {
+                return Recalled {
+                    row,
+                    next: memory[at + 3] as u64,
+                    end: memory[at + 4] == 1,
+                    count,
+                };
+            }
+        }
+    }
+    let state = letters::begin(first, null, root);
+    Recalled {
+        row: a,
+        next: state.next,
+        end: state.end,
+        count: 0,
+    }
+}
+
+// The reading of x is kept for the next value.
+fn keep(
+    memory: &mut [usize; 80],
+    x: usize,
+    row: usize,
+    a: usize,
+    count: usize,
+    next: u64,
+    end: bool,
+)
+    requires { ⌜ (x < 16) × (length (now memory) ≡ 80) ⌝ }
+    ensures { λ _. ⌜ now (memory .exit) ≡ kept (now (memory .entry)) x row a count next end ⌝ }
+{
+    let at = 5 * x;
+    memory[at] = row;
+    memory[at + 1] = a;
+    memory[at + 2] = count;
+    memory[at + 3] = next as usize;
+    memory[at + 4] = number(end);
+}
+
+// Whether the heads of b neighbours from the row a on are a word of the expression at the row root: read on from what is
+// remembered of x.
+fn grown(
+    label: &[u32],
+    size: &[u32],
+    name: &[u32; 64],
+    first: &[u64; 64],
+    null: &[bool; 64],
+    cont: &[u64; 64],
+    ends: &[bool; 64],
+    constraint: &[u32],
+    root: usize,
+    x: usize,
+    a: usize,
+    b: usize,
+    memory: &mut [usize; 80],
+) -> bool
+    requires { ⌜ GrownPre (now label) (now size) (now name) (now first) (now null) (now cont) (now ends) (now constraint) root x a b (now memory) ⌝ }
+    ensures { λ r. ⌜ GrownPost (now (label .entry)) (now (size .entry)) (now (name .entry)) (now (first .entry)) (now (null .entry)) (now (cont .entry)) (now (ends .entry)) (now (constraint .entry)) root a b r (now (memory .exit)) ⌝ }
+{
+    let was = recall(memory, first, null, root, x, a, b);
+    let row = was.row;
+    let next = was.next;
+    let end = was.end;
+    let more = b - was.count;
+    let mark = constraint::read_on(label, size, name, cont, ends, row, next, end, more);
+    keep(memory, x, mark.row, a, b, mark.next, mark.end);
+    mark.end
+}
+
+// The row of the expression that a constraint's first number names.
+fn row_of(start: u32) -> usize
+    requires { ⌜ 0 < start ⌝ }
+    ensures { λ r. ⌜ r ≡ start - 1 ⌝ }
+{
+    let above = start as usize;
+    above - 1
+}
+
+// Whether the variable x may stand for the value that the numbers a and b mean, as `problem::judge` says.
+pub fn judge(
+    label: &[u32],
+    size: &[u32],
+    name: &[u32; 64],
+    first: &[u64; 64],
+    null: &[bool; 64],
+    cont: &[u64; 64],
+    ends: &[bool; 64],
+    constraint: &[u32],
+    kinds: &[u32; 16],
+    x: usize,
+    a: usize,
+    b: usize,
+    memory: &mut [usize; 80],
+) -> bool
+    requires { ⌜ GrowPre (now label) (now size) (now name) (now first) (now null) (now cont) (now ends) (now constraint) (now kinds) x a b (now memory) ⌝ }
+    ensures { λ r. ⌜ GrowPost (now (label .entry)) (now (size .entry)) (now (name .entry)) (now (first .entry)) (now (null .entry)) (now (cont .entry)) (now (ends .entry)) (now (constraint .entry)) (now (kinds .entry)) x a b r (now (memory .exit)) ⌝ }
+{
+    let start = constraint[x + x];
+    let flag = constraint[x + x + 1];
+    let kind = kinds[x];
+    if kind != 2 {
+        return problem::judge(
+            label,
+            size,
+            name,
+            first,
+            null,
+            cont,
+            ends,
+            constraint,
+            kinds,
+            x,
+            a,
+            b,
+        );
+    }
+    if start == 0 {
+        return true;
+    }
+    if constraint::forbidden(flag, kind, a, b) {
+        return false;
+    }
+    let root = row_of(start);
+    grown(
+        label,
+        size,
+        name,
+        first,
+        null,
+        cont,
+        ends,
+        constraint,
+        root,
+        x,
+        a,
+        b,
+        memory,
+    )
+}
