@@ -4,7 +4,7 @@ use mathlib.Core.Path.{_≡_, refl, ap, _∙_, sym}
 use mathlib.Core.Bool.{Bool, true, false}
 use mathlib.Core.List.{List}
 use lib.Dec.{eqb}
-use lib.ListN.{length, getD, set, length-set}
+use lib.ListN.{length, getD, set, replicate, length-set, length-replicate, getD-replicate}
 use lib.Seq.{getD-set-same, getD-set-other}
 use native.Mathlib.Omega.{arith}
 use native.Mathlib.Decide.{ℕ-discrete}
@@ -39,36 +39,40 @@ module _ (memory : List ℕ) (x row a count next : ℕ) (end : Bool) where
   other : (i : ℕ) → (i ≡ 5 * x → ⊥) → (i ≡ 5 * x + 1 → ⊥) → (i ≡ 5 * x + 2 → ⊥) → (i ≡ 5 * x + 3 → ⊥) → (i ≡ 5 * x + 4 → ⊥) → getD new i 0 ≡ getD memory i 0
   other i p q r s t =
       getD-set-other withState (5 * x + 4) i (noted end) 0 t ∙ getD-set-other withCount (5 * x + 3) i next 0 s
-          ∙ getD-set-other withStart (5 * x + 2) i count 0 r
-          ∙ getD-set-other withRow (5 * x + 1) i a 0 q
-          ∙ getD-set-other memory (5 * x) i row 0 p
+      ∙ getD-set-other withStart (5 * x + 2) i count 0 r
+      ∙ getD-set-other withRow (5 * x + 1) i a 0 q
+      ∙ getD-set-other memory (5 * x) i row 0 p
 
   module _ (few : x < 16) (long : length memory ≡ 80) where
     the-row : getD new (5 * x) 0 ≡ row
     the-row =
         getD-set-other withState (5 * x + 4) (5 * x) (noted end) 0 (λ e. omega arith) ∙ getD-set-other withCount (5 * x + 3) (5 * x) next 0 (λ e. omega arith)
-            ∙ getD-set-other withStart (5 * x + 2) (5 * x) count 0 (λ e. omega arith)
-            ∙ getD-set-other withRow (5 * x + 1) (5 * x) a 0 (λ e. omega arith)
-            ∙ getD-set-same memory (5 * x) row 0 (omega arith)
+        ∙ getD-set-other withStart (5 * x + 2) (5 * x) count 0 (λ e. omega arith)
+        ∙ getD-set-other withRow (5 * x + 1) (5 * x) a 0 (λ e. omega arith)
+        ∙ getD-set-same memory (5 * x) row 0 (omega arith)
 
     the-start : getD new (5 * x + 1) 0 ≡ a
     the-start =
         getD-set-other withState (5 * x + 4) (5 * x + 1) (noted end) 0 (λ e. omega arith) ∙ getD-set-other withCount (5 * x + 3) (5 * x + 1) next 0 (λ e. omega arith)
-            ∙ getD-set-other withStart (5 * x + 2) (5 * x + 1) count 0 (λ e. omega arith)
-            ∙ getD-set-same withRow (5 * x + 1) a 0 (simp length-set (omega arith))
+        ∙ getD-set-other withStart (5 * x + 2) (5 * x + 1) count 0 (λ e. omega arith)
+        ∙ getD-set-same withRow (5 * x + 1) a 0 (simp length-set (omega arith))
 
     the-count : getD new (5 * x + 2) 0 ≡ count
     the-count =
         getD-set-other withState (5 * x + 4) (5 * x + 2) (noted end) 0 (λ e. omega arith) ∙ getD-set-other withCount (5 * x + 3) (5 * x + 2) next 0 (λ e. omega arith)
-            ∙ getD-set-same withStart (5 * x + 2) count 0 (simp length-set (omega arith))
+        ∙ getD-set-same withStart (5 * x + 2) count 0 (simp length-set (omega arith))
 
     the-state : getD new (5 * x + 3) 0 ≡ next
     the-state =
         getD-set-other withState (5 * x + 4) (5 * x + 3) (noted end) 0 (λ e. omega arith)
-            ∙ getD-set-same withCount (5 * x + 3) next 0 (simp length-set (omega arith))
+        ∙ getD-set-same withCount (5 * x + 3) next 0 (simp length-set (omega arith))
 
     the-end : getD new (5 * x + 4) 0 ≡ noted end
     the-end = getD-set-same withState (5 * x + 4) (noted end) 0 (simp length-set (omega arith))
+
+-- at first nothing is remembered
+pub blank : (L S name first : List ℕ) (null : List Bool) (cont : List ℕ) (ends : List Bool) (C : List ℕ) → Remembers L S name first null cont ends C (replicate 80 0)
+blank L S name first null cont ends C = record { long = length-replicate {A = ℕ} 80 0; each = λ x h. record { is = λ n. absurd (n (getD-replicate {A = ℕ} 80 (5 * x) 0 0 (omega arith))) } }
 
 -- what is kept is remembered, and nothing else is forgotten
 module _ {L S name first : List ℕ} {null : List Bool} {cont : List ℕ} {ends : List Bool} {C memory : List ℕ} (r : Remembers L S name first null cont ends C memory) {x row a count next : ℕ} {end : Bool}
@@ -77,12 +81,14 @@ module _ {L S name first : List ℕ} {null : List Bool} {cont : List ℕ} {ends 
   own =
       record {
         is = λ _.
-            rw (the-row memory x row a count next end few (r .long),
+            rw (
+              the-row memory x row a count next end few (r .long),
               the-start memory x row a count next end few (r .long),
               the-count memory x row a count next end few (r .long),
               the-state memory x row a count next end few (r .long),
               the-end memory x row a count next end few (r .long),
-              noted-end end)
+              noted-end end,
+            )
             read;
       }
 

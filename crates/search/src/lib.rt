@@ -2,6 +2,7 @@ ghost use mathlib.Core.Path.{_≡_};
 ghost use Prim.Native.Nat.{_+_, _*_, _≤_, _<_};
 ghost use lib.ListN.{length};
 ghost use lib.Seq.{paste};
+ghost use Rattle.memory.specs.Memory.{Remembers};
 ghost use Rattle.listing.proofs.Back.{BackTo};
 ghost use Rattle.search.specs.Search.{AttemptPre, AttemptPost, GoPre, GoPost};
 
@@ -55,11 +56,14 @@ fn attempt(
     x: usize,
     s: usize,
     v: usize,
+    memory: &mut [usize; 80],
 ) -> walk::Out
-    requires { ⌜ AttemptPre (now label) (now size) (now pattern) (now name) (now first) (now null) (now cont) (now ends) (now constraint) (now kinds) (now «record») x s v ⌝ }
-    ensures { λ r. ⌜ AttemptPost (now (label .entry)) (now (size .entry)) (now (pattern .entry)) (now (name .entry)) (now (first .entry)) (now (null .entry)) (now (cont .entry)) (now (ends .entry)) (now (constraint .entry)) (now (kinds .entry)) (now («record» .entry)) x s v r (now («record» .exit)) ⌝ }
+    requires { ⌜ AttemptPre (now label) (now size) (now pattern) (now name) (now first) (now null) (now cont) (now ends) (now constraint) (now kinds) (now «record») x s v
+        × Remembers (now label) (now size) (now name) (now first) (now null) (now cont) (now ends) (now constraint) (now memory) ⌝ }
+    ensures { λ r. ⌜ AttemptPost (now (label .entry)) (now (size .entry)) (now (pattern .entry)) (now (name .entry)) (now (first .entry)) (now (null .entry)) (now (cont .entry)) (now (ends .entry)) (now (constraint .entry)) (now (kinds .entry)) (now («record» .entry)) x s v r (now («record» .exit))
+        × Remembers (now (label .entry)) (now (size .entry)) (now (name .entry)) (now (first .entry)) (now (null .entry)) (now (cont .entry)) (now (ends .entry)) (now (constraint .entry)) (now (memory .exit)) ⌝ }
 {
-    if !problem::judge(
+    if !memory::judge(
         label,
         size,
         name,
@@ -72,6 +76,7 @@ fn attempt(
         x,
         s,
         v,
+        memory,
     ) {
         return walk::Out::Fail;
     }
@@ -105,6 +110,7 @@ pub fn go(
     requires { ⌜ GoPre (now label) (now size) (now pattern) (now name) (now first) (now null) (now cont) (now ends) (now constraint) (now kinds) room width «record» variables starts nexts lefts start (now out) ⌝ }
     ensures { λ r. ⌜ GoPost (now (label .entry)) (now (size .entry)) (now (pattern .entry)) (now (name .entry)) (now (first .entry)) (now (null .entry)) (now (cont .entry)) (now (ends .entry)) (now (constraint .entry)) (now (kinds .entry)) budget room width «record» variables starts nexts lefts start (now (out .entry)) r (now (out .exit)) ⌝ }
 {
+    let mut memory = [0usize; 80];
     let mut depth = start;
     let mut count: usize = 0;
     let mut tries: u32 = 0;
@@ -144,6 +150,7 @@ pub fn go(
             variables[at],
             starts[at],
             v,
+            &mut memory,
         ) {
             walk::Out::Fail => {}
             walk::Out::Need(x, s, lo, hi) => {

@@ -6,38 +6,38 @@ use Rattle.search.proofs.attempt.Statement.{statement}
 use Rattle.search.proofs.attempt.Tie as tie
 use Rattle.search.proofs.attempt.Reads as reads
 use Rattle.search.proofs.attempt.Lts as lts
-use Rattle.problem.proofs.judge.Reads as judge-reads
+use Rattle.memory.proofs.judge.Reads as judge-reads
 use Rattle.walk.proofs.walk.Reads as walk-reads
 
 judge-requires : tie.Need-judge-requires
-judge-requires c κs = try-judged (c .before .before .before .before .pre)
+judge-requires c κs = record { asked = try-judged (c .before .before .before .before .before .pre .0); remembers = c .before .before .before .before .before .pre .1 }
 
 returns : tie.Need-returns
-returns c = try-fails (c .before .before .before .before .before .before .pre) (c .before .judge .ensures) (not-true _ (c .if1 .taken))
+returns c = (try-fails (c .before .before .before .before .before .before .before .pre .0) (c .before .judge .ensures .judged) (not-true _ (c .if1 .taken)), c .before .judge .ensures .remembers)
 
 cast-record : tie.Need-cast-record
-cast-record c = omega (arith, c .before .before .before .before .before .before .pre .small)
+cast-record c = omega (arith, c .before .before .before .before .before .before .before .pre .0 .small)
 
 add-record : tie.Need-add-record
-add-record c = omega (arith, try-within (c .before .before .before .before .before .before .pre))
+add-record c = omega (arith, try-within (c .before .before .before .before .before .before .before .pre .0))
 
 add-record-2 : tie.Need-add-record-2
-add-record-2 c = omega (arith, try-within (c .before .before .before .before .before .before .pre))
+add-record-2 c = omega (arith, try-within (c .before .before .before .before .before .before .before .pre .0))
 
 mul-record : tie.Need-mul-record
-mul-record c = omega (arith, try-within (c .before .before .before .before .before .before .pre))
+mul-record c = omega (arith, try-within (c .before .before .before .before .before .before .before .pre .0))
 
 element-write-record : tie.Need-element-write-record
-element-write-record c = omega (arith, try-within (c .before .before .before .before .before .before .pre))
+element-write-record c = omega (arith, try-within (c .before .before .before .before .before .before .before .pre .0))
 
 add-walk : tie.Need-add-walk
-add-walk c = omega (arith, try-within (c .before .before .before .before .before .before .before .pre))
+add-walk c = omega (arith, try-within (c .before .before .before .before .before .before .before .before .pre .0))
 
 walk-requires : tie.Need-walk-requires
-walk-requires c κs = try-asked (c .before .before .before .before .before .before .before .pre)
+walk-requires c κs = try-asked (c .before .before .before .before .before .before .before .before .pre .0)
 
 returns-2 : tie.Need-returns-2
-returns-2 c = try-walked (c .before .before .before .before .before .before .before .before .pre) (c .before .before .before .judge .ensures) (not-false _ (c .before .before .if1 .left)) (c .walk .ensures)
+returns-2 c = (try-walked (c .before .before .before .before .before .before .before .before .before .pre .0) (c .before .before .before .judge .ensures .judged) (not-false _ (c .before .before .if1 .left)) (c .walk .ensures), c .before .before .before .judge .ensures .remembers)
 
 pub attempt-spec : {M : Type 1} → statement M
 attempt-spec =
