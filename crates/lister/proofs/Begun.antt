@@ -1,32 +1,29 @@
 -- The first walk, before any choice, and what the search begins with.
-use Prim.Native.Nat.{ℕ, zero, suc, _+_, _-_, _*_, _<_, _≤_}
-use mathlib.Core.Path.{_≡_, refl, ap, _∙_, sym, subst}
+use Prim.Native.Nat.{ℕ, suc, _+_, _-_, _<_, _≤_}
+use mathlib.Core.Path.{_≡_, ap, _∙_, sym, subst}
 use mathlib.Core.Bool.{Bool}
-use mathlib.Core.List.{List, [], _∷_, _++_}
-use lib.ListN.{length, getD, take, set, replicate, length-set}
+use mathlib.Core.List.{List, []}
+use lib.ListN.{length, take, set, length-set}
 use lib.Seq.{paste}
 use native.Mathlib.Omega.{arith}
 use Rattle.meaning.specs.Forest.{Term, size}
-use Rattle.meaning.specs.Pattern.{Pattern, Kind, anIndividual, aFunction, old, look}
-use Rattle.meaning.specs.Value.{Value}
+use Rattle.meaning.specs.Pattern.{Pattern, Kind}
 use Rattle.meaning.specs.Record.{Entry, numbers}
-use Rattle.meaning.proofs.Walk.{Res, fail, need, ok, walk}
-use Rattle.meaning.proofs.Next.{Any, any?, first-free}
+use Rattle.meaning.proofs.Walk.{need, ok, walk}
+use Rattle.meaning.proofs.Next.{first-free}
 use Rattle.meaning.proofs.Tame.{count, tame-need}
 use Rattle.expression.specs.Expression.{Expression}
 use Rattle.constraint.specs.Obeys.{Constraint, Allowed}
 use Rattle.constraint.proofs.Allowed.{allowed?}
-use Rattle.variable.specs.State.{Kept}
 use Rattle.walk.specs.Walked.{Problem, WalkPre, WalkPost, Answers}
 use Rattle.walk.specs.declared.Out.{Out}
 use Rattle.walk.specs.declared.Out.the-variants as answer
-use Rattle.listing.proofs.Events.{events}
 use Rattle.listing.proofs.Run.{Tame}
-use Rattle.listing.proofs.Fill.{fill, rest}
+use Rattle.listing.proofs.Fill.{fill}
 use Rattle.listing.proofs.Levels.{Levels, levels-need}
 use Rattle.listing.proofs.Loop.{Fixed, first-fail, first-need, first-full, first-done, first-room, first-deep}
 use Rattle.listing.proofs.Whole.{walked, outcome, is-tame}
-use Rattle.search.specs.Search.{Search, GoAsked, GoPre, GoPost}
+use Rattle.search.specs.Search.{GoAsked, GoPre, GoPost}
 use Rattle.search.specs.declared.Found.{Found}
 use Rattle.search.proofs.Going.{few, individuals, functions}
 use Rattle.search.proofs.Turns.{said-fail, said-need, said-done, numbers-double, tree-small}

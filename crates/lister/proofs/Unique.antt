@@ -1,12 +1,12 @@
 -- The promise settles the lister's answer and the lent list afterwards.
-use Prim.Native.Nat.{ℕ, _+_}
-use mathlib.Core.Path.{_≡_, refl, ap, _∙_, sym}
+use Prim.Native.Nat.{ℕ}
+use mathlib.Core.Path.{_≡_, ap, _∙_, sym}
 use mathlib.Core.List.{List}
 use native.Mathlib.Decide.{ℕ-discrete}
 use Rattle.meaning.specs.Lowest.{accept}
 use Rattle.meaning.proofs.OneCode.{one-accept}
-use Rattle.problem.specs.Problem.{Lists, Codes}
-use Rattle.problem.proofs.Posed.{Posed, posed, one-codes}
+use Rattle.problem.specs.Problem.{Lists}
+use Rattle.problem.proofs.Posed.{posed, one-codes}
 use Rattle.listing.specs.Answer.{Result}
 use Rattle.listing.specs.Listing.{joined}
 use Rattle.listing.proofs.Facts.{one-answer}

@@ -1,5 +1,5 @@
 -- The lister, whole: what the search fills is what is meant.
-use Prim.Native.Nat.{ℕ, zero, suc, _+_, _*_, _/_, _<_, _≤_}
+use Prim.Native.Nat.{ℕ, suc, _+_, _≤_}
 use mathlib.Core.Path.{_≡_, refl, ap, _∙_, sym, subst}
 use mathlib.Core.Bool.{Bool}
 use mathlib.Core.List.{List, [], _∷_}
@@ -17,7 +17,7 @@ use Rattle.expression.specs.Good.{GoodTable}
 use Rattle.letters.specs.State.{TablesOf}
 use Rattle.constraint.specs.Obeys.{Constraint, Allowed}
 use Rattle.constraint.proofs.Allowed.{allowed?}
-use Rattle.problem.specs.Problem.{Lists, Poses, Codes}
+use Rattle.problem.specs.Problem.{Lists, Poses}
 use Rattle.problem.specs.Answer.{Answered}
 use Rattle.problem.specs.declared.Problem.{Problem}
 use Rattle.problem.proofs.Posed.{Posed, posed, codes-high}
@@ -31,11 +31,9 @@ use Rattle.listing.proofs.Run.{Tame, run}
 use Rattle.listing.proofs.Fill.{filled, room-fits}
 use Rattle.listing.proofs.Whole.{walked, is-tame, meant}
 use Rattle.listing.proofs.Facts.{meant-unlimited}
-use Rattle.search.specs.Search.{Search}
 use Rattle.search.specs.declared.Found.{Found}
 use Rattle.lister.specs.Begun.{BeginAsked, BeginPre, BeginPost}
 use Rattle.lister.specs.Listed.{Settled}
-use Rattle.lister.specs.declared.Listed.{Listed}
 
 -- the room of the code is the room of the rules
 in-room : {A : ℕ → Value → Type 0} (a? : (x : ℕ) (v : Value) → Dec (A x v)) {P : Pattern} {T : Term} {budget : ℕ} {x : Result} (n : ℕ) (Q : List Kind) → Numbered P Q

@@ -1,20 +1,18 @@
 -- What is accepted is a problem, and one only; and what a function that checks more gives.
 use Prim.Native.Nat.{ℕ}
 use mathlib.Core.Path.{_≡_}
-use mathlib.Core.Logic.{_⊎_, inl, inr}
+use mathlib.Core.Logic.{inl, inr}
 use mathlib.Core.List.{List}
 use native.Mathlib.Omega.{arith}
 use Rattle.meaning.specs.Forest.{Term}
 use Rattle.meaning.specs.Pattern.{Pattern, Kind}
 use Rattle.meaning.specs.Lowest.{accept}
-use Rattle.meaning.proofs.OneCode.{one-refuse, one-accept}
+use Rattle.meaning.proofs.OneCode.{one-refuse}
 use Rattle.tree.proofs.Unique.{unique}
 use Rattle.expression.specs.Expression.{Expression}
 use Rattle.constraint.specs.Obeys.{Constraint}
 use Rattle.constraint.proofs.Meant.{one-meaning}
 use Rattle.problem.specs.Problem.{Lists, Poses, Codes}
-use Rattle.problem.specs.Answer.{Answered}
-use Rattle.problem.specs.declared.Problem.{Problem}
 
 -- a problem that the lists mean
 pub record Posed (l : Lists) : Type 0 where

@@ -7,17 +7,16 @@ use lib.ListN.{length, getD}
 use native.Mathlib.Omega.{arith}
 use native.Mathlib.Decide.{ℕ-discrete}
 use Rattle.meaning.specs.Forest.{Forest}
-use Rattle.meaning.specs.Pattern.{Kind, anIndividual, aSequence, aFunction, aContext, Look, old, look}
+use Rattle.meaning.specs.Pattern.{Kind, anIndividual, aSequence, aFunction, aContext, old, look}
 use Rattle.meaning.specs.Says.{Says}
 use Rattle.meaning.specs.GoodRecord.{Fits, GoodRecord}
 use Rattle.meaning.proofs.Lists.{look-old, look-some}
 use Rattle.meaning.proofs.Answers.{says-yes, says-no, said-no}
 use Rattle.tree.specs.Places.{TermsAt}
 use Rattle.pattern.specs.Rows.{code}
-use Rattle.pattern.specs.Answer.{listed}
 use Rattle.pattern.specs.Known.{KindsAre}
 use Rattle.pattern.proofs.Listed.{one-code, listed-length, listed-look}
-use Rattle.record.specs.Pairs.{RowsPre, FitsPost, PairPost, RecordPre, RecordPost}
+use Rattle.record.specs.Pairs.{FitsPost, PairPost, RecordPre, RecordPost}
 
 -- the kinds by their numbers
 pub pair-sequence : {S : List ℕ} {kind a b : ℕ} {r : Bool} → kind ≡ 2 → FitsPost S aSequence a b r → PairPost S kind a b r

@@ -1,17 +1,17 @@
 -- The search's loop: what holds at each turn, for every problem that the lists mean.
-use Prim.Native.Nat.{ℕ, zero, suc, _+_, _-_, _*_, _<_, _≤_}
+use Prim.Native.Nat.{ℕ, suc, _+_, _-_, _*_, _<_, _≤_}
 use mathlib.Core.Path.{_≡_, refl, ap, _∙_, sym, subst}
 use mathlib.Core.Bool.{Bool}
-use mathlib.Core.List.{List, [], _∷_, _++_}
+use mathlib.Core.List.{List, [], _∷_}
 use lib.ListN.{length, getD, take, set, length-set}
-use lib.Seq.{length-take-le, paste}
+use lib.Seq.{paste}
 use native.Mathlib.Omega.{arith}
 use native.Mathlib.Numerals.{add-one}
 use Rattle.meaning.specs.Forest.{Term, size, rows}
 use Rattle.meaning.specs.Pattern.{Pattern, Kind}
 use Rattle.meaning.specs.Record.{Entry, numbers}
 use Rattle.meaning.proofs.Walk.{Res, fail, need, ok, walk}
-use Rattle.meaning.proofs.Tame.{count, tame-need, tame-ok}
+use Rattle.meaning.proofs.Tame.{count, tame-need}
 use Rattle.tree.specs.Good.{GoodTree}
 use Rattle.tree.proofs.Unique.{good-lengths}
 use Rattle.expression.specs.Expression.{Expression}
@@ -20,15 +20,14 @@ use Rattle.constraint.proofs.Allowed.{allowed?}
 use Rattle.walk.specs.Walked.{Answers, fails, needs, matches}
 use Rattle.walk.specs.declared.Out.{Out}
 use Rattle.walk.specs.declared.Out.the-variants as answer
-use Rattle.listing.proofs.Events.{Outcome, done}
 use Rattle.listing.proofs.Events as events
 use Rattle.listing.proofs.Run.{Tame}
 use Rattle.listing.proofs.Back.{BackTo}
 use Rattle.listing.proofs.Fill.{Filled, fill, rest, ahead}
-use Rattle.listing.proofs.Levels.{Level, Levels, levels-back, levels-need}
-use Rattle.listing.proofs.Loop.{Fixed, Stands, At, at-rest, at-back, all-done, at-spent, at-next, at-fail, at-need, at-match, no-room, room-left, need-deep}
+use Rattle.listing.proofs.Levels.{Levels, levels-back, levels-need}
+use Rattle.listing.proofs.Loop.{Fixed, At, at-rest, at-back, all-done, at-spent, at-next, at-fail, at-need, at-match, no-room, room-left, need-deep}
 use Rattle.listing.proofs.Whole.{outcome, is-tame}
-use Rattle.search.specs.Search.{Search, AttemptPre, AttemptPost, GoAsked, GoPre, GoPost}
+use Rattle.search.specs.Search.{AttemptPre, AttemptPost, GoAsked, GoPre, GoPost}
 use Rattle.search.specs.declared.Found.{Found}
 use Rattle.search.proofs.Going.{few, Walked, Leveled, try-kind, try-answered}
 

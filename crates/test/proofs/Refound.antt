@@ -1,9 +1,9 @@
 -- The walk with a record's own choices finds the record again exactly where it is that of a substitution.
-use Prim.Native.Nat.{ℕ, _+_, _*_, _≤_}
+use Prim.Native.Nat.{ℕ, _+_, _≤_}
 use mathlib.Core.Path.{_≡_, refl, ap, _∙_, sym, subst}
 use mathlib.Core.Bool.{Bool, false}
 use mathlib.Core.List.{List, [], _∷_}
-use lib.ListN.{length, getD, take}
+use lib.ListN.{length, take}
 use lib.Seq.{take-all}
 use native.Mathlib.Omega.{arith}
 use Rattle.meaning.specs.Says.{Says}
@@ -18,7 +18,6 @@ use Rattle.meaning.proofs.Next.{Any, any?}
 use Rattle.meaning.proofs.Tame.{tame-ok}
 use Rattle.meaning.proofs.Theorems.{test-yes, test-no}
 use Rattle.meaning.proofs.Answers.{says-no}
-use Rattle.tree.proofs.Unique.{good-lengths}
 use Rattle.pattern.proofs.Joint.{good-scan, lengths}
 use Rattle.record.proofs.Each.{good-long}
 use Rattle.walk.specs.Packed.{Packed, PackPre}

@@ -1,5 +1,5 @@
 -- The test, whole: a record of a substitution that turns the pattern into the tree, and whose values obey, is one of a matcher.
-use Prim.Native.Nat.{ℕ, zero, suc, _+_, _<_, _≤_}
+use Prim.Native.Nat.{ℕ, zero, suc, _+_, _<_}
 use mathlib.Core.Path.{_≡_, refl, ap, _∙_, sym}
 use mathlib.Core.Logic.{inl, inr}
 use mathlib.Core.Bool.{Bool, true, false}
@@ -8,9 +8,8 @@ use lib.ListN.{length, getD}
 use native.Mathlib.Omega.{arith}
 use Rattle.meaning.specs.Says.{Says}
 use Rattle.meaning.specs.Forest.{Forest, none, Term, _◂_}
-use Rattle.meaning.specs.Pattern.{Pattern, Kind, Look, old, look, Numbered}
+use Rattle.meaning.specs.Pattern.{Pattern, Kind, old, look, Numbered}
 use Rattle.meaning.specs.Value.{Value, kinds}
-use Rattle.meaning.specs.Solves.{Solves}
 use Rattle.meaning.specs.Read.{valueAt, readOff}
 use Rattle.meaning.specs.GoodRecord.{GoodRecord}
 use Rattle.meaning.specs.Matcher.{IsRecord}
@@ -34,7 +33,6 @@ use Rattle.problem.specs.declared.Problem.{Problem}
 use Rattle.problem.proofs.Posed.{Posed, posed, codes-low, codes-high}
 use Rattle.test.specs.Tested.{Fifteen, Settled}
 use Rattle.test.specs.Inside.{Walkable, WalkablePre, PlacedPost, Constrained, ConstrainedPre, AllObey, ObeyedPost}
-use Rattle.test.specs.declared.Tested.{Tested}
 use Rattle.test.specs.declared.Tested.the-variants.{Refused, Yes, No}
 
 -- the values that a record means, one by one

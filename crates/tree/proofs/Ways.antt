@@ -1,19 +1,17 @@
 -- The loops that go down to a row: to the child that holds it, and to the list in which it stands.
-use Prim.Native.Nat.{ℕ, suc, _+_, _<_, _≤_, _-_}
+use Prim.Native.Nat.{ℕ, suc, _+_, _<_, _≤_}
 use mathlib.Core.Path.{_≡_, ap, _∙_, sym, subst}
 use mathlib.Core.Logic.{_≢_}
 use mathlib.Core.List.{List}
 use lib.ListN.{length, getD}
 use native.Mathlib.Omega.{arith}
 use native.Mathlib.Decide.{decLt}
-use Rattle.meaning.specs.Forest.{Forest, none, some, Term, _◂_, rows, Context, node}
+use Rattle.meaning.specs.Forest.{Forest, some, rows, Context, node}
 use Rattle.meaning.specs.Read.{fromRow}
 use Rattle.meaning.proofs.From.{from-zero}
-use Rattle.tree.specs.Good.{GoodTree}
 use Rattle.tree.specs.Places.{TermsAt, Next, Level, ContextAt, at-hole, at-node}
 use Rattle.tree.specs.Helpers.{ChildPre, ChildPost, ListPre, ListPost}
 use Rattle.tree.proofs.Terms.{terms-le, term-next, term-size, first-at}
-use Rattle.tree.proofs.Unique.{good-at, good-lengths}
 use Rattle.tree.proofs.Cuts.{from-inside, from-behind}
 
 pub context-le : {L S : List ℕ} {a b : ℕ} {c : Context} → ContextAt L S a b c → a ≤ b
@@ -160,12 +158,3 @@ module _ {S : List ℕ} {row u e : ℕ} (down : Down S row u e) where
                 λ d q. w .2 (suc (rows (x .args) + d)) (omega arith) ∙ ap (λ (g : Forest). fromRow g (suc (rows (x .args) + d))) (x .is) ∙ from-behind (x .label) (x .args) (x .rest) d,
               );
         }
-
--- of a good tree
-pub good-list-pre : {L S : List ℕ} {T : Term} {row : ℕ} → GoodTree L S T → row < length L → ListPre S row
-good-list-pre {L} {S} {T} good h =
-    let e = good-lengths good .1 in
-    record { inside = omega arith; some = (L, T ◂ none, rw e (good-at good)) }
-
-pub good-list : {L S : List ℕ} {T : Term} {row r : ℕ} → GoodTree L S T → ListPost S row r → TermsAt L S row r (fromRow (T ◂ none) row)
-good-list {L} {S} {T} good post = post .is L (T ◂ none) (rw (good-lengths good .1) (good-at good))

@@ -1,5 +1,5 @@
 -- Laws of the term walk.
-use Prim.Native.Nat.{ℕ, suc, _+_, _*_, _-_, _<_, _≤_}
+use Prim.Native.Nat.{ℕ, suc, _+_, _*_, _<_, _≤_}
 use mathlib.Core.Path.{_≡_, refl, _∙_, sym, subst}
 use mathlib.Core.Logic.{_≢_}
 use mathlib.Core.List.{List}

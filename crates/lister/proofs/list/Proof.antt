@@ -5,13 +5,6 @@ use Rattle.lister.proofs.Whole.{list-refused, tables-asked, pack-asked,
 use borrow.Author.Needs.{needs}
 use Rattle.lister.proofs.list.Statement.{statement}
 use Rattle.lister.proofs.list.Tie as tie
-use Rattle.lister.proofs.list.Reads as reads
-use Rattle.lister.proofs.list.Lts as lts
-use Rattle.letters.proofs.tables_of.Reads as tables-of-reads
-use Rattle.lister.proofs.begin.Reads as begin-reads
-use Rattle.lister.proofs.room_for.Reads as room-for-reads
-use Rattle.problem.proofs.check.Reads as check-reads
-use Rattle.walk.proofs.pack.Reads as pack-reads
 
 check-requires : tie.Need-check-requires
 check-requires c κs = search needs

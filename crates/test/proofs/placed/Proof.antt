@@ -3,12 +3,6 @@ use Rattle.test.proofs.Refound.{pack-asked, list-short, walk-asked, pla
 use borrow.Author.Needs.{needs}
 use Rattle.test.proofs.placed.Statement.{statement}
 use Rattle.test.proofs.placed.Tie as tie
-use Rattle.test.proofs.placed.Reads as reads
-use Rattle.test.proofs.placed.Lts as lts
-use Rattle.test.proofs.copy.Reads as copy-reads
-use Rattle.test.proofs.equal.Reads as equal-reads
-use Rattle.walk.proofs.pack.Reads as pack-reads
-use Rattle.walk.proofs.walk.Reads as walk-reads
 
 slice-aggregate-pack : tie.Need-slice-aggregate-pack
 slice-aggregate-pack c = search needs
