@@ -10,6 +10,7 @@ use Rattle.meaning.specs.Read.{takeT}
 use Rattle.tree.specs.Places.{TermsAt, stop, step, Next, ContextAt, at-hole, at-node}
 use Rattle.tree.specs.Helpers.{ChildPre, ChildPost}
 use Rattle.tree.proofs.Terms.{terms-le, terms-end}
+use Rattle.tree.proofs.Ways.{context-le, hole-here}
 use Rattle.constraint.specs.Word.{heads, path}
 
 -- as many terms, as many letters; only the bare hole has none
@@ -32,11 +33,7 @@ pub none-path : path hole ≡ []
 unfolding path
 none-path = refl
 
--- the row of the hole is below the start, or the context is the bare hole
-pub hole-here : {L S : List ℕ} {a b : ℕ} {c : Context} → ContextAt L S a b c → a ≡ b → c ≡ hole
-hole-here (at-hole n e) h = refl
-hole-here (at-node v lo hi k) h = absurd (omega (arith, terms-le (v .before)))
-
+-- the bare hole stands at the context's own row
 pub here-hole : {L S : List ℕ} {a b : ℕ} {c : Context} → ContextAt L S a b c → c ≡ hole → a ≡ b
 here-hole (at-hole n e) h = e
 here-hole (at-node v lo hi k) h = absurd (let z : _≡_ {A = ℕ} 0 1 = cc in omega arith)
@@ -87,10 +84,6 @@ pub record PathLeft (L S : List ℕ) (t b : ℕ) (whole read : List ℕ) : Type 
 
 pub path-begin : {L S : List ℕ} {a b : ℕ} {c : Context} → ContextAt L S a b c → PathLeft L S a b (path c) []
 path-begin {c = c} x = record { inner = c; here = x; is = refl }
-
-context-le : {L S : List ℕ} {a b : ℕ} {c : Context} → ContextAt L S a b c → a ≤ b
-context-le (at-hole n e) = omega arith
-context-le (at-node v lo hi k) = omega (arith, terms-le (v .before))
 
 context-next : {L S : List ℕ} {a b : ℕ} {c : Context} → ContextAt L S a b c → Next L S a
 context-next (at-hole n e) = n

@@ -163,5 +163,4 @@ module _ (Allowed : ℕ → Value → Type 0) (allowed? : (x : ℕ) (v : Value) 
   -- more room or more budget only lengthens the list
   pub lengthens : {b c r q : ℕ} {x y : Result} → b ≤ c → r ≤ q → Meant Allowed Q P T b (atMost r) x → Meant Allowed Q P T c (atMost q) y → Begins (x .records) (y .records)
   lengthens {b} {c} {r} {q} h k m n =
-      let d = more (events (walked Allowed allowed? g T) (count Q) []) b c r q h k in
-      rw (one-answer m (meant Allowed allowed? g T b r), one-answer n (meant Allowed allowed? g T c q)) (record { rest = d .0; is = d .1 })
+      rw (one-answer m (meant Allowed allowed? g T b r), one-answer n (meant Allowed allowed? g T c q)) (more (events (walked Allowed allowed? g T) (count Q) []) b c r q h k)

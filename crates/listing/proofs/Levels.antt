@@ -13,7 +13,7 @@ use Rattle.meaning.specs.Record.{Entry, values, numbers}
 use Rattle.meaning.specs.Reached.{Begins}
 use Rattle.meaning.proofs.Walk.{need, walk}
 use Rattle.meaning.proofs.Lists.{look-old}
-use Rattle.meaning.proofs.Steps.{kinds-length}
+use Rattle.meaning.proofs.Steps.{kinds-length, values-length}
 use Rattle.meaning.proofs.Asked.{asked-reached, asked-picked}
 use Rattle.meaning.proofs.Tame.{weight, count, asked-next, picked-many}
 use Rattle.listing.proofs.Given.{Chosen, given, given-cut, count-less, given-same, given-next}
@@ -27,10 +27,6 @@ chosen aContext h = tt
 -- what a list begins with is what is taken of it
 begun : {A : Type 0} (b l : List A) → Begins b l → b ≡ take (length b) l
 begun b l p = rw (p .is) (sym (take-at b (p .rest) (length b) refl))
-
-values-length : (B : List Entry) → length (values B) ≡ length B
-values-length [] = refl
-values-length (e ∷ B) = ap suc (values-length B)
 
 module _ (Allowed : ℕ → Value → Type 0) (allowed? : (x : ℕ) (v : Value) → Dec (Allowed x v)) {Q : List Kind} {P : Pattern} (g : Numbered P Q) (T : Term) where
   -- after the choices cs the walk asks for the variable x, which starts at s; the values n, n + 1, .., m of them, are still to be tried

@@ -1,13 +1,14 @@
 -- What is answered: by going through the events, and by arithmetic on the lists of all tries and all matches. The two agree.
 use mathlib.Core.Path.{_≡_, refl, sym, ap, _∙_}
 use mathlib.Core.Logic.{inl, inr, _↔_}
-use mathlib.Core.List.{List, [], _∷_, _++_}
+use mathlib.Core.List.{List, [], _∷_}
 use mathlib.Core.Bool.{Bool, true, false}
 use Prim.Native.Nat.{ℕ, zero, suc, _+_, _≤_, _<_, zero-le}
 use native.Mathlib.Omega.{arith}
 use lib.Dec.{leb, ltb, leb·suc-suc}
 use lib.ListN.{length, take}
 use borrow.Author.Tests.{le-leb, lt-leb, lt-ltb, le-ltb, eq-eqb, ne-eqb}
+use Rattle.meaning.specs.Reached.{Begins}
 use Rattle.listing.specs.Order.{_⊏_, Mem, Ascending}
 use Rattle.listing.specs.Answer.{Result, pick, upto, place}
 use Rattle.listing.proofs.Events.{Outcome, need, done, Event, tried, matched, events, Within, Leads, Some, sound, complete, short}
@@ -247,17 +248,14 @@ module _ (walk : List ℕ → Outcome) (bound : ℕ) (stops : (v : List ℕ) (x 
       }
 
 -- more budget or more room only lengthens the list
-abbrev pub Begins : {A : Type 0} → List A → List A → Type 0
-Begins {A = A} l k = (t : List A) × (k ≡ l ++ t)
-
 pub more : (es : List Event) (b c r q : ℕ) → b ≤ c → r ≤ q → Begins (run es b r .records) (run es c q .records)
-more [] b c r q g h = ([], refl)
-more (tried v ∷ es) zero c r q g h = (run (tried v ∷ es) c q .records, refl)
+more [] b c r q g h = record { rest = []; is = refl }
+more (tried v ∷ es) zero c r q g h = record { rest = run (tried v ∷ es) c q .records; is = refl }
 more (tried v ∷ es) (suc b) zero r q g h = absurd (omega arith)
 more (tried v ∷ es) (suc b) (suc c) r q g h = more es b c r q (omega arith) h
-more (matched v x ∷ es) b c zero q g h = (run (matched v x ∷ es) c q .records, refl)
+more (matched v x ∷ es) b c zero q g h = record { rest = run (matched v x ∷ es) c q .records; is = refl }
 more (matched v x ∷ es) b c (suc r) zero g h = absurd (omega arith)
-more (matched v x ∷ es) b c (suc r) (suc q) g h = let i = more es b c r q g (omega arith) in (i .0, ap (λ l. x ∷ l) (i .1))
+more (matched v x ∷ es) b c (suc r) (suc q) g h = let i = more es b c r q g (omega arith) in record { rest = i .rest; is = ap (λ l. x ∷ l) (i .is) }
 
 -- what a walk has to be: it asks for a choice only after fewer than bound, of values below limit, and its records have the width
 pub record Tame (walk : List ℕ → Outcome) (bound limit width : ℕ) : Type 0 where

@@ -13,6 +13,11 @@ dropT zero us = us
 dropT (suc c) none = none
 dropT (suc c) (some l us rest) = dropT c rest
 
+pub no-rows : (f : Forest) → rows f ≡ 0 → f ≡ none
+unfolding rows
+no-rows none e = refl
+no-rows (some l us rest) e = absurd (omega arith)
+
 -- a cut sequence put together again
 abbrev pub glue : Cut → Forest
 glue c = c .left ⊕ (plug (c .around) (c .inner) ◂ c .right)

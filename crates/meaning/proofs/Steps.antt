@@ -64,6 +64,10 @@ pub kinds-length : (l : List Value) → length (kinds l) ≡ length l
 kinds-length [] = refl
 kinds-length (v ∷ l) = ap suc (kinds-length l)
 
+pub values-length : (B : List Entry) → length (values B) ≡ length B
+values-length [] = refl
+values-length (e ∷ B) = ap suc (values-length B)
+
 -- the choices made so far
 abbrev pub picked : List Entry → List ℕ
 picked B = choices (kinds (values B)) (numbers B)

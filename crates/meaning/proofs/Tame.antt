@@ -14,7 +14,7 @@ use Rattle.meaning.specs.Order.{choices}
 use Rattle.meaning.proofs.Walk.{need, ok, walk}
 use Rattle.meaning.specs.Reached.{Begins, UntilT, in-symbol, in-function, in-context, here-context, UntilF, in-first, in-rest, in-sequence, here-sequence}
 use Rattle.meaning.proofs.Lists.{look-new, look-end, next-is}
-use Rattle.meaning.proofs.Steps.{kinds-length, picked}
+use Rattle.meaning.proofs.Steps.{kinds-length, values-length, picked}
 use Rattle.meaning.proofs.Theorems.{sound}
 use Rattle.meaning.proofs.Asked.{asked-reached}
 
@@ -49,9 +49,9 @@ picked-many (e ∷ B) = go (e .value) (picked-many B)
     go (ofFunction l) h = omega arith
     go (ofContext c) h = omega arith
 
-numbers-many : (B : List Entry) → length (numbers B) ≡ length (values B) + length (values B)
-numbers-many [] = refl
-numbers-many (e ∷ B) = omega (arith, numbers-many B)
+pub numbers-double : (B : List Entry) → length (numbers B) ≡ length B + length B
+numbers-double [] = refl
+numbers-double (e ∷ B) = omega (arith, numbers-double B)
 
 count-more : (Q R : List Kind) → count (Q ++ R) ≡ count Q + count R
 count-more [] R = omega arith
@@ -129,4 +129,4 @@ module _ (Allowed : ℕ → Value → Type 0) (allowed? : (x : ℕ) (v : Value) 
       let k = r .solves .right in
       let l = ap length k in
       let m = kinds-length (values B) in
-      (ap length (r .chose) ∙ rw (← k) (picked-many B), omega (arith, numbers-many B))
+      (ap length (r .chose) ∙ rw (← k) (picked-many B), omega (arith, numbers-double B, values-length B))

@@ -1,12 +1,12 @@
 -- The turns of the search.
-use Prim.Native.Nat.{ℕ, suc, _+_, _-_, _<_, _≤_}
-use mathlib.Core.Path.{_≡_, refl, _∙_, sym}
+use Prim.Native.Nat.{ℕ, suc, _+_, _-_, _*_, _<_, _≤_}
+use mathlib.Core.Path.{_≡_, refl, _∙_, sym, subst}
 use mathlib.Core.Bool.{Bool}
 use mathlib.Core.List.{List, [], _∷_, _++_}
 use lib.ListN.{length, getD, take, set, length-set}
 use lib.Seq.{take-suc-set}
 use native.Mathlib.Omega.{arith}
-use Rattle.meaning.specs.Forest.{none, Term, _◂_}
+use Rattle.meaning.specs.Forest.{none, Term, _◂_, size}
 use Rattle.meaning.specs.Pattern.{Pattern, Kind, anIndividual, aSequence, aFunction, aContext, old, look, Numbered}
 use Rattle.meaning.specs.Value.{Value}
 use Rattle.meaning.specs.Read.{valueAt}
@@ -24,10 +24,11 @@ use Rattle.walk.specs.Walked.{given, Answers, fails}
 use Rattle.walk.specs.declared.Out.{Out}
 use Rattle.walk.specs.declared.Out.the-variants as out
 use Rattle.listing.proofs.Events.{Outcome}
-use Rattle.listing.proofs.Fill.{rest}
 use Rattle.listing.proofs.Given.{Chosen, given-cut}
 use Rattle.listing.proofs.Levels.{Level, level-kind, level-within, Levels, levels-kept, levels-next, levels-set, levels-given}
-use Rattle.listing.proofs.Whole.{walked}
+use Rattle.listing.proofs.Run.{Tame}
+use Rattle.listing.proofs.Loop.{Fixed}
+use Rattle.listing.proofs.Whole.{walked, is-tame}
 use Rattle.search.specs.Search.{Search, AttemptPost}
 
 -- individual and function variables have no constraint
@@ -53,6 +54,15 @@ module _ {L S M name first : List ℕ} {null : List Bool} {cont : List ℕ} {end
 
   abbrev pub Walked : List ℕ → Outcome
   Walked = walked (Allowed cs) (allowed? cs) numbered T
+
+  -- what does not change while it is searched
+  pub is-fixed : {width room : ℕ} {before : List ℕ} → width ≡ length Q + length Q → room * width ≤ length before → Fixed Walked (count Q) (size T) width room before
+  is-fixed wide fits =
+      record {
+        is-tame = subst (λ (n : ℕ). Tame Walked (count Q) (size T) n) (sym wide) (is-tame (Allowed cs) (allowed? cs) numbered T);
+        small = omega (arith, few Q, w .judging .few);
+        fits = fits;
+      }
 
   pub individuals : (x : ℕ) (v : Value) → look Q x ≡ old anIndividual → Allowed cs x v
   individuals x v e = unjudged anIndividual v refl (pair-at x (w .judging .given) e)

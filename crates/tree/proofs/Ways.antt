@@ -1,12 +1,12 @@
 -- The loops that go down to a row: to the child that holds it, and to the list in which it stands.
 use Prim.Native.Nat.{ℕ, suc, _+_, _<_, _≤_}
-use mathlib.Core.Path.{_≡_, ap, _∙_, sym, subst}
+use mathlib.Core.Path.{_≡_, refl, ap, _∙_, sym, subst}
 use mathlib.Core.Logic.{_≢_}
 use mathlib.Core.List.{List}
 use lib.ListN.{length, getD}
 use native.Mathlib.Omega.{arith}
 use native.Mathlib.Decide.{decLt}
-use Rattle.meaning.specs.Forest.{Forest, some, rows, Context, node}
+use Rattle.meaning.specs.Forest.{Forest, rows, Context, hole, node}
 use Rattle.meaning.specs.Read.{fromRow}
 use Rattle.meaning.proofs.From.{from-zero}
 use Rattle.tree.specs.Places.{TermsAt, Next, Level, ContextAt, at-hole, at-node}
@@ -17,6 +17,11 @@ use Rattle.tree.proofs.Cuts.{from-inside, from-behind}
 pub context-le : {L S : List ℕ} {a b : ℕ} {c : Context} → ContextAt L S a b c → a ≤ b
 context-le (at-hole n h) = omega arith
 context-le (at-node x p q k) = omega (arith, terms-le (x .before))
+
+-- the hole at the context's own row: the bare hole
+pub hole-here : {L S : List ℕ} {a b : ℕ} {c : Context} → ContextAt L S a b c → a ≡ b → c ≡ hole
+hole-here (at-hole n e) h = refl
+hole-here (at-node x p q k) h = absurd (omega (arith, terms-le (x .before)))
 
 pub a-node : {L S : List ℕ} {a b : ℕ} {c : Context} → ContextAt L S a b c → a ≢ b → (l : ℕ) × (left : Forest) × (d : Context) × (right : Forest) × ContextAt L S a b (node l left d right)
 a-node (at-hole n e) f = absurd (f e)

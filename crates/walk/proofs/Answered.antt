@@ -3,7 +3,9 @@ use Prim.Native.Nat.{ℕ, _+_}
 use mathlib.Core.Path.{_≡_, refl, ap, _∙_, sym}
 use mathlib.Core.List.{List, []}
 use lib.ListN.{length, take}
+use native.Mathlib.Omega.{arith}
 use Rattle.meaning.specs.Record.{Entry, numbers}
+use Rattle.meaning.proofs.Tame.{numbers-double}
 use Rattle.meaning.proofs.Walk.{Res, fail, need, ok}
 use Rattle.walk.specs.Walked.{Answers, fails, needs, matches}
 use Rattle.walk.specs.declared.Out.{Out}
@@ -21,5 +23,7 @@ failed fails = refl
 pub needed : {R : List ℕ} {x t lo hi : ℕ} {r : Res} → Answers R (out.Need x t lo hi) r → (B : List Entry) × (r ≡ need B t lo hi) × (length B ≡ x) × (take (x + x) R ≡ numbers B)
 needed (needs {B = B} a b) = (B, refl, a, b)
 
-pub matched : {R : List ℕ} {n : ℕ} {r : Res} → Answers R (out.Ok n) r → (B : List Entry) × (r ≡ ok B []) × (length B ≡ n) × (take (n + n) R ≡ numbers B)
-matched (matches {B = B} a b) = (B, refl, a, b)
+pub matched : {R : List ℕ} {n : ℕ} {r : Res} → Answers R (out.Ok n) r → (B : List Entry) × (r ≡ ok B []) × (take (length (numbers B)) R ≡ numbers B)
+matched {n = n} (matches {B = B} a b) =
+    let y : n + n ≡ length (numbers B) = omega (arith, a, numbers-double B) in
+    (B, refl, rw y at b)
