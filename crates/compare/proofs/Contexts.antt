@@ -1,5 +1,5 @@
 -- A whole context against a term, level by level.
-use Prim.Native.Nat.{ℕ, _+_, _-_, _<_, _≤_}
+use Prim.Native.Nat.{ℕ, _+_, _<_, _≤_}
 use mathlib.Core.Path.{_≡_, refl, ap, _∙_, sym}
 use mathlib.Core.Logic.{_≢_}
 use mathlib.Core.List.{List}
@@ -8,7 +8,7 @@ use Rattle.meaning.specs.Forest.{Forest, Term, term, Context, hole, node, plug,
 use Rattle.tree.specs.Places.{TermAt, Level, ContextAt, at-hole, at-node}
 use Rattle.tree.specs.Helpers.{ChildPre, ChildPost}
 use Rattle.tree.proofs.Terms.{terms-le}
-use Rattle.tree.proofs.Ways.{context-le}
+use Rattle.tree.proofs.Ways.{context-le, hole-here}
 use Rattle.compare.proofs.Levels.{same-behind}
 use Rattle.compare.specs.Appear.{Fits, misfit, fitting, LevelPre, LevelPost, FitsPre, FitsPost}
 use Rattle.compare.specs.declared.Found.{Found}
@@ -55,10 +55,6 @@ as-node : {L S : List ℕ} {a b : ℕ} {c : Context} → ContextAt L S a b c →
 as-node (at-hole n e) f = absurd (f e)
 as-node (at-node {l = l} {left = left} {right = right} {c = d} x p q k) f = record { label = l; left = left; inner = d; right = right; is = refl }
 
-as-hole : {L S : List ℕ} {a b : ℕ} {c : Context} → ContextAt L S a b c → a ≡ b → c ≡ hole
-as-hole (at-hole n e) f = refl
-as-hole (at-node x p q k) f = absurd (omega (arith, terms-le (x .before)))
-
 at-fits : {L S : List ℕ} {t h : ℕ} {c : Context} {T : Term} → Fits L S t c T (found.At h) → (U : Term) × (plug c U ≡ T) × (h ≡ t + holeRow c) × TermAt L S h (U .label) (U .args)
 at-fits (fitting U e r T) = (U, e, r, T)
 
@@ -78,7 +74,7 @@ module _ {L S : List ℕ} {a₀ b t₀ a t : ℕ} (fitted : Fitted L S a₀ b t�
       record {
         is = λ c m us x T.
             let w = fitted .is c m us x T in
-            let h = as-hole (w .here) e in
+            let h = hole-here (w .here) e in
             fitting {h = t} (w .part) (w .back (w .part) (ap (λ (d : Context). plug d (w .part)) h)) (omega (arith, w .hole-row, ap holeRow h)) (w .there);
       }
 

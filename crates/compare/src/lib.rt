@@ -1,5 +1,4 @@
 // A variable's later appearance: what it stands for, at its place in the tree, against what stands where it appears again.
-ghost use lib.ListN.{length};
 ghost use Rattle.tree.specs.Helpers.{CountPre};
 ghost use Rattle.compare.specs.Appear.{AlikePre, AlikePost, PassPost, LevelPre, FitsPre, LevelPost, FitsPost};
 

@@ -24,11 +24,6 @@ numbers-many all-given = refl
 numbers-many (none-given g) = omega (arith, numbers-many g)
 numbers-many (one-given m s f g) = omega (arith, numbers-many g)
 
-pub constraints-many : {es : List Expression} {Q : List Kind} {list : List ℕ} {cs : List Constraint} → GoodConstraints es Q list cs → length cs ≡ length Q
-constraints-many all-given = refl
-constraints-many (none-given g) = ap suc (constraints-many g)
-constraints-many (one-given m s f g) = ap suc (constraints-many g)
-
 -- the two numbers of a variable, behind those of the first
 behind-first : (a b : ℕ) (list : List ℕ) (x : ℕ) → (getD (a ∷ b ∷ list) (suc x + suc x) 0 ≡ getD list (x + x) 0) × (getD (a ∷ b ∷ list) (suc x + suc x + 1) 0 ≡ getD list (x + x + 1) 0)
 behind-first a b list x =

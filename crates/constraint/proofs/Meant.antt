@@ -6,7 +6,6 @@ use mathlib.Core.List.{List}
 use Rattle.meaning.specs.Says.{Says}
 use Rattle.meaning.specs.Pattern.{Pattern, Kind}
 use Rattle.meaning.proofs.Answers.{said-no}
-use Rattle.pattern.specs.Good.{GoodPattern}
 use Rattle.pattern.specs.Answer.{Settled}
 use Rattle.pattern.specs.declared.Checked.{Checked}
 use Rattle.pattern.proofs.Unique.{one-pattern, one-list}

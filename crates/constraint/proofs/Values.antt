@@ -1,17 +1,18 @@
 -- For callers: the values that a record's numbers mean stand at their rows, and `obeys` on them says what the constraints allow.
 use Prim.Native.Nat.{ℕ, _+_, _-_, _≤_, _<_}
-use mathlib.Core.Path.{_≡_, refl, ap}
+use mathlib.Core.Path.{_≡_, ap}
 use mathlib.Core.Bool.{Bool}
 use mathlib.Core.List.{List}
 use lib.ListN.{getD}
 use native.Mathlib.Omega.{arith}
 use native.Mathlib.Decide.{decLt}
 use Rattle.meaning.specs.Says.{Says}
-use Rattle.meaning.specs.Forest.{Forest, none, some, rows, terms, size}
+use Rattle.meaning.specs.Forest.{Forest, none, rows, terms, size}
 use Rattle.meaning.specs.Pattern.{Kind, anIndividual, aSequence, aFunction, aContext, old, look}
 use Rattle.meaning.specs.Value.{Value, ofSequence, ofContext}
 use Rattle.meaning.specs.Read.{takeT, fromRow, headTerm, cut, valueAt}
 use Rattle.meaning.specs.GoodRecord.{Fits}
+use Rattle.meaning.proofs.Laws.{no-rows}
 use Rattle.meaning.proofs.From.{from-past}
 use Rattle.tree.specs.Places.{TermsAt, ContextAt}
 use Rattle.tree.proofs.Terms.{terms-end, terms-rows, nothing-at, FirstAt, first-at}
@@ -26,11 +27,6 @@ use Rattle.constraint.specs.Good.{GoodConstraints}
 use Rattle.constraint.specs.Pair.{Pair, no-pair, a-pair}
 use Rattle.constraint.specs.Reading.{ValueAt, a-sequence, a-context, another, ObeysPre, ObeysPost}
 use Rattle.constraint.proofs.Constraints.{pair-at}
-
-no-rows : (f : Forest) → rows f ≡ 0 → f ≡ none
-unfolding rows
-no-rows none e = refl
-no-rows (some l us rest) e = absurd (omega arith)
 
 around-at : {L S : List ℕ} {a e : ℕ} {f : Forest} (b : ℕ) → FirstAt L S a e f → a ≤ b → b < a + size (headTerm f) → ContextAt L S a b (cut (headTerm f) (b - a) .around)
 around-at b h p q =

@@ -5,12 +5,13 @@ use mathlib.Core.Logic.{_≢_}
 use mathlib.Core.List.{List, [], _∷_, _++_, append-assoc, append-nil}
 use lib.ListN.{length, getD}
 use native.Mathlib.Omega.{arith}
-use Rattle.meaning.specs.Forest.{Forest, none, some, rows, terms, Context, hole, node}
+use Rattle.meaning.specs.Forest.{Forest, none, some, terms, Context, hole, node}
 use Rattle.meaning.specs.Read.{takeT}
 use Rattle.meaning.proofs.Laws.{dropT}
-use Rattle.tree.specs.Places.{TermsAt, stop, step, Next, Level, ContextAt, at-hole, at-node}
+use Rattle.tree.specs.Places.{TermsAt, stop, step, Next, ContextAt, at-hole, at-node}
 use Rattle.tree.specs.Helpers.{ChildPre, ChildPost}
 use Rattle.tree.proofs.Terms.{terms-le, terms-end}
+use Rattle.tree.proofs.Ways.{context-le, hole-here}
 use Rattle.constraint.specs.Word.{heads, path}
 
 -- as many terms, as many letters; only the bare hole has none
@@ -33,11 +34,7 @@ pub none-path : path hole ≡ []
 unfolding path
 none-path = refl
 
--- the row of the hole is below the start, or the context is the bare hole
-pub hole-here : {L S : List ℕ} {a b : ℕ} {c : Context} → ContextAt L S a b c → a ≡ b → c ≡ hole
-hole-here (at-hole n e) h = refl
-hole-here (at-node v lo hi k) h = absurd (omega (arith, terms-le (v .before)))
-
+-- the bare hole stands at the context's own row
 pub here-hole : {L S : List ℕ} {a b : ℕ} {c : Context} → ContextAt L S a b c → c ≡ hole → a ≡ b
 here-hole (at-hole n e) h = e
 here-hole (at-node v lo hi k) h = absurd (let z : _≡_ {A = ℕ} 0 1 = cc in omega arith)
@@ -80,10 +77,6 @@ pub record PathLeft (L S : List ℕ) (t b : ℕ) (whole read : List ℕ) : Type 
 pub path-begin : {L S : List ℕ} {a b : ℕ} {c : Context} → ContextAt L S a b c → PathLeft L S a b (path c) []
 path-begin {c = c} x = record { inner = c; here = x; is = refl }
 
-context-le : {L S : List ℕ} {a b : ℕ} {c : Context} → ContextAt L S a b c → a ≤ b
-context-le (at-hole n e) = omega arith
-context-le (at-node v lo hi k) = omega (arith, terms-le (v .before))
-
 context-next : {L S : List ℕ} {a b : ℕ} {c : Context} → ContextAt L S a b c → Next L S a
 context-next (at-hole n e) = n
 context-next (at-node v lo hi k) = v .here
@@ -114,20 +107,3 @@ module _ {L S : List ℕ} {t b : ℕ} {whole read : List ℕ} (h : PathLeft L S 
   pub path-end : t ≡ b → whole ≡ read
   unfolding path
   path-end e = h .is ∙ ap (λ (c : Context). read ++ path c) (hole-here (h .here) e) ∙ append-nil read
-
--- For a caller that goes on from one value to the next.
-
-context-ends : {L S : List ℕ} {a b : ℕ} {c : Context} → ContextAt L S a b c → b + getD S b 0 ≤ a + getD S a 0
-context-ends {S = S} (at-hole n e) = omega (arith, ap (λ (x : ℕ). x + getD S x 0) e)
-context-ends (at-node v lo hi k) = omega (arith, v .ends, context-ends k)
-
--- the hole one level further down is one more letter
-pub path-more : {L S : List ℕ} {a b u l : ℕ} {left right : Forest} {c : Context} → ContextAt L S a b c → Level L S b u l left right
-    → (d : Context) × ContextAt L S a u d × (path d ≡ path c ++ (l ∷ []))
-unfolding path
-path-more {L} {S} {b = b} {u = u} {l = l} {left = left} {right = right} (at-hole n e) v =
-    let x : u < u + getD S u 0 = omega (arith, v .there .positive) in
-    (node l left hole right, at-node {b = u} (rw (sym e) at v) (omega arith) x (at-hole (v .there) refl), refl)
-path-more {S = S} {b = b} {u = u} {l = l} (at-node {l = m} {left = left} {right = right} {c = c} w lo hi k) v =
-    let x = path-more k v in
-    (node m left (x .0) right, at-node {b = u} w (omega (arith, terms-le (v .before))) (omega (arith, context-ends k, v .ends, v .there .positive)) (x .1), ap (λ (p : List ℕ). m ∷ p) (x .2))

@@ -121,17 +121,6 @@ learn-finds ns w =
     let z : placeOf (w ∷ []) w ≡ 0 = simp (same-bytes w) in
     (omega (arith, place-right ns (w ∷ []) w k, z, place-le ns w), omega (arith, length-append ns (w ∷ []), place-le ns w)))
 
--- how many are known, as a reader counts them
-pub learn-old-size : (ns : List (List ℕ)) (w : List ℕ) → placeOf ns w < length ns → length (learn ns w) ≡ length ns
-learn-old-size ns w h = ap length (learn-old ns w h)
-
-pub learn-new-size : (ns : List (List ℕ)) (w : List ℕ) → length ns ≤ placeOf ns w → length (learn ns w) ≡ length ns + 1
-learn-new-size ns w h = ap length (learn-new ns w h) ∙ length-append ns (w ∷ [])
-
-pub known-least : (ns ws : List (List ℕ)) → length ns ≤ length (knownAfter ns ws)
-known-least ns [] = omega arith
-known-least ns (w ∷ ws) = omega (arith, known-least (learn ns w) ws, learn-size ns w)
-
 pub known-size : (ns ws : List (List ℕ)) → length (knownAfter ns ws) ≤ length ns + length ws
 known-size ns [] = omega arith
 known-size ns (w ∷ ws) = omega (arith, known-size (learn ns w) ws, learn-size ns w)
@@ -201,11 +190,7 @@ label-new ns ws r h k = go (ltb (getD (labelsOf ns ws) r 0) (length ns)) refl
         absurd (k (getD (labelsOf ns ws) r 0) below (sym (known-at ns ws _ below) ∙ label-spelling ns ws r h))
     go false e = ltb-false _ _ e
 
--- ROW BY ROW, as the reader labels: the next label is the place among what is known, and what is known learns it
-pub labels-next : (ns ws : List (List ℕ)) (w : List ℕ) → labelsOf ns (ws ++ (w ∷ [])) ≡ labelsOf ns ws ++ (placeOf (knownAfter ns ws) w ∷ [])
-labels-next ns [] w = refl
-labels-next ns (x ∷ ws) w = ap (λ (l : List ℕ). placeOf ns x ∷ l) (labels-next (learn ns x) ws w)
-
+-- ROW BY ROW, as the reader labels: what is known learns the next spelling, and a label is the place among what is known before it
 pub known-next : (ns ws : List (List ℕ)) (w : List ℕ) → knownAfter ns (ws ++ (w ∷ [])) ≡ learn (knownAfter ns ws) w
 known-next ns [] w = refl
 known-next ns (x ∷ ws) w = known-next (learn ns x) ws w

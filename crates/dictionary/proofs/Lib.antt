@@ -10,5 +10,4 @@ pub mod Chains
 pub mod Entries
 pub mod Insert
 pub mod Learning
-pub mod Labelling
 pub mod Parts

@@ -8,7 +8,7 @@ use native.Mathlib.Numerals.{add-one}
 use native.Mathlib.Decide.{ℕ-discrete}
 use lib.ListN.{length, getD, take, drop, length-drop, drop-of-length-le, take-append-drop}
 use lib.Seq.{drop-drop, take-suc, take-add, getD-drop, drop-at, take-all, length-take-le}
-use Rattle.meaning.specs.Says.{Says}
+use Rattle.meaning.proofs.Answers.{one-answer}
 use Rattle.dictionary.specs.Names.{encoding, GoodDictionary, NamesOf, DictionaryChecked}
 use Rattle.dictionary.specs.Scan.{range, upto, pieces}
 use Rattle.dictionary.proofs.Pieces.{upto-lt, pieces-encoding, encoding-append, first, piece-length, is-ten}
@@ -48,14 +48,9 @@ pub checked-bad : {d : List ℕ} → ((ns : List (List ℕ)) → GoodDictionary 
 checked-bad h = record { says = (λ e. absurd (true≢false (sym e)), λ g. absurd (h (g .0) (g .1))); counted = ([], names-bad h, refl) }
 
 -- THE PROMISE OF THE CHECK SETTLES ITS ANSWER
-says-unique : (a b : Bool) (P : Type 0) → Says a P → Says b P → a ≡ b
-says-unique true b P s t = sym (t .1 (s .0 refl))
-says-unique false true P s t = s .1 (t .0 refl)
-says-unique false false P s t = refl
-
 pub checked-unique : (d : List ℕ) (a b : Bool) (j k : ℕ) → DictionaryChecked d a j → DictionaryChecked d b k → (a ≡ b) × (j ≡ k)
 checked-unique d a b j k s t =
-    (says-unique a b _ (s .says) (t .says), s .counted .2 ∙ ap length (names-unique (s .counted .1) (t .counted .1)) ∙ sym (t .counted .2))
+    (one-answer a b (s .says) (t .says), s .counted .2 ∙ ap length (names-unique (s .counted .1) (t .counted .1)) ∙ sym (t .counted .2))
 
 -- THE WALK: p is where the piece k starts
 pub record Begins (d : List ℕ) (p k : ℕ) : Type 0 where

@@ -2,7 +2,7 @@
 use mathlib.Core.Path.{_≡_, refl, sym, ap, _∙_}
 use mathlib.Core.Bool.{Bool, true, false, cond}
 use mathlib.Core.List.{List, [], _∷_, _++_}
-use Prim.Native.Nat.{ℕ, zero, suc, _+_, _-_, _≤_, _<_}
+use Prim.Native.Nat.{ℕ, _+_, _≤_, _<_}
 use native.Mathlib.Omega.{arith}
 use native.Mathlib.Numerals.{add-one}
 use lib.Dec.{ltb}
@@ -13,14 +13,8 @@ use Rattle.rows.proofs.Upto.{Upto, upto-more, upto-all}
 use Rattle.dictionary.specs.Scan.{range}
 use Rattle.dictionary.specs.Labels.{placeOf, learn, knownAfter, labelsOf}
 use Rattle.dictionary.specs.Index.{Indexed, MayLabel, Labelled}
-use Rattle.dictionary.proofs.Labels.{place-le, known-next, length-labels}
+use Rattle.dictionary.proofs.Labels.{place-le, known-next, label-at, length-labels}
 use Rattle.document.specs.Labelling.{MayLabelRows}
-
--- a row's label: the place of its spelling among those known before it
-label-at : (ns ws : List (List ℕ)) (r : ℕ) → r < length ws → getD (labelsOf ns ws) r 0 ≡ placeOf (knownAfter ns (take r ws)) (getD ws r [])
-label-at ns [] r h = absurd (omega arith)
-label-at ns (w ∷ ws) zero h = refl
-label-at ns (w ∷ ws) (suc r) h = label-at (learn ns w) ws r (omega arith)
 
 known-more : (ns ws : List (List ℕ)) (r : ℕ) → r < length ws → knownAfter ns (take (r + 1) ws) ≡ learn (knownAfter ns (take r ws)) (getD ws r [])
 known-more ns ws r h = rw (add-one r, take-suc ws r [] h) (known-next ns (take r ws) (getD ws r []))

@@ -1,10 +1,10 @@
 -- The spelling lookup of a tree that was read.
 use mathlib.Core.Path.{_≡_, refl, sym, ap, _∙_}
-use mathlib.Core.Bool.{Bool, true, false, cond, _&&_}
+use mathlib.Core.Bool.{Bool, true, false, cond}
 use mathlib.Core.List.{List, [], _++_}
-use Prim.Native.Nat.{ℕ, _+_, _≤_, _<_}
+use Prim.Native.Nat.{ℕ, _+_, _<_}
 use native.Mathlib.Omega.{arith}
-use lib.Dec.{leb, ltb}
+use lib.Dec.{ltb}
 use lib.ListN.{length, getD, take, drop, length-append, length-map}
 use lib.Seq.{getD-take}
 use borrow.Author.Tests.{ltb-true, lt-ltb, le-leb}
@@ -18,7 +18,7 @@ use Rattle.dictionary.specs.Spelling.{partOfDictionary, partOfDocument, spellin
 use Rattle.dictionary.proofs.Labels.{length-labels, label-spelling, known-at}
 use Rattle.dictionary.proofs.Parts.{name-bytes}
 use Rattle.document.specs.Labels.{spellingsOf, treeOf}
-use Rattle.document.specs.Reading.{Written, Read, badDictionary, badDocument, noRoom, filled}
+use Rattle.document.specs.Reading.{Read, badDictionary, badDocument, noRoom, filled}
 use Rattle.document.specs.Promises.{Spelt, LookupIsRead}
 use Rattle.document.proofs.Filling.{tree-labels}
 use Rattle.document.proofs.Promises.{spelt}

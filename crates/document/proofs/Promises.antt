@@ -3,11 +3,12 @@ use mathlib.Core.Path.{_≡_, refl, sym, ap, _∙_}
 use mathlib.Core.List.{List, []}
 use Prim.Native.Nat.{ℕ, _+_, _-_, _*_, _≤_, _<_}
 use native.Mathlib.Omega.{arith}
-use lib.ListN.{length, getD, take, drop, length-map, length-append}
+use lib.ListN.{length, getD, take, drop, length-map}
 use lib.Seq.{take-at}
-use Rattle.meaning.specs.Forest.{Forest, none, some, rows, Term, _◂_}
+use Rattle.meaning.specs.Forest.{none, Term, _◂_}
 use Rattle.tree.specs.Good.{Good}
 use Rattle.tree.specs.Rows.{labels, sizes, depth}
+use Rattle.tree.proofs.Lists.{labels-rows, sizes-rows}
 use Rattle.grammar.specs.Grammar.{Bytes, _⊲_, Content, Document}
 use Rattle.grammar.specs.Tree.{shape}
 use Rattle.grammar.specs.Rows.{Row, rowsOf}
@@ -95,16 +96,6 @@ check-is-read d w label size start width label' size' start' width' c p n r room
 check-is-read d w label size start width label' size' start' width' c p n r room (filled g v z y u) k = one-check d w r (0 * 4294967296 + (0 + n)) k (judged g v)
 
 -- A TREE THAT WAS READ
-length-sizes : (F : Forest) → length (sizes F) ≡ rows F
-unfolding sizes rows
-length-sizes none = refl
-length-sizes (some l us r) = omega (arith, length-append (sizes us) (sizes r), length-sizes us, length-sizes r)
-
-length-labels-of : (F : Forest) → length (labels F) ≡ rows F
-unfolding labels rows
-length-labels-of none = refl
-length-labels-of (some l us r) = omega (arith, length-append (labels us) (labels r), length-labels-of us, length-labels-of r)
-
 module _ {d w label size start width label' size' start' width' : List ℕ} {names : List (List ℕ)} {f : Content} {t : Bytes} {n : ℕ}
     (g : GoodDictionary d names) (v : Verdict w 0 0 n) (y : Document w f t) (u : Written names f label size start width label' size' start' width') where
   same-f : whole v refl .f ≡ f
@@ -123,7 +114,7 @@ module _ {d w label size start width label' size' start' width' : List ℕ} {nam
   first-labels = ap (take n) (u .label-is) ∙ take-at (labels (treeOf names f)) _ n (ap length (tree-labels names f) ∙ labels-n)
 
   pub first-sizes : take n size' ≡ sizes (treeOf names f)
-  first-sizes = ap (take n) (u .size-is) ∙ take-at (sizes (treeOf names f)) _ n (length-sizes (treeOf names f) ∙ sym (length-labels-of (treeOf names f)) ∙ ap length (tree-labels names f) ∙ labels-n)
+  first-sizes = ap (take n) (u .size-is) ∙ take-at (sizes (treeOf names f)) _ n (sizes-rows (treeOf names f) ∙ sym (labels-rows (treeOf names f)) ∙ ap length (tree-labels names f) ∙ labels-n)
 
   deep : depth (treeOf names f) ≤ 64
   unfolding depth

@@ -1,6 +1,6 @@
 // The document reader: judges first, writes nothing in a refusal, and then fills the four lists.
 ghost use mathlib.Core.Path.{_≡_};
-ghost use Prim.Native.Nat.{_+_, _*_, _≤_, _<_};
+ghost use Prim.Native.Nat.{_≤_, _<_};
 ghost use Rattle.meaning.specs.Says.{Says};
 ghost use Rattle.document.specs.Reading.{Read};
 ghost use Rattle.document.specs.Checked.{Checked};

@@ -5,7 +5,7 @@ use mathlib.Core.List.{List}
 use lib.ListN.{length, getD, set}
 use lib.Seq.{sets}
 use native.Mathlib.Omega.{arith}
-use Rattle.meaning.specs.Forest.{Forest, none, some, Term, _◂_, rows, size, plug, holeRow}
+use Rattle.meaning.specs.Forest.{Forest, none, Term, _◂_, rows, size, plug, holeRow}
 use Rattle.meaning.specs.Pattern.{Kind, anIndividual, aSequence, aContext}
 use Rattle.meaning.specs.Value.{at, asTerm, asForest, asContext}
 use Rattle.tree.specs.Rows.{labels, sizes}

@@ -4,7 +4,7 @@ use mathlib.Core.Path.{_≡_, refl, ap, _∙_, sym, subst}
 use mathlib.Core.List.{List}
 use lib.ListN.{length, getD}
 use native.Mathlib.Omega.{arith}
-use Rattle.meaning.specs.Forest.{none, Term, term, size}
+use Rattle.meaning.specs.Forest.{none, Term, term}
 use Rattle.meaning.specs.Pattern.{Kind, anIndividual, aSequence, aFunction, aContext}
 use Rattle.meaning.specs.Value.{Value, at, asContext}
 use Rattle.tree.specs.Helpers.{PastPre, PastPost}

@@ -1,17 +1,17 @@
 -- What a good record says of a variable: its value is read off the tree at its numbers, and stands there.
-use Prim.Native.Nat.{ℕ, zero, suc, _+_, _-_, _<_, _≤_}
-use mathlib.Core.Path.{_≡_, refl, ap, _∙_, sym, subst}
-use mathlib.Core.List.{List, [], _∷_}
+use Prim.Native.Nat.{ℕ, _+_, _-_, _<_, _≤_}
+use mathlib.Core.Path.{_≡_, ap, _∙_, sym, subst}
+use mathlib.Core.List.{List}
 use lib.ListN.{length, getD}
 use native.Mathlib.Omega.{arith}
 use native.Mathlib.Decide.{decLt}
-use Rattle.meaning.specs.Forest.{Forest, none, some, Term, rows, Context, holeRow}
+use Rattle.meaning.specs.Forest.{Forest, Term, rows, Context, holeRow}
 use Rattle.meaning.specs.Pattern.{Kind, anIndividual, aSequence, aFunction, aContext, old, look}
-use Rattle.meaning.specs.Value.{Value, at, asTerm, asForest, asSymbol, asContext}
+use Rattle.meaning.specs.Value.{Value, given as valueOf, at, asTerm, asForest, asSymbol, asContext}
 use Rattle.meaning.specs.Read.{fromRow, headTerm, valueAt, readOff}
 use Rattle.meaning.specs.GoodRecord.{Fits, GoodRecord}
 use Rattle.meaning.proofs.Lists.{look-old}
-use Rattle.meaning.proofs.Laws.{cut-holds}
+use Rattle.meaning.proofs.Laws.{no-rows, cut-holds}
 use Rattle.meaning.proofs.From.{from-past}
 use Rattle.tree.specs.Places.{TermsAt, TermAt, ContextAt}
 use Rattle.tree.specs.Helpers.{PastPre, PastPost}
@@ -19,7 +19,7 @@ use Rattle.tree.proofs.Terms.{terms-end, terms-rows, nothing-at, term-size, fir
 use Rattle.tree.proofs.Cuts.{from-row, cut-at}
 use Rattle.tree.proofs.Counts.{past-at}
 use Rattle.pattern.specs.Places.{Variable}
-use Rattle.record.proofs.Each.{good-each, good-long}
+use Rattle.record.proofs.Each.{good-each, good-long, read-look}
 use Rattle.instance.specs.Places.{Ground, meant}
 
 -- the variable x of the kind k: its numbers
@@ -28,25 +28,10 @@ pub record Given (R : Forest) (W : List ℕ) (x : ℕ) (k : Kind) (v : Value) : 
   pub is : v ≡ valueAt k R (getD W (x + x) 0) (getD W (x + x + 1) 0)
   pub fits : Fits k R (getD W (x + x) 0) (getD W (x + x + 1) 0)
 
-read-at : (Q : List Kind) (R : Forest) (W : List ℕ) (x : ℕ) (k : Kind) → GoodRecord Q R W → look Q x ≡ old k → at (readOff Q R W) x ≡ valueAt k R (getD W (x + x) 0) (getD W (x + x + 1) 0)
-read-at [] R W x k g e = absurd (omega (arith, look-old [] x k e))
-read-at (j ∷ Q) R [] x k g e = absurd g
-read-at (j ∷ Q) R (a ∷ []) x k g e = absurd g
-read-at (j ∷ Q) R (a ∷ b ∷ W) zero k g e = let z : j ≡ k = cc in rw z
-read-at (j ∷ Q) R (a ∷ b ∷ W) (suc x) k g e =
-    let p : suc x + suc x ≡ suc (suc (x + x)) = omega arith in
-    let q : suc (suc (x + x)) + 1 ≡ suc (suc (x + x + 1)) = omega arith in
-    rw (p, q) (read-at Q R W x k (g .1) e)
-
 given : (Q : List Kind) (R : Forest) (W : List ℕ) (x : ℕ) (k : Kind) → GoodRecord Q R W → look Q x ≡ old k → Given R W x k (at (readOff Q R W) x)
 given Q R W x k g e =
     let l = look-old Q x k e in
-    record { within = omega (arith, good-long Q R W g); is = read-at Q R W x k g e; fits = good-each Q R W (length Q) g .fits x k l e }
-
-no-rows : (f : Forest) → rows f ≡ 0 → f ≡ none
-unfolding rows
-no-rows none h = refl
-no-rows (some l us rest) h = absurd (omega arith)
+    record { within = omega (arith, good-long Q R W g); is = ap valueOf (read-look Q R W x k g e); fits = good-each Q R W (length Q) g .fits x k l e }
 
 -- a term of the tree
 pub record HeadAt (L S : List ℕ) (a : ℕ) (T : Term) : Type 0 where

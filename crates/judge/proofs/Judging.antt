@@ -127,9 +127,6 @@ module _ {w S : List ℕ} {i x depth rows deep : ℕ} (k : Scanned w S i x depth
   from : i ≤ a
   from = run .span .passed .from
 
-  till : a ≤ length w
-  till = run .span .passed .within
-
   span : Span (runAt (level (k .o)) w i) w i a
   span = rw (← (level-is (k .o)), ← (k .depth-is)) (run .span)
 

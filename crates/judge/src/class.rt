@@ -1,6 +1,5 @@
 // The classes of bytes, from one fixed table that is lent to whoever looks at bytes.
 ghost use mathlib.Core.Path.{_≡_};
-ghost use Prim.Native.Nat.{_<_};
 ghost use lib.ListN.{getD};
 ghost use Rattle.grammar.specs.Classes.{classOf};
 ghost use Rattle.judge.specs.Tokens.{Classed};

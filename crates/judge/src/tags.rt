@@ -1,5 +1,5 @@
 // One tag: where it ends and what it does, or where no document goes on.
-ghost use Prim.Native.Nat.{_+_, _≤_, _<_};
+ghost use Prim.Native.Nat.{_≤_, _<_};
 ghost use lib.ListN.{length};
 ghost use Rattle.judge.specs.Tokens.{Classed};
 ghost use Rattle.judge.specs.Tags.{Started, Ended, Tagged};

@@ -1,6 +1,6 @@
 // The token loops: each goes on while the bytes stay in the token, and answers where it ends.
 ghost use mathlib.Core.Path.{_≡_};
-ghost use Prim.Native.Nat.{_+_, _-_, _≤_, _<_};
+ghost use Prim.Native.Nat.{_-_, _≤_, _<_};
 ghost use lib.ListN.{length};
 ghost use Rattle.grammar.specs.Grammar.{brackets};
 ghost use Rattle.judge.specs.Tokens.{Classed, Passed, Span, bytes, whiteAt, nameAt, textAt, sameAt};

@@ -33,7 +33,7 @@ or-true : (a b : Bool) → (a || b) ≡ true → (a ≡ true) ⊎ (b ≡ true)
 or-true true b e = inl refl
 or-true false b e = inr e
 
-true-or : (a : Bool) {b : Bool} → b ≡ true → (a || b) ≡ true
+pub true-or : (a : Bool) {b : Bool} → b ≡ true → (a || b) ≡ true
 true-or true e = refl
 true-or false e = e
 

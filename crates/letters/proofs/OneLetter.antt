@@ -11,7 +11,7 @@ use Rattle.meaning.specs.Says.{Says}
 use Rattle.letters.specs.Accepts.{Has, Accepts}
 use Rattle.letters.proofs.Sets.{has-or-l, has-or-r, has-zero, has-below}
 use Rattle.letters.proofs.Visit.{pick, walk, visit}
-use Rattle.letters.proofs.Automaton.{mono, accepts-or}
+use Rattle.letters.proofs.Automaton.{true-or, mono, accepts-or}
 
 -- the row p, if it reads the letter, gives what may come after it
 abbrev pub addSet : (ℕ → Bool) → (cont : ℕ → ℕ) → ℕ → ℕ → ℕ
@@ -28,10 +28,6 @@ stepEnd reads ends s = visit (addEnd reads ends) s false
 
 or-l : (a b : Bool) → a ≡ true → (a || b) ≡ true
 or-l a b e = rw e
-
-or-r : (a : Bool) {b : Bool} → b ≡ true → (a || b) ≡ true
-or-r true e = refl
-or-r false e = e
 
 module _ {Letter : Type 0} (Reads : ℕ → Letter → Type 0) (name cont : ℕ → ℕ) (ends : ℕ → Bool) (c : Letter) (reads : ℕ → Bool)
     (says : (p : ℕ) → Says (reads p) (Reads (name p) c)) (w : List Letter) where
@@ -65,7 +61,7 @@ module _ {Letter : Type 0} (Reads : ℕ → Letter → Type 0) (name cont : ℕ 
       go false = a
 
   one-add : (p n : ℕ) (b : Bool) → Reads (name p) c → A p → Ac (addSet reads cont p n) (addEnd reads ends p b)
-  one-add p n b e a = rw (says p .1 e) (mono Reads name cont ends (λ q h. has-or-r n (cont p) q h) (λ e. or-r b e) w a)
+  one-add p n b e a = rw (says p .1 e) (mono Reads name cont ends (λ q h. has-or-r n (cont p) q h) (λ e. true-or b e) w a)
 
   -- the walk
   walk-sound : (k i s n : ℕ) (b : Bool) → Ac (walk (addSet reads cont) k i s n) (walk (addEnd reads ends) k i s b)

@@ -1,35 +1,32 @@
 -- The first walk, before any choice, and what the search begins with.
-use Prim.Native.Nat.{ℕ, zero, suc, _+_, _-_, _*_, _<_, _≤_}
-use mathlib.Core.Path.{_≡_, refl, ap, _∙_, sym, subst}
+use Prim.Native.Nat.{ℕ, suc, _+_, _-_, _<_, _≤_}
+use mathlib.Core.Path.{_≡_, ap, _∙_}
 use mathlib.Core.Bool.{Bool}
-use mathlib.Core.List.{List, [], _∷_, _++_}
-use lib.ListN.{length, getD, take, set, replicate, length-set}
+use mathlib.Core.List.{List, []}
+use lib.ListN.{length, take, set, length-set}
 use lib.Seq.{paste}
 use native.Mathlib.Omega.{arith}
 use Rattle.meaning.specs.Forest.{Term, size}
-use Rattle.meaning.specs.Pattern.{Pattern, Kind, anIndividual, aFunction, old, look}
-use Rattle.meaning.specs.Value.{Value}
+use Rattle.meaning.specs.Pattern.{Pattern, Kind}
 use Rattle.meaning.specs.Record.{Entry, numbers}
-use Rattle.meaning.proofs.Walk.{Res, fail, need, ok, walk}
-use Rattle.meaning.proofs.Next.{Any, any?, first-free}
+use Rattle.meaning.proofs.Walk.{need, ok, walk}
+use Rattle.meaning.proofs.Next.{first-free}
 use Rattle.meaning.proofs.Tame.{count, tame-need}
 use Rattle.expression.specs.Expression.{Expression}
 use Rattle.constraint.specs.Obeys.{Constraint, Allowed}
 use Rattle.constraint.proofs.Allowed.{allowed?}
-use Rattle.variable.specs.State.{Kept}
 use Rattle.walk.specs.Walked.{Problem, WalkPre, WalkPost, Answers}
 use Rattle.walk.specs.declared.Out.{Out}
 use Rattle.walk.specs.declared.Out.the-variants as answer
-use Rattle.listing.proofs.Events.{events}
-use Rattle.listing.proofs.Run.{Tame}
-use Rattle.listing.proofs.Fill.{fill, rest}
+use Rattle.walk.proofs.Answered.{failed, needed, matched}
+use Rattle.listing.proofs.Fill.{fill}
 use Rattle.listing.proofs.Levels.{Levels, levels-need}
 use Rattle.listing.proofs.Loop.{Fixed, first-fail, first-need, first-full, first-done, first-room, first-deep}
-use Rattle.listing.proofs.Whole.{walked, outcome, is-tame}
-use Rattle.search.specs.Search.{Search, GoAsked, GoPre, GoPost}
+use Rattle.listing.proofs.Whole.{walked, outcome}
+use Rattle.search.specs.Search.{GoAsked, GoPre, GoPost}
 use Rattle.search.specs.declared.Found.{Found}
-use Rattle.search.proofs.Going.{few, individuals, functions}
-use Rattle.search.proofs.Turns.{said-fail, said-need, said-done, numbers-double, tree-small}
+use Rattle.search.proofs.Going.{is-fixed, individuals, functions}
+use Rattle.search.proofs.Turns.{tree-small}
 use Rattle.lister.specs.Begun.{BeginAsked, BeginPre, BeginPost}
 
 module _ (L S M name first : List ℕ) (null : List Bool) (cont : List ℕ) (ends : List Bool) (C kinds : List ℕ) (budget room width : ℕ) (before : List ℕ) where
@@ -44,12 +41,7 @@ module _ (L S M name first : List ℕ) (null : List Bool) (cont : List ℕ) (end
 
   module _ {T : Term} {P : Pattern} {Q : List Kind} {es : List Expression} {cs : List Constraint} (a : Asked T P Q es cs) where
     fixed : Fixed (walked (Allowed cs) (allowed? cs) (a .search .pattern .numbered) T) (count Q) (size T) width room before
-    fixed =
-        record {
-          is-tame = subst (λ (n : ℕ). Tame (walked (Allowed cs) (allowed? cs) (a .search .pattern .numbered) T) (count Q) (size T) n) (sym (a .wide)) (is-tame (Allowed cs) (allowed? cs) (a .search .pattern .numbered) T);
-          small = omega (arith, few Q, a .search .judging .few);
-          fits = a .fits;
-        }
+    fixed = is-fixed (a .search) (a .wide) (a .fits)
 
     problem : {R : List ℕ} → length R ≡ 32 → Problem L S M R 0 T P Q
     problem h =
@@ -76,15 +68,12 @@ module _ (L S M name first : List ℕ) (null : List Bool) (cont : List ℕ) (end
     walked-long p = let s = p .some in post .is (s .0) (s .1) (s .2) (problem (s .5) long) .1 .long ∙ long
 
     pub begun-fail : o ≡ answer.Fail → Post (record { ending = 0; records = 0; tries = 0 }) before
-    begun-fail e = record { all = λ T P Q es cs a. first-fail (fixed a) budget (ap outcome (said-fail (rw e at (answers a)))) }
+    begun-fail e = record { all = λ T P Q es cs a. first-fail (fixed a) budget (ap outcome (failed (rw e at (answers a)))) }
 
     module _ {n : ℕ} (e : o ≡ answer.Ok n) where
       said : {T : Term} {P : Pattern} {Q : List Kind} {es : List Expression} {cs : List Constraint} (a : Asked T P Q es cs)
           → (B : List Entry) × (walk (Allowed cs) (allowed? cs) P T [] ≡ ok B []) × (take (length (numbers B)) R′ ≡ numbers B)
-      said a =
-          let d = said-done n (rw e at (answers a)) in
-          let y : n + n ≡ length (numbers (d .0)) = omega (arith, d .3, numbers-double (d .0)) in
-          (d .0, d .1, rw y at (d .2))
+      said a = matched (rw e at (answers a))
 
       pub begun-full : room ≡ 0 → Post (record { ending = 1; records = 0; tries = 0 }) before
       begun-full f = record { all = λ T P Q es cs a. let d = said a in first-full (fixed a) budget (numbers (d .0)) (ap outcome (d .1)) f }
@@ -98,7 +87,7 @@ module _ (L S M name first : List ℕ) (null : List Bool) (cont : List ℕ) (end
     module _ {x s lo hi : ℕ} (e : o ≡ answer.Need x s lo hi) where
       need-said : {T : Term} {P : Pattern} {Q : List Kind} {es : List Expression} {cs : List Constraint} (a : Asked T P Q es cs)
           → (B : List Entry) × (walk (Allowed cs) (allowed? cs) P T [] ≡ need B s lo hi) × (length B ≡ x) × (take (x + x) R′ ≡ numbers B)
-      need-said a = said-need x s lo hi (rw e at (answers a))
+      need-said a = needed (rw e at (answers a))
 
       pub need-fits : Pre → (lo ≤ hi) × (hi < 2048)
       need-fits p =

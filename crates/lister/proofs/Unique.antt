@@ -1,19 +1,18 @@
 -- The promise settles the lister's answer and the lent list afterwards.
-use Prim.Native.Nat.{ℕ, _+_}
-use mathlib.Core.Path.{_≡_, refl, ap, _∙_, sym}
-use mathlib.Core.List.{List}
+use Prim.Native.Nat.{ℕ}
+use mathlib.Core.Path.{_≡_, ap, _∙_, sym}
+use mathlib.Core.List.{List, _++_}
 use native.Mathlib.Decide.{ℕ-discrete}
 use Rattle.meaning.specs.Lowest.{accept}
 use Rattle.meaning.proofs.OneCode.{one-accept}
-use Rattle.problem.specs.Problem.{Lists, Codes}
-use Rattle.problem.proofs.Posed.{Posed, posed, one-codes}
+use Rattle.problem.specs.Problem.{Lists}
+use Rattle.problem.proofs.Posed.{posed, one-codes}
 use Rattle.listing.specs.Answer.{Result}
 use Rattle.listing.specs.Listing.{joined}
 use Rattle.listing.proofs.Facts.{one-answer}
 use Rattle.lister.specs.Listed.{Settled}
 use Rattle.lister.specs.declared.Listed.{Listed}
 use lib.ListN.{length, drop}
-use mathlib.Core.List.{_++_}
 
 pub record Same (r s : Listed) (v w : List ℕ) : Type 0 where
   pub code : r .code ≡ s .code

@@ -1,5 +1,5 @@
 -- The lister, whole: what the search fills is what is meant.
-use Prim.Native.Nat.{ℕ, zero, suc, _+_, _*_, _/_, _<_, _≤_}
+use Prim.Native.Nat.{ℕ, suc, _+_, _≤_}
 use mathlib.Core.Path.{_≡_, refl, ap, _∙_, sym, subst}
 use mathlib.Core.Bool.{Bool}
 use mathlib.Core.List.{List, [], _∷_}
@@ -10,32 +10,28 @@ use Rattle.meaning.specs.Pattern.{Pattern, Kind, Numbered}
 use Rattle.meaning.specs.Value.{Value}
 use Rattle.meaning.specs.Lowest.{accept}
 use Rattle.meaning.proofs.Tame.{count}
-use Rattle.pattern.specs.Good.{GoodPattern}
-use Rattle.pattern.specs.Known.{KindsAre}
 use Rattle.expression.specs.Expression.{Expression}
 use Rattle.expression.specs.Good.{GoodTable}
 use Rattle.letters.specs.State.{TablesOf}
 use Rattle.constraint.specs.Obeys.{Constraint, Allowed}
 use Rattle.constraint.proofs.Allowed.{allowed?}
-use Rattle.problem.specs.Problem.{Lists, Poses, Codes}
+use Rattle.problem.specs.Problem.{Lists, Poses}
 use Rattle.problem.specs.Answer.{Answered}
 use Rattle.problem.specs.declared.Problem.{Problem}
-use Rattle.problem.proofs.Posed.{Posed, posed, codes-high}
-use Rattle.walk.specs.Packed.{Packed, PackPre}
-use Rattle.pattern.proofs.Joint.{good-scan, lengths}
+use Rattle.problem.proofs.Posed.{codes-high, the, known}
+use Rattle.walk.specs.Packed.{Packed}
 use Rattle.listing.specs.Answer.{Result, atMost, roomOf}
 use Rattle.listing.specs.Meant.{Meant}
 use Rattle.listing.proofs.Back.{fitting, fitting-some}
 use Rattle.listing.proofs.Events.{events}
 use Rattle.listing.proofs.Run.{Tame, run}
 use Rattle.listing.proofs.Fill.{filled, room-fits}
-use Rattle.listing.proofs.Whole.{walked, is-tame, meant}
+use Rattle.listing.proofs.Whole.{walked, meant}
 use Rattle.listing.proofs.Facts.{meant-unlimited}
-use Rattle.search.specs.Search.{Search}
 use Rattle.search.specs.declared.Found.{Found}
+use Rattle.search.proofs.Going.{is-fixed}
 use Rattle.lister.specs.Begun.{BeginAsked, BeginPre, BeginPost}
 use Rattle.lister.specs.Listed.{Settled}
-use Rattle.lister.specs.declared.Listed.{Listed}
 
 -- the room of the code is the room of the rules
 pub in-room : {A : ℕ → Value → Type 0} (a? : (x : ℕ) (v : Value) → Dec (A x v)) {P : Pattern} {T : Term} {budget : ℕ} {x : Result} (n : ℕ) (Q : List Kind) → Numbered P Q
@@ -49,23 +45,11 @@ module _ (l : Lists) {r : Problem} (a : Answered l r) (budget : ℕ) (before : L
   list-refused n = record { code = a .code; listed = λ e. absurd (n e); refused = λ e. (refl, refl, refl, refl) }
 
   module _ (z : r .code ≡ 0) where
-    the : Posed l
-    the = posed l accept (r .code) z (a .code)
-
-    known : {P : Pattern} {Q : List Kind} → GoodPattern (l .kind) (l .name) (l .patternSize) P Q → KindsAre Q (r .variables) (r .kinds)
-    known {P} {Q} g = let f = a .found z P Q g in record { many = f .0; few = g .bounded; are = f .1 }
-
     pub tables-asked : (es : List Expression) × GoodTable (l .expressionKind) (l .expressionName) (l .expressionSize) es
-    tables-asked = (the .es, the .poses .rest .table)
-
-    pub pack-asked : {M : List ℕ} → length M ≡ 768 → PackPre (l .kind) (l .name) (l .patternSize) M
-    pack-asked m =
-        let g = the .poses .rest .pattern in
-        let s = lengths (good-scan g) in
-        record { names = s .0; sizes = s .1; room = omega (arith, g .few) }
+    tables-asked = (the a z .es, the a z .poses .rest .table)
 
     pub few-variables : r .variables ≤ 16
-    few-variables = let k = known (the .poses .rest .pattern) in omega (arith, k .many, k .few)
+    few-variables = let k = known a z (the a z .poses .rest .pattern) in omega (arith, k .many, k .few)
 
     module _ {M name first : List ℕ} {null : List Bool} {cont : List ℕ} {ends : List Bool} {room width : ℕ}
         (tables : (es : List Expression) → GoodTable (l .expressionKind) (l .expressionName) (l .expressionSize) es → TablesOf es name first null cont ends)
@@ -73,7 +57,7 @@ module _ (l : Lists) {r : Problem} (a : Answered l r) (budget : ℕ) (before : L
       asked : {T : Term} {P : Pattern} {Q : List Kind} {es : List Expression} {cs : List Constraint} → Poses l T P Q es cs
           → BeginAsked (l .label) (l .size) M name first null cont ends (l .constraint) (r .kinds) room width before T P Q es cs
       asked {es = es} w =
-          let k = known (w .rest .pattern) in
+          let k = known a z (w .rest .pattern) in
           record {
             search =
                 record {
@@ -89,18 +73,18 @@ module _ (l : Lists) {r : Problem} (a : Answered l r) (budget : ℕ) (before : L
           }
 
       pub begin-asked : BeginPre (l .label) (l .size) M name first null cont ends (l .constraint) (r .kinds) room width before
-      begin-asked = record { some = (the .T, the .P, the .Q, the .es, the .cs, asked (the .poses)) }
+      begin-asked = record { some = (the a z .T, the a z .P, the a z .Q, the a z .es, the a z .cs, asked (the a z .poses)) }
 
       pub list-done : {f : Found} {after : List ℕ} → BeginPost (l .label) (l .size) M name first null cont ends (l .constraint) (r .kinds) budget room width before f after
           → Settled l budget before (record { code = 0; ending = f .ending; records = f .records; tries = f .tries }) after
       list-done {f} {after} post =
           record {
-            code = codes-high l accept 0 the refl;
+            code = codes-high l accept 0 (the a z) refl;
             listed = λ e T P Q es cs w.
                 let b = asked w in
                 let g = b .search .pattern .numbered in
                 let walk = walked (Allowed cs) (allowed? cs) g T in
-                let tame : Tame walk (count Q) (size T) width = subst (λ (n : ℕ). Tame walk (count Q) (size T) n) (sym (b .wide)) (is-tame (Allowed cs) (allowed? cs) g T) in
+                let tame : Tame walk (count Q) (size T) width = is-fixed (b .search) {before = before} (b .wide) (b .fits) .is-tame in
                 let h = filled walk (count Q) (size T) width budget room before after (f .ending) (f .records) (f .tries) tame (b .fits) (post .all T P Q es cs b) in
                 let y : room ≡ fitting (length before) (length Q + length Q) = fits ∙ ap (fitting (length before)) (b .wide) in
                 record {

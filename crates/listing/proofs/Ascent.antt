@@ -1,11 +1,11 @@
 -- The order of tries: depth first, a list of choices before those that it begins.
-use mathlib.Core.Path.{_≡_, refl, sym, ap, _∙_, subst}
+use mathlib.Core.Path.{_≡_, refl, sym, _∙_, subst}
 use mathlib.Core.Logic.{_⊎_, inl, inr, ⊎-elim}
 use mathlib.Core.List.{List, [], _∷_, _++_, append-assoc, append-nil}
-use Prim.Native.Nat.{ℕ, zero, suc, _+_, _≤_, _<_, zero-le}
+use Prim.Native.Nat.{ℕ, zero, suc}
 use native.Mathlib.Omega.{arith}
 use Rattle.listing.specs.Order.{_⊏_, Mem, Ascending}
-use Rattle.listing.proofs.Events.{Outcome, fail, need, done, Event, tried, matched, key, snoc, branch, after, events, Within, Leads, mem-left, mem-right, mem-cases, Some, Found, FoundAmong, sound, branch-found}
+use Rattle.listing.proofs.Events.{Outcome, fail, need, done, Event, tried, matched, key, snoc, branch, after, events, mem-cases, Some, Found, FoundAmong, sound, branch-found}
 
 infix 30 _≪_
 pub ⊏-irrefl : (v : List ℕ) → v ⊏ v → ⊥

@@ -1,11 +1,11 @@
 -- What follows from what is meant, whatever the code: there is one answer; a list that is cut short is the leading part; more
 -- room or budget only lengthens it; the tries never exceed the budget; a complete list is empty where nothing solves.
-use Prim.Native.Nat.{ℕ, zero, suc, _+_, _≤_, _<_, zero-le}
+use Prim.Native.Nat.{ℕ, zero, suc, _≤_, zero-le}
 use mathlib.Core.Path.{_≡_, refl, ap, _∙_, sym}
-use mathlib.Core.Logic.{_↔_, inl, inr}
+use mathlib.Core.Logic.{inl, inr}
 use mathlib.Core.Bool.{Bool, true, false}
 use mathlib.Core.List.{List, [], _∷_, _++_, append-nil}
-use lib.ListN.{length, take, drop, getD, take-append-drop}
+use lib.ListN.{length, take, drop, take-append-drop}
 use lib.Dec.{leb, ltb}
 use native.Mathlib.Omega.{arith}
 use borrow.Author.Tests.{le-ltb}
@@ -21,7 +21,7 @@ use Rattle.meaning.proofs.Tame.{count, tame-ok}
 use Rattle.listing.specs.Order.{_⊏_, Mem, Ascending}
 use Rattle.meaning.specs.Matcher.{IsRecord}
 use Rattle.listing.specs.Solutions.{Solutions}
-use Rattle.listing.specs.Tries.{Try, Tries}
+use Rattle.listing.specs.Tries.{Tries}
 use Rattle.listing.specs.Answer.{Result, pick, places, within, Room, atMost, unlimited, byBudget, answer}
 use Rattle.listing.specs.Meant.{Meant}
 use Rattle.listing.proofs.Events.{Event, tried, matched, events}
@@ -163,5 +163,4 @@ module _ (Allowed : ℕ → Value → Type 0) (allowed? : (x : ℕ) (v : Value) 
   -- more room or more budget only lengthens the list
   pub lengthens : {b c r q : ℕ} {x y : Result} → b ≤ c → r ≤ q → Meant Allowed Q P T b (atMost r) x → Meant Allowed Q P T c (atMost q) y → Begins (x .records) (y .records)
   lengthens {b} {c} {r} {q} h k m n =
-      let d = more (events (walked Allowed allowed? g T) (count Q) []) b c r q h k in
-      rw (one-answer m (meant Allowed allowed? g T b r), one-answer n (meant Allowed allowed? g T c q)) (record { rest = d .0; is = d .1 })
+      rw (one-answer m (meant Allowed allowed? g T b r), one-answer n (meant Allowed allowed? g T c q)) (more (events (walked Allowed allowed? g T) (count Q) []) b c r q h k)

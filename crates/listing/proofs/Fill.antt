@@ -1,16 +1,16 @@
 -- What the loop comes to by going through the events, and the events that its levels have left.
-use mathlib.Core.Path.{_≡_, refl, sym, ap, _∙_, subst}
-use mathlib.Core.Logic.{_⊎_, inl, inr, ⊎-elim}
+use mathlib.Core.Path.{_≡_, refl, sym, ap, _∙_}
+use mathlib.Core.Logic.{inl, inr}
 use mathlib.Core.List.{List, [], _∷_, _++_, append-assoc, append-nil}
-use Prim.Native.Nat.{ℕ, zero, suc, _+_, _-_, _*_, _/_, _≤_, _<_, zero-le}
+use Prim.Native.Nat.{ℕ, zero, suc, _+_, _-_, _*_, _≤_, _<_}
 use native.Mathlib.Omega.{arith}
 use native.Mathlib.Decide.{ℕ-discrete}
-use lib.Dec.{leb, ltb, eqb}
+use lib.Dec.{ltb}
 use lib.ListN.{length, take, drop, getD, set, length-append, length-drop, take-append-drop}
-use lib.Seq.{take-length, take-at, drop-at, drop-drop, length-take-le, take-suc-set, take-set-le, getD-set-same, getD-set-other}
-use borrow.Author.Tests.{lt-ltb, le-ltb, ne-eqb}
-use native.Mathlib.Nat.{add-zero, add-suc, suc-mul, sub-zero, add-assoc, mul-le-mul-right, zero-mul, zero-add, div-mul-le-self}
-use native.Mathlib.Numerals.{add-one, sub-one}
+use lib.Seq.{take-at, drop-at, drop-drop, length-take-le, take-suc-set, take-set-le, getD-set-same, getD-set-other}
+use borrow.Author.Tests.{lt-ltb, le-ltb}
+use native.Mathlib.Nat.{add-zero, suc-mul, sub-zero, add-assoc, mul-le-mul-right, zero-mul, zero-add, div-mul-le-self}
+use native.Mathlib.Numerals.{add-one}
 use Rattle.listing.specs.Order.{Mem}
 use Rattle.listing.specs.Answer.{Result, pick}
 use Rattle.listing.specs.Listing.{joined}

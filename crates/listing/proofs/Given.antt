@@ -1,13 +1,12 @@
 -- The choices that a record gives for the first variables: they depend on the second numbers of sequence and context variables alone.
 use Prim.Native.Nat.{ℕ, zero, suc, _+_, _<_, _≤_}
-use mathlib.Core.Path.{_≡_, refl, ap, _∙_, sym}
+use mathlib.Core.Path.{_≡_, refl, _∙_}
 use mathlib.Core.List.{List, [], _∷_, _++_}
-use lib.ListN.{length, take, getD, set, length-set}
-use lib.Seq.{getD-set-same, getD-set-other}
+use lib.ListN.{length, take, getD, set}
 use native.Mathlib.Omega.{arith}
-use Rattle.meaning.specs.Pattern.{Kind, anIndividual, aSequence, aFunction, aContext, Look, old, look}
+use Rattle.meaning.specs.Pattern.{Kind, anIndividual, aSequence, aFunction, aContext, old, look}
 use Rattle.meaning.specs.Order.{choices}
-use Rattle.meaning.proofs.Tame.{weight, count}
+use Rattle.meaning.proofs.Tame.{count}
 
 -- the kinds of variables that are chosen
 abbrev pub Chosen : Kind → Type 0
@@ -35,23 +34,11 @@ first-chosen aSequence b l h = refl
 first-chosen aFunction b l h = absurd h
 first-chosen aContext b l h = refl
 
-first-many : (k : Kind) (b : ℕ) (l : List ℕ) → length (first k b l) ≡ weight k + length l
-first-many anIndividual b l = omega arith
-first-many aSequence b l = omega arith
-first-many aFunction b l = omega arith
-first-many aContext b l = omega arith
-
 first-more : (k : Kind) (b : ℕ) (l m : List ℕ) → first k b (l ++ m) ≡ first k b l ++ m
 first-more anIndividual b l m = refl
 first-more aSequence b l m = refl
 first-more aFunction b l m = refl
 first-more aContext b l m = refl
-
-first-take : (k : Kind) (b n : ℕ) (l : List ℕ) → first k b (take n l) ≡ take (weight k + n) (first k b l)
-first-take anIndividual b n l = let e : 0 + n ≡ n = omega arith in rw e
-first-take aSequence b n l = let e : 1 + n ≡ suc n = omega arith in rw e
-first-take aFunction b n l = let e : 0 + n ≡ n = omega arith in rw e
-first-take aContext b n l = let e : 1 + n ≡ suc n = omega arith in rw e
 
 first-same : (k : Kind) (b c : ℕ) (l m : List ℕ) → (Chosen k → b ≡ c) → l ≡ m → first k b l ≡ first k c m
 first-same anIndividual b c l m h e = e
@@ -73,25 +60,6 @@ given-cut (k ∷ Q) [] (suc x) h l = absurd (omega arith)
 given-cut (k ∷ Q) (a ∷ []) (suc x) h l = absurd (omega arith)
 given-cut (k ∷ Q) (a ∷ b ∷ R) (suc x) h l =
     rw (two x, choices-cons k (take x Q) a b (take (x + x) R), choices-cons k (take x Q) a b R, given-cut Q R x (omega arith) (omega arith))
-
-pub given-many : (Q : List Kind) (R : List ℕ) (x : ℕ) → x ≤ length Q → x + x ≤ length R → length (given Q R x) ≡ count (take x Q)
-given-many Q R zero h l = refl
-given-many [] R (suc x) h l = absurd (omega arith)
-given-many (k ∷ Q) [] (suc x) h l = absurd (omega arith)
-given-many (k ∷ Q) (a ∷ []) (suc x) h l = absurd (omega arith)
-given-many (k ∷ Q) (a ∷ b ∷ R) (suc x) h l =
-    rw (choices-cons k (take x Q) a b R, first-many k b (given Q R x), given-many Q R x (omega arith) (omega arith))
-
--- fewer variables: a leading part
-pub given-less : (Q : List Kind) (R : List ℕ) (x y : ℕ) → x ≤ y → y ≤ length Q → y + y ≤ length R → given Q R x ≡ take (count (take x Q)) (given Q R y)
-given-less Q R zero y h m l = refl
-given-less Q R (suc x) zero h m l = absurd (omega arith)
-given-less [] R (suc x) (suc y) h m l = absurd (omega arith)
-given-less (k ∷ Q) [] (suc x) (suc y) h m l = absurd (omega arith)
-given-less (k ∷ Q) (a ∷ []) (suc x) (suc y) h m l = absurd (omega arith)
-given-less (k ∷ Q) (a ∷ b ∷ R) (suc x) (suc y) h m l =
-    rw (choices-cons k (take x Q) a b R, choices-cons k (take y Q) a b R, given-less Q R x y (omega arith) (omega arith) (omega arith))
-    (first-take k b (count (take x Q)) (given Q R y))
 
 pub count-less : (Q : List Kind) (x y : ℕ) → x ≤ y → count (take x Q) ≤ count (take y Q)
 count-less Q zero y h = omega arith

@@ -1,23 +1,22 @@
 -- The levels of the search: each has asked for a variable and goes through its values, and the record holds the choices made.
-use Prim.Native.Nat.{ℕ, zero, suc, _+_, _-_, _<_, _≤_}
-use mathlib.Core.Path.{_≡_, refl, ap, _∙_, sym, subst}
+use Prim.Native.Nat.{ℕ, suc, _+_, _-_, _<_, _≤_}
+use mathlib.Core.Path.{_≡_, refl, ap, _∙_, sym}
 use mathlib.Core.List.{List, [], _∷_, _++_}
 use lib.ListN.{length, take, getD, set, length-set}
 use lib.Seq.{getD-set-same, getD-set-other, take-at, take-set-le, length-take-le}
 use native.Mathlib.Omega.{arith}
 use native.Mathlib.Decide.{decLt}
-use Rattle.meaning.specs.Forest.{none, Term, _◂_}
-use Rattle.meaning.specs.Pattern.{Pattern, Kind, anIndividual, aSequence, aFunction, aContext, Look, old, look, Numbered}
+use Rattle.meaning.specs.Forest.{Term}
+use Rattle.meaning.specs.Pattern.{Pattern, Kind, anIndividual, aSequence, aFunction, aContext, old, look, Numbered}
 use Rattle.meaning.specs.Value.{Value, kinds}
 use Rattle.meaning.specs.Record.{Entry, values, numbers}
-use Rattle.meaning.specs.Order.{choices}
 use Rattle.meaning.specs.Reached.{Begins}
-use Rattle.meaning.proofs.Walk.{Res, need, walk}
+use Rattle.meaning.proofs.Walk.{need, walk}
 use Rattle.meaning.proofs.Lists.{look-old}
-use Rattle.meaning.proofs.Steps.{kinds-length, picked}
+use Rattle.meaning.proofs.Steps.{kinds-length, values-length}
 use Rattle.meaning.proofs.Asked.{asked-reached, asked-picked}
 use Rattle.meaning.proofs.Tame.{weight, count, asked-next, picked-many}
-use Rattle.listing.proofs.Given.{Chosen, given, given-cut, given-many, given-less, count-less, given-same, given-next}
+use Rattle.listing.proofs.Given.{Chosen, given, given-cut, count-less, given-same, given-next}
 
 chosen : (k : Kind) → weight k ≡ 1 → Chosen k
 chosen anIndividual h = absurd (omega arith)
@@ -28,10 +27,6 @@ chosen aContext h = tt
 -- what a list begins with is what is taken of it
 begun : {A : Type 0} (b l : List A) → Begins b l → b ≡ take (length b) l
 begun b l p = rw (p .is) (sym (take-at b (p .rest) (length b) refl))
-
-values-length : (B : List Entry) → length (values B) ≡ length B
-values-length [] = refl
-values-length (e ∷ B) = ap suc (values-length B)
 
 module _ (Allowed : ℕ → Value → Type 0) (allowed? : (x : ℕ) (v : Value) → Dec (Allowed x v)) {Q : List Kind} {P : Pattern} (g : Numbered P Q) (T : Term) where
   -- after the choices cs the walk asks for the variable x, which starts at s; the values n, n + 1, .., m of them, are still to be tried

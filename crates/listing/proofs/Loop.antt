@@ -1,7 +1,7 @@
 -- The lister's loop: what holds of its locals, and each step of it, over any walk.
 use mathlib.Core.Path.{_≡_, refl, sym, ap, _∙_, subst}
 use mathlib.Core.List.{List, [], _∷_, _++_}
-use Prim.Native.Nat.{ℕ, zero, suc, _+_, _-_, _*_, _≤_, _<_, zero-le}
+use Prim.Native.Nat.{ℕ, suc, _+_, _-_, _*_, _≤_, _<_, zero-le}
 use native.Mathlib.Omega.{arith}
 use native.Mathlib.Nat.{mul-le-mul-right, suc-mul, zero-mul}
 use native.Mathlib.Numerals.{add-one}
@@ -9,9 +9,8 @@ use native.Mathlib.Decide.{ℕ-discrete}
 use lib.ListN.{length, take, drop, getD, set, length-set}
 use lib.Seq.{length-take-le, getD-set-same, getD-set-other, paste}
 use borrow.Author.Tests.{lt-ltb, le-ltb}
-use Rattle.listing.specs.Answer.{pick}
 use Rattle.listing.proofs.Back.{BackTo}
-use Rattle.listing.proofs.Events.{Outcome, fail, need, done, Event, tried, matched, snoc, events}
+use Rattle.listing.proofs.Events.{Outcome, fail, need, done, Event, tried, snoc, events}
 use Rattle.listing.proofs.Run.{Tame}
 use Rattle.listing.proofs.Fill.{Filled, fill, splice, length-splice, rest, ahead, ahead-start, ahead-fail, ahead-match, ahead-need, events-fail, events-match, rest-back, rest-next}
 

@@ -1,7 +1,7 @@
 -- The plain reading of tries and matches, for an honest walk.
 use mathlib.Core.Path.{_≡_, refl, sym, ap, _∙_}
 use mathlib.Core.List.{List, [], _∷_, _++_, append-assoc, append-nil}
-use Prim.Native.Nat.{ℕ, zero, suc, _+_, _≤_, _<_}
+use Prim.Native.Nat.{ℕ}
 use native.Mathlib.Omega.{arith}
 use Rattle.listing.proofs.Events.{Outcome, fail, need, done, snoc, Within, Leads, Some}
 use Rattle.listing.proofs.Run.{Match, IsTry, IsMatch}

@@ -1,7 +1,7 @@
 -- The order of records is by their second numbers, and that is the order of their choices.
-use Prim.Native.Nat.{ℕ, zero, suc, _+_, _<_}
-use mathlib.Core.Path.{_≡_, refl, ap, _∙_, sym}
-use mathlib.Core.Logic.{_⊎_, inl, inr}
+use Prim.Native.Nat.{ℕ}
+use mathlib.Core.Path.{_≡_, refl, ap, _∙_}
+use mathlib.Core.Logic.{inl, inr}
 use mathlib.Core.List.{List, [], _∷_}
 use lib.ListN.{length}
 use native.Mathlib.Omega.{arith}
@@ -12,7 +12,7 @@ use Rattle.meaning.specs.Solves.{Solves}
 use Rattle.meaning.specs.Record.{Entry, values, second, numbers, firsts, recordOf}
 use Rattle.meaning.specs.Order.{seconds, choices}
 use Rattle.meaning.proofs.Steps.{picked}
-use Rattle.meaning.proofs.Tame.{weight, count, picked-many}
+use Rattle.meaning.proofs.Tame.{count, picked-many}
 use Rattle.meaning.proofs.Theorems.{complete}
 use Rattle.listing.specs.Order.{_⊏_}
 

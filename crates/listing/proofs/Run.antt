@@ -1,19 +1,18 @@
 -- What is answered: by going through the events, and by arithmetic on the lists of all tries and all matches. The two agree.
-use mathlib.Core.Path.{_≡_, refl, sym, ap, _∙_, subst}
-use mathlib.Core.Logic.{_⊎_, inl, inr, ⊎-elim, _↔_}
-use mathlib.Core.List.{List, [], _∷_, _++_, map, append-assoc, append-nil}
+use mathlib.Core.Path.{_≡_, refl, sym, ap, _∙_}
+use mathlib.Core.Logic.{inl, inr, _↔_}
+use mathlib.Core.List.{List, [], _∷_}
 use mathlib.Core.Bool.{Bool, true, false}
-use Prim.Native.Nat.{ℕ, zero, suc, _+_, _-_, _≤_, _<_, zero-le}
+use Prim.Native.Nat.{ℕ, zero, suc, _+_, _≤_, _<_, zero-le}
 use native.Mathlib.Omega.{arith}
-use native.Mathlib.Numerals.{add-one}
-use native.Mathlib.Nat.{add-zero, add-suc}
-use lib.Dec.{leb, ltb, eqb, leb·suc-suc}
-use lib.ListN.{length, take, getD}
+use lib.Dec.{leb, ltb, leb·suc-suc}
+use lib.ListN.{length, take}
 use borrow.Author.Tests.{le-leb, lt-leb, lt-ltb, le-ltb, eq-eqb, ne-eqb}
+use Rattle.meaning.specs.Reached.{Begins}
 use Rattle.listing.specs.Order.{_⊏_, Mem, Ascending}
 use Rattle.listing.specs.Answer.{Result, pick, upto, place}
-use Rattle.listing.proofs.Events.{Outcome, fail, need, done, Event, tried, matched, key, snoc, branch, after, events, Within, Leads, mem-left, mem-right, mem-cases, Some, Found, FoundAmong, sound, complete, short}
-use Rattle.listing.proofs.Ascent.{⊏-irrefl, ⊏-trans, _≪_, ascending, unique}
+use Rattle.listing.proofs.Events.{Outcome, need, done, Event, tried, matched, events, Within, Leads, Some, sound, complete, short}
+use Rattle.listing.proofs.Ascent.{_≪_, ascending}
 
 abbrev pub stop : ℕ → Result
 stop n = record { records = []; ending = n; tries = 0 }
@@ -248,25 +247,15 @@ module _ (walk : List ℕ → Outcome) (bound : ℕ) (stops : (v : List ℕ) (x 
         result = run-answer es budget room (ascending walk bound []);
       }
 
--- there is one answer
-pub determined : (walk : List ℕ → Outcome) (budget room : ℕ) (x y : Result) → Answer walk budget room x → Answer walk budget room y → x ≡ y
-determined walk budget room x y a b =
-    let e : a .tries ≡ b .tries = unique _⊏_ ⊏-irrefl ⊏-trans (a .tries) (b .tries) (a .tries-order) (b .tries-order) (λ v m. b .tries-all v .1 (a .tries-all v .0 m)) (λ v m. a .tries-all v .1 (b .tries-all v .0 m)) in
-    let f : a .matches ≡ b .matches = unique _before_ (λ s. ⊏-irrefl (s .choices)) (λ s t u. ⊏-trans (s .choices) (t .choices) (u .choices)) (a .matches) (b .matches) (a .matches-order) (b .matches-order) (λ v m. b .matches-all v .1 (a .matches-all v .0 m)) (λ v m. a .matches-all v .1 (b .matches-all v .0 m)) in
-    a .result ∙ (λ i. answer (placed (e i) (f i)) (length (e i)) budget room) ∙ sym (b .result)
-
 -- more budget or more room only lengthens the list
-abbrev pub Begins : {A : Type 0} → List A → List A → Type 0
-Begins {A = A} l k = (t : List A) × (k ≡ l ++ t)
-
 pub more : (es : List Event) (b c r q : ℕ) → b ≤ c → r ≤ q → Begins (run es b r .records) (run es c q .records)
-more [] b c r q g h = ([], refl)
-more (tried v ∷ es) zero c r q g h = (run (tried v ∷ es) c q .records, refl)
+more [] b c r q g h = record { rest = []; is = refl }
+more (tried v ∷ es) zero c r q g h = record { rest = run (tried v ∷ es) c q .records; is = refl }
 more (tried v ∷ es) (suc b) zero r q g h = absurd (omega arith)
 more (tried v ∷ es) (suc b) (suc c) r q g h = more es b c r q (omega arith) h
-more (matched v x ∷ es) b c zero q g h = (run (matched v x ∷ es) c q .records, refl)
+more (matched v x ∷ es) b c zero q g h = record { rest = run (matched v x ∷ es) c q .records; is = refl }
 more (matched v x ∷ es) b c (suc r) zero g h = absurd (omega arith)
-more (matched v x ∷ es) b c (suc r) (suc q) g h = let i = more es b c r q g (omega arith) in (i .0, ap (λ l. x ∷ l) (i .1))
+more (matched v x ∷ es) b c (suc r) (suc q) g h = let i = more es b c r q g (omega arith) in record { rest = i .rest; is = ap (λ l. x ∷ l) (i .is) }
 
 -- what a walk has to be: it asks for a choice only after fewer than bound, of values below limit, and its records have the width
 pub record Tame (walk : List ℕ → Outcome) (bound limit width : ℕ) : Type 0 where

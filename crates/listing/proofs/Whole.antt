@@ -1,36 +1,31 @@
 -- The events of the walk give what is meant: all tries and all solutions, in order.
-use Prim.Native.Nat.{ℕ, zero, suc, _+_, _-_, _≤_, _<_, zero-le}
+use Prim.Native.Nat.{ℕ, zero, suc, _+_, _-_, _≤_, _<_}
 use mathlib.Core.Path.{_≡_, refl, ap, _∙_, sym}
 use mathlib.Core.Logic.{_↔_, inl, inr}
-use mathlib.Core.Bool.{Bool, true, false}
-use mathlib.Core.List.{List, [], _∷_, _++_}
-use lib.ListN.{length, take, getD}
-use lib.Dec.{leb, ltb}
+use mathlib.Core.List.{List, [], _∷_}
+use lib.ListN.{length, getD}
 use native.Mathlib.Omega.{arith}
 use native.Mathlib.Decide.{decLe}
-use borrow.Author.Tests.{le-ltb}
-use Rattle.meaning.specs.Forest.{Term, rows, size}
+use Rattle.meaning.specs.Forest.{Term, size}
 use Rattle.meaning.specs.Pattern.{Pattern, Kind, Numbered}
 use Rattle.meaning.specs.Value.{Value, kinds}
 use Rattle.meaning.specs.Solves.{Solves}
-use Rattle.meaning.specs.Record.{Entry, values, numbers, recordOf}
+use Rattle.meaning.specs.Record.{values, numbers, recordOf}
 use Rattle.meaning.specs.Order.{seconds, choices}
 use Rattle.meaning.proofs.Walk as W
 use Rattle.meaning.proofs.Walk.{Res, ok, walk}
-use Rattle.meaning.proofs.Theorems.{Found, complete}
+use Rattle.meaning.proofs.Theorems.{complete}
 use Rattle.meaning.proofs.Theorems.{sound as walk-sound}
 use Rattle.meaning.proofs.Asked.{asked-reached, reached-asked}
 use Rattle.meaning.proofs.Honest.{Asked, honest}
 use Rattle.meaning.proofs.Tame.{count, tame-need, tame-ok}
 use Rattle.listing.specs.Order.{_⊏_, Mem, Ascending}
-use Rattle.meaning.specs.Matcher.{IsRecord}
-use Rattle.listing.specs.Solutions.{Solutions}
-use Rattle.listing.specs.Tries.{Try, Tries}
-use Rattle.listing.specs.Answer.{Result, pick, place, places, within, Room, atMost, unlimited, byBudget}
+use Rattle.listing.specs.Tries.{Try}
+use Rattle.listing.specs.Answer.{places, within, atMost}
 use Rattle.listing.specs.Answer.{answer as answerOf}
 use Rattle.listing.specs.Meant.{Meant}
 use Rattle.listing.proofs.Events.{Outcome, fail, need, done, snoc, events, Within}
-use Rattle.listing.proofs.Run.{run, Match, Placed, placed, reached, values-of, tries-at, answer, IsTry, IsMatch, _before_, Answer, answers, Tame}
+use Rattle.listing.proofs.Run.{run, Match, placed, reached, values-of, tries-at, answer, IsTry, IsMatch, _before_, answers, Tame}
 use Rattle.listing.proofs.Plain.{plain-try, plain-match, try-plain}
 use Rattle.listing.proofs.Ranks.{order}
 

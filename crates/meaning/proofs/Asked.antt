@@ -1,5 +1,5 @@
 -- The walk asks for a choice exactly where one is reached.
-use Prim.Native.Nat.{ℕ, zero, suc, _+_, _-_, _<_, _≤_, max}
+use Prim.Native.Nat.{ℕ, _+_, _≤_}
 use mathlib.Core.Path.{_≡_, refl, ap, ap₂, _∙_}
 use mathlib.Core.Path.{sym as flip}
 use mathlib.Core.List.{List, [], _∷_, _++_, append-nil}
@@ -7,19 +7,19 @@ use lib.ListN.{length}
 use native.Mathlib.Omega.{arith}
 use native.Mathlib.Nat.{zero-add}
 use native.Mathlib.Decide.{ℕ-discrete}
-use Rattle.meaning.specs.Forest.{Forest, none, some, Term, term, _◂_, rows, terms, _⊕_, plug, holeRow, Context, size}
-use Rattle.meaning.specs.Read.{takeT, Split, cut}
+use Rattle.meaning.specs.Forest.{Forest, none, some, Term, term, rows, terms, holeRow, size}
+use Rattle.meaning.specs.Read.{takeT, cut}
 use Rattle.meaning.proofs.Laws.{dropT, take-drop, terms-take, cut-plugs, cut-holds, take-of, drop-of, terms-of, hole-in, plug-cut}
-use Rattle.meaning.specs.Pattern.{Pattern, symbol, individual, function, context, Patterns, nil, cons, sequence, Kind, Look, old, new, wrong, look, Comes, after, afterT, afterF, GoodT, GoodF, Numbered}
-use Rattle.meaning.specs.Value.{Value, ofIndividual, ofSequence, ofFunction, ofContext, same?, kind, kinds, at, given, asTerm, asForest, asSymbol, asContext}
-use Rattle.meaning.specs.Apply.{apply, applyAll}
+use Rattle.meaning.specs.Pattern.{Pattern, symbol, individual, function, context, Patterns, nil, cons, sequence, Kind, Look, old, new, wrong, look, after, afterT, GoodT, GoodF, Numbered}
+use Rattle.meaning.specs.Value.{Value, ofIndividual, ofSequence, ofFunction, ofContext, same?, kind, kinds, at, given, asForest}
+use Rattle.meaning.specs.Apply.{apply}
 use Rattle.meaning.specs.Record.{Entry, entry, values, span, second, numbers, note, noteAs, firstsT, firstsF, firsts, recordOf}
 use Rattle.meaning.specs.Order.{choices}
-use Rattle.meaning.proofs.Walk.{Res, fail, need, ok, when, andThen, met, meet, chosen, choose, walkT, walkF, over, walk}
+use Rattle.meaning.proofs.Walk.{Res, fail, need, ok, andThen, met, meet, walkT, walkF, over, walk}
 use Rattle.meaning.specs.Reached.{Begins, UntilT, in-symbol, in-function, in-context, here-context, UntilF, in-first, in-rest, in-sequence, here-sequence, Reached}
-use Rattle.meaning.proofs.Lists.{look-old, look-new, look-end, pre-refl, pre-trans, pre-length, pre-same}
-use Rattle.meaning.proofs.Steps.{when-yes, when-live, picked, pick, Stands, Inv, On, stands-inv, stands-back, stands-unpaid, on-stands, meet-does, meet-sound, choose-does, Chose, asks, goes, choose-live}
-use Rattle.meaning.proofs.Sound.{Sound, soundT}
+use Rattle.meaning.proofs.Lists.{look-old, look-new, pre-refl, pre-trans, pre-length, pre-same}
+use Rattle.meaning.proofs.Steps.{when-yes, when-live, picked, Inv, On, stands-inv, stands-back, stands-unpaid, on-stands, meet-does, meet-sound, choose-does, Chose, asks, goes, choose-live}
+use Rattle.meaning.proofs.Sound.{soundT}
 use Rattle.meaning.proofs.Complete.{after-geT, after-toT, completeT}
 
 module _ (Allowed : ℕ → Value → Type 0) (allowed? : (x : ℕ) (v : Value) → Dec (Allowed x v)) (Q : List Kind)

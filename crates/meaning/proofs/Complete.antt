@@ -1,19 +1,18 @@
 -- Every matcher is found: the walk of a pattern on its own instance, with some choices, ends with the matcher's first appearances.
-use Prim.Native.Nat.{ℕ, zero, suc, _+_, _-_, _<_, _≤_, max}
-use mathlib.Core.Path.{_≡_, refl, ap, ap₂, _∙_}
-use mathlib.Core.Path.{sym as flip}
-use mathlib.Core.List.{List, [], _∷_, _++_}
+use Prim.Native.Nat.{ℕ, _+_, _<_, _≤_, max}
+use mathlib.Core.Path.{_≡_, refl, ap, _∙_}
+use mathlib.Core.List.{List}
 use lib.ListN.{length}
 use native.Mathlib.Omega.{arith}
 use native.Mathlib.Decide.{ℕ-discrete}
-use Rattle.meaning.specs.Forest.{Forest, none, some, Term, term, _◂_, rows, terms, _⊕_, plug, holeRow, size}
-use Rattle.meaning.specs.Read.{takeT, Split, cut}
+use Rattle.meaning.specs.Forest.{Forest, Term, rows, terms, _⊕_, plug, holeRow, size}
+use Rattle.meaning.specs.Read.{takeT, cut}
 use Rattle.meaning.proofs.Laws.{dropT, take-of, drop-of, terms-of, hole-in, plug-cut}
-use Rattle.meaning.specs.Pattern.{Pattern, symbol, individual, function, context, Patterns, nil, cons, sequence, Kind, anIndividual, aSequence, aFunction, aContext, Look, old, new, wrong, look, Comes, after, afterT, afterF, GoodT, GoodF}
+use Rattle.meaning.specs.Pattern.{Pattern, symbol, individual, function, context, Patterns, nil, cons, sequence, Kind, anIndividual, aSequence, aFunction, aContext, old, look, Comes, after, afterT, afterF, GoodT, GoodF}
 use Rattle.meaning.specs.Value.{Value, ofIndividual, ofSequence, ofFunction, ofContext, kind, kinds, at, given, asTerm, asForest, asSymbol, asContext}
 use Rattle.meaning.specs.Apply.{apply, applyAll}
-use Rattle.meaning.specs.Record.{Entry, entry, values, span, note, noteAs, firstsT, firstsF}
-use Rattle.meaning.proofs.Walk.{Res, fail, need, ok, when, andThen, met, meet, chosen, choose, walkT, walkF}
+use Rattle.meaning.specs.Record.{Entry, span, note, firstsT, firstsF}
+use Rattle.meaning.proofs.Walk.{ok, walkT, walkF}
 use Rattle.meaning.specs.Reached.{Begins}
 use Rattle.meaning.proofs.Lists.{look-less}
 use Rattle.meaning.proofs.Steps.{when-yes, kinds-old, kinds-length, Stands, On, on-stands, meet-does, choose-does}

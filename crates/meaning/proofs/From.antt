@@ -4,7 +4,7 @@ use mathlib.Core.Path.{_≡_, refl, ap, _∙_}
 use native.Mathlib.Omega.{arith}
 use native.Mathlib.Nat.{zero-add}
 use native.Mathlib.Decide.{decLt}
-use Rattle.meaning.specs.Forest.{Forest, none, some, Term, term, _◂_, rows, size, _⊕_, Context, hole, node, plug, holeRow}
+use Rattle.meaning.specs.Forest.{Forest, none, some, Term, _◂_, rows, size, _⊕_, Context, hole, node, plug, holeRow}
 use Rattle.meaning.specs.Read.{fromIn, fromRow}
 use Rattle.meaning.proofs.Laws.{rows-of, hole-in}
 

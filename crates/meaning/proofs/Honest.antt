@@ -1,7 +1,6 @@
 -- One choice more: only where it is asked for, and only in the range.
-use Prim.Native.Nat.{ℕ, zero, suc, _+_, _-_, _<_, _≤_}
-use mathlib.Core.Path.{_≡_, refl, ap, _∙_}
-use mathlib.Core.Path.{sym as flip}
+use Prim.Native.Nat.{ℕ, _+_, _-_, _≤_}
+use mathlib.Core.Path.{_≡_, refl}
 use mathlib.Core.List.{List, [], _∷_, _++_}
 use native.Mathlib.Decide.{ℕ-discrete, decLe}
 use Rattle.meaning.specs.Forest.{Forest, none, some, Term, term, rows, terms, size}
@@ -10,7 +9,7 @@ use Rattle.meaning.proofs.Laws.{dropT}
 use Rattle.meaning.specs.Pattern.{Pattern, symbol, individual, function, context, Patterns, nil, cons, sequence, Look, old, new, wrong, look}
 use Rattle.meaning.specs.Value.{Value, ofIndividual, ofSequence, ofFunction, ofContext, same?}
 use Rattle.meaning.specs.Record.{Entry, entry, values, span}
-use Rattle.meaning.proofs.Walk.{Res, fail, need, ok, when, andThen, met, meet, chosen, choose, walkT, walkF, over, walk}
+use Rattle.meaning.proofs.Walk.{Res, fail, need, ok, when, andThen, met, chosen, walkT, walkF, over, walk}
 
 -- y as one more choice: an answer, and the answer then
 abbrev MoreIs : ℕ → Res → Res → Type 0

@@ -1,17 +1,22 @@
 -- Laws of forests, and of cutting them.
 use Prim.Native.Nat.{ℕ, zero, suc, _+_, _-_, _<_, _≤_}
-use mathlib.Core.Path.{_≡_, refl, ap, _∙_, sym}
+use mathlib.Core.Path.{_≡_, refl, ap}
 use native.Mathlib.Omega.{arith}
 use native.Mathlib.Nat.{zero-add}
 use native.Mathlib.Decide.{decLt}
 use Rattle.meaning.specs.Forest.{Forest, none, some, Term, term, _◂_, rows, terms, _⊕_, Context, hole, node, plug, holeRow}
-use Rattle.meaning.specs.Read.{takeT, Cut, cutIn, cutF, Split, under, cut}
+use Rattle.meaning.specs.Read.{takeT, Cut, cutIn, cutF, under, cut}
 
 -- what follows the first terms of a sequence
 unfoldable pub dropT : ℕ → Forest → Forest
 dropT zero us = us
 dropT (suc c) none = none
 dropT (suc c) (some l us rest) = dropT c rest
+
+pub no-rows : (f : Forest) → rows f ≡ 0 → f ≡ none
+unfolding rows
+no-rows none e = refl
+no-rows (some l us rest) e = absurd (omega arith)
 
 -- a cut sequence put together again
 abbrev pub glue : Cut → Forest

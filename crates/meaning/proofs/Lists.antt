@@ -1,11 +1,11 @@
 -- Looking into a list, and the beginnings of a list.
-use Prim.Native.Nat.{ℕ, zero, suc, _+_, _<_, _≤_}
+use Prim.Native.Nat.{ℕ, zero, suc, _<_, _≤_}
 use mathlib.Core.Path.{_≡_, refl, ap, _∙_}
 use mathlib.Core.Path.{sym as flip}
 use mathlib.Core.List.{List, [], _∷_, _++_, append-assoc, append-nil}
 use lib.ListN.{length, length-append}
 use native.Mathlib.Omega.{arith}
-use Rattle.meaning.specs.Pattern.{Look, old, new, wrong, look}
+use Rattle.meaning.specs.Pattern.{old, new, wrong, look}
 use Rattle.meaning.specs.Reached.{Begins}
 
 module _ {A : Type 0} where

@@ -1,24 +1,21 @@
 -- The record of a matcher, read off the tree, is the matcher again, and a good record means values of the right kinds.
-use Prim.Native.Nat.{ℕ, zero, suc, _+_, _-_, _<_, _≤_, max, zero-le}
+use Prim.Native.Nat.{ℕ, _+_, _-_, _<_, zero-le}
 use mathlib.Core.Path.{_≡_, refl, ap, ap₂, _∙_}
 use mathlib.Core.Path.{sym as flip}
 use mathlib.Core.List.{List, [], _∷_, _++_}
-use lib.ListN.{length}
 use native.Mathlib.Omega.{arith}
-use native.Mathlib.Nat.{zero-add, add-zero}
-use native.Mathlib.Decide.{decLt}
-use Rattle.meaning.specs.Forest.{Forest, none, some, Term, term, _◂_, rows, terms, _⊕_, Context, hole, node, plug, holeRow, size}
-use Rattle.meaning.specs.Read.{takeT, Split, cut, fromIn, fromRow, headTerm, valueAt, readOff}
+use Rattle.meaning.specs.Forest.{Forest, none, some, Term, term, _◂_, rows, terms, _⊕_, plug, holeRow, size}
+use Rattle.meaning.specs.Read.{takeT, Split, fromRow, valueAt, readOff}
 use Rattle.meaning.specs.GoodRecord.{Fits, GoodRecord}
 use Rattle.meaning.proofs.Laws.{take-of, terms-of, hole-in, plug-cut}
 use Rattle.meaning.proofs.From.{HereF, HereT, here-in, here-args, here-first, here-drop, here-next, here-hole}
-use Rattle.meaning.specs.Pattern.{Pattern, symbol, individual, function, context, Patterns, nil, cons, sequence, Kind, anIndividual, aSequence, aFunction, aContext, Look, old, new, wrong, look, Comes, after, afterT, afterF, GoodT, GoodF, Numbered}
+use Rattle.meaning.specs.Pattern.{Pattern, symbol, individual, function, context, Patterns, nil, cons, sequence, Kind, anIndividual, aSequence, aFunction, aContext, Look, old, new, wrong, look, Comes, after, afterT, GoodT, GoodF, Numbered}
 use Rattle.meaning.specs.Value.{Value, ofIndividual, ofSequence, ofFunction, ofContext, kind, kinds, at, given, asTerm, asForest, asSymbol, asContext}
 use Rattle.meaning.specs.Apply.{apply, applyAll}
 use Rattle.meaning.specs.Solves.{Solves}
 use Rattle.meaning.specs.Record.{Entry, entry, values, span, second, numbers, note, noteAs, firstsT, firstsF, firsts, recordOf}
-use Rattle.meaning.proofs.Steps.{kinds-old, vals-more, kinds-more}
-use Rattle.meaning.proofs.Complete.{tree-of, forest-of, symbol-of, context-of}
+use Rattle.meaning.proofs.Steps.{kinds-old}
+use Rattle.meaning.proofs.Complete.{context-of}
 use Rattle.meaning.proofs.Theorems.{complete}
 
 -- the value is read back at its row, and its numbers are good
@@ -140,16 +137,3 @@ module _ (Allowed : ℕ → Value → Type 0) (allowed? : (x : ℕ) (v : Value) 
   -- and is no bad record
   pub round-good : GoodRecord Q (T ◂ none) (recordOf P σ)
   round-good = rw right-kinds at (read-firsts .fits)
-
--- a good record means values of the right kinds
-value-kind : (k : Kind) (R : Forest) (a b : ℕ) → kind (valueAt k R a b) ≡ k
-value-kind anIndividual R a b = refl
-value-kind aSequence R a b = refl
-value-kind aFunction R a b = refl
-value-kind aContext R a b = refl
-
-pub read-kinds : (Q : List Kind) (R : Forest) (r : List ℕ) → GoodRecord Q R r → kinds (readOff Q R r) ≡ Q
-read-kinds [] R r h = refl
-read-kinds (k ∷ Q) R [] h = absurd h
-read-kinds (k ∷ Q) R (a ∷ []) h = absurd h
-read-kinds (k ∷ Q) R (a ∷ b ∷ r) h = ap₂ (λ (j : Kind) (K : List Kind). j ∷ K) (value-kind k R a b) (read-kinds Q R r (h .1))

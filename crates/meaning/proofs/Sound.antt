@@ -1,23 +1,20 @@
 -- What the walk finds is a matcher, and its record is that of the matcher.
-use Prim.Native.Nat.{ℕ, zero, suc, _+_, _-_, _<_, _≤_, max}
+use Prim.Native.Nat.{ℕ, _+_}
 use mathlib.Core.Path.{_≡_, refl, ap, ap₂, _∙_}
-use mathlib.Core.Path.{sym as flip}
-use mathlib.Core.List.{List, [], _∷_, _++_}
-use lib.ListN.{length}
+use mathlib.Core.List.{List, _++_}
 use native.Mathlib.Omega.{arith}
 use native.Mathlib.Nat.{zero-add}
 use native.Mathlib.Decide.{ℕ-discrete}
-use Rattle.meaning.specs.Forest.{Forest, none, some, Term, term, _◂_, rows, terms, _⊕_, plug, holeRow, size}
+use Rattle.meaning.specs.Forest.{Forest, none, some, Term, term, rows, terms, size}
 use Rattle.meaning.specs.Read.{takeT, cut}
 use Rattle.meaning.proofs.Laws.{dropT, take-drop, terms-take, cut-plugs, cut-holds}
-use Rattle.meaning.specs.Pattern.{Pattern, symbol, individual, function, context, Patterns, nil, cons, sequence, Kind, Look, old, new, wrong, look, Comes, after, afterT, afterF, GoodT, GoodF}
-use Rattle.meaning.specs.Value.{Value, ofIndividual, ofSequence, ofFunction, ofContext, kind, kinds, at, given, asTerm, asForest, asSymbol, asContext}
+use Rattle.meaning.specs.Pattern.{Pattern, symbol, individual, function, context, Patterns, nil, cons, sequence, Kind, afterT, afterF, GoodT, GoodF}
+use Rattle.meaning.specs.Value.{Value, ofIndividual, ofSequence, ofFunction, ofContext, at, given, asSymbol}
 use Rattle.meaning.specs.Apply.{apply, applyAll}
-use Rattle.meaning.specs.Record.{Entry, entry, values, span, second, numbers, note, noteAs, firstsT, firstsF}
-use Rattle.meaning.specs.Order.{choices}
-use Rattle.meaning.proofs.Walk.{Res, fail, need, ok, when, andThen, met, meet, chosen, choose, walkT, walkF}
+use Rattle.meaning.specs.Record.{Entry, values, note, firstsT, firstsF}
+use Rattle.meaning.proofs.Walk.{ok, walkT, walkF}
 use Rattle.meaning.specs.Reached.{Begins}
-use Rattle.meaning.proofs.Steps.{no-ok, when-ok, then-ok, picked, pick, Stands, Inv, stands-inv, stands-back, stands-unpaid, meet-sound, then-meet, choose-sound}
+use Rattle.meaning.proofs.Steps.{no-ok, when-ok, then-ok, picked, Inv, stands-inv, stands-back, stands-unpaid, meet-sound, then-meet, choose-sound}
 
 module _ (Allowed : ℕ → Value → Type 0) (allowed? : (x : ℕ) (v : Value) → Dec (Allowed x v)) (Q : List Kind) where
   -- a part of the pattern was walked from (B, cs) to (B′, cs′): for every σ that goes on from B′ the part's instance is what it was walked

@@ -1,5 +1,5 @@
 -- A variable comes up: what the two steps of the walk, meet and choose, have in common.
-use Prim.Native.Nat.{ℕ, zero, suc, _+_, _-_, _<_, _≤_, max}
+use Prim.Native.Nat.{ℕ, zero, suc, _+_, _-_, _≤_}
 use mathlib.Core.Path.{_≡_, refl, ap, ap₂, _∙_}
 use mathlib.Core.Path.{sym as flip}
 use mathlib.Core.List.{List, [], _∷_, _++_, append-assoc, append-nil}
@@ -12,7 +12,7 @@ use Rattle.meaning.specs.Record.{Entry, entry, values, span, second, num
 use Rattle.meaning.specs.Order.{choices}
 use Rattle.meaning.proofs.Walk.{Res, fail, need, ok, when, andThen, met, meet, chosen, choose}
 use Rattle.meaning.specs.Reached.{Begins}
-use Rattle.meaning.proofs.Lists.{look-new, look-old, look-wrong, look-more, look-last, pre-more, pre-less, pre-look, pre-last, pre-all, all-more}
+use Rattle.meaning.proofs.Lists.{look-new, look-old, look-wrong, pre-more, pre-less, pre-look, pre-last, all-more}
 
 -- what is told by an answer ok
 module _ {B : List Entry} {cs : List ℕ} where
@@ -63,6 +63,10 @@ kinds-old (v ∷ l) (suc x) k h = kinds-old l x k h
 pub kinds-length : (l : List Value) → length (kinds l) ≡ length l
 kinds-length [] = refl
 kinds-length (v ∷ l) = ap suc (kinds-length l)
+
+pub values-length : (B : List Entry) → length (values B) ≡ length B
+values-length [] = refl
+values-length (e ∷ B) = ap suc (values-length B)
 
 -- the choices made so far
 abbrev pub picked : List Entry → List ℕ

@@ -1,21 +1,21 @@
 -- What a lister needs to know of the walk: how many choices there can be, their ranges, the width of a record.
-use Prim.Native.Nat.{ℕ, zero, suc, _+_, _-_, _<_, _≤_, max}
+use Prim.Native.Nat.{ℕ, _+_, _<_, _≤_}
 use mathlib.Core.Path.{_≡_, refl, ap, _∙_}
 use mathlib.Core.Path.{sym as flip}
 use mathlib.Core.List.{List, [], _∷_, _++_}
 use lib.ListN.{length}
 use native.Mathlib.Omega.{arith}
-use Rattle.meaning.specs.Forest.{Forest, none, some, Term, term, _◂_, rows, terms, _⊕_, plug, holeRow, Context, hole, node}
+use Rattle.meaning.specs.Forest.{Forest, Term, _◂_, rows, plug, holeRow, Context, hole, node}
 use Rattle.meaning.proofs.Laws.{terms-few, rows-of}
-use Rattle.meaning.specs.Pattern.{Pattern, Patterns, Kind, anIndividual, aSequence, aFunction, aContext, Look, old, new, look, after, afterT, GoodT, GoodF, Numbered}
+use Rattle.meaning.specs.Pattern.{Pattern, Patterns, Kind, anIndividual, aSequence, aFunction, aContext, old, look, after, afterT, GoodT, GoodF, Numbered}
 use Rattle.meaning.specs.Value.{Value, ofIndividual, ofSequence, ofFunction, ofContext, kind, kinds}
 use Rattle.meaning.specs.Record.{Entry, values, second, numbers, recordOf}
 use Rattle.meaning.specs.Order.{choices}
-use Rattle.meaning.proofs.Walk.{Res, need, ok, walk}
-use Rattle.meaning.specs.Reached.{Begins, UntilT, in-symbol, in-function, in-context, here-context, UntilF, in-first, in-rest, in-sequence, here-sequence, Reached}
+use Rattle.meaning.proofs.Walk.{need, ok, walk}
+use Rattle.meaning.specs.Reached.{Begins, UntilT, in-symbol, in-function, in-context, here-context, UntilF, in-first, in-rest, in-sequence, here-sequence}
 use Rattle.meaning.proofs.Lists.{look-new, look-end, next-is}
-use Rattle.meaning.proofs.Steps.{kinds-length, picked}
-use Rattle.meaning.proofs.Theorems.{Found, sound}
+use Rattle.meaning.proofs.Steps.{kinds-length, values-length, picked}
+use Rattle.meaning.proofs.Theorems.{sound}
 use Rattle.meaning.proofs.Asked.{asked-reached}
 
 -- the number of choice variables
@@ -49,9 +49,9 @@ picked-many (e ∷ B) = go (e .value) (picked-many B)
     go (ofFunction l) h = omega arith
     go (ofContext c) h = omega arith
 
-numbers-many : (B : List Entry) → length (numbers B) ≡ length (values B) + length (values B)
-numbers-many [] = refl
-numbers-many (e ∷ B) = omega (arith, numbers-many B)
+pub numbers-double : (B : List Entry) → length (numbers B) ≡ length B + length B
+numbers-double [] = refl
+numbers-double (e ∷ B) = omega (arith, numbers-double B)
 
 count-more : (Q R : List Kind) → count (Q ++ R) ≡ count Q + count R
 count-more [] R = omega arith
@@ -129,4 +129,4 @@ module _ (Allowed : ℕ → Value → Type 0) (allowed? : (x : ℕ) (v : Value) 
       let k = r .solves .right in
       let l = ap length k in
       let m = kinds-length (values B) in
-      (ap length (r .chose) ∙ rw (← k) (picked-many B), omega (arith, numbers-many B))
+      (ap length (r .chose) ∙ rw (← k) (picked-many B), omega (arith, numbers-double B, values-length B))

@@ -1,23 +1,21 @@
 -- The walk and the matchers: one to one.
-use Prim.Native.Nat.{ℕ, zero, suc, _+_, _<_, _≤_}
+use Prim.Native.Nat.{ℕ, _≤_}
 use mathlib.Core.Path.{_≡_, refl, ap, _∙_}
 use mathlib.Core.Path.{sym as flip}
 use mathlib.Core.List.{List, [], _∷_, _++_, append-nil}
 use lib.ListN.{length}
 use native.Mathlib.Omega.{arith}
 use Rattle.meaning.specs.Forest.{Term}
-use Rattle.meaning.specs.Pattern.{Pattern, Kind, Look, old, look, afterT, Numbered}
+use Rattle.meaning.specs.Pattern.{Pattern, Kind, afterT, Numbered}
 use Rattle.meaning.specs.Value.{Value, kinds}
-use Rattle.meaning.specs.Apply.{apply}
 use Rattle.meaning.specs.Solves.{Solves}
-use Rattle.meaning.specs.Record.{Entry, values, numbers, firstsT, firsts, recordOf}
+use Rattle.meaning.specs.Record.{Entry, values, numbers, firsts, recordOf}
 use Rattle.meaning.specs.Matcher.{IsRecord}
 use Rattle.meaning.specs.Order.{choices}
 use Rattle.meaning.proofs.Walk.{Res, fail, need, ok, walkT, over, walk}
-use Rattle.meaning.specs.Reached.{Begins}
 use Rattle.meaning.proofs.Lists.{look-old, pre-all}
-use Rattle.meaning.proofs.Steps.{no-ok, no-need, kinds-length, picked, Inv, On}
-use Rattle.meaning.proofs.Sound.{Sound, soundT}
+use Rattle.meaning.proofs.Steps.{no-ok, no-need, kinds-length, picked, Inv}
+use Rattle.meaning.proofs.Sound.{soundT}
 use Rattle.meaning.proofs.Complete.{completeT}
 
 over-ok : (r : Res) {B : List Entry} {cs : List ℕ} → over r ≡ ok B cs → (r ≡ ok B []) × (cs ≡ [])

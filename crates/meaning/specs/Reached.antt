@@ -6,7 +6,7 @@ use mathlib.Core.Path.{_≡_}
 use mathlib.Core.List.{List, _++_}
 use lib.ListN.{length}
 use Rattle.meaning.specs.Forest.{Forest, some, Term, term, rows, terms, size, _⊕_, Context, plug, holeRow}
-use Rattle.meaning.specs.Pattern.{Pattern, symbol, function, context, Patterns, cons, sequence, Kind, Look, old, new, look, afterT}
+use Rattle.meaning.specs.Pattern.{Pattern, symbol, function, context, Patterns, cons, sequence, Kind, old, new, look, afterT}
 use Rattle.meaning.specs.Value.{Value, ofSequence, ofFunction, ofContext, kinds}
 use Rattle.meaning.specs.Apply.{apply}
 

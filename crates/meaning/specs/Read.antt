@@ -1,5 +1,5 @@
 -- 01, "What a matcher is" and "Numbers and order of checks": the substitution that a record means, read off the tree.
-use Prim.Native.Nat.{ℕ, zero, suc, _-_, _<_}
+use Prim.Native.Nat.{ℕ, zero, suc, _-_}
 use mathlib.Core.List.{List, [], _∷_}
 use native.Mathlib.Decide.{decLt}
 use Rattle.meaning.specs.Forest.{Forest, none, some, Term, term, rows, Context, hole, node}

@@ -1,7 +1,7 @@
 -- 01, "What a matcher is": "A record has two numbers per variable, at its first appearance in the pattern."
 use Prim.Native.Nat.{ℕ, _+_}
 use mathlib.Core.List.{List, [], _∷_, _++_}
-use Rattle.meaning.specs.Forest.{Forest, Term, rows, terms, size, Context, holeRow}
+use Rattle.meaning.specs.Forest.{rows, terms, size, holeRow}
 use Rattle.meaning.specs.Pattern.{Pattern, symbol, individual, function, context, Patterns, nil, cons, sequence, Look, old, new, wrong, look}
 use Rattle.meaning.specs.Value.{Value, ofIndividual, ofSequence, ofFunction, ofContext, at, asForest}
 use Rattle.meaning.specs.Apply.{apply}

@@ -3,7 +3,7 @@ use Prim.Native.Nat.{ℕ}
 use mathlib.Core.Path.{_≡_}
 use mathlib.Core.List.{List}
 use Rattle.meaning.specs.Forest.{Term}
-use Rattle.meaning.specs.Pattern.{Pattern, Kind, Look, old, look}
+use Rattle.meaning.specs.Pattern.{Pattern, Kind, old, look}
 use Rattle.meaning.specs.Value.{Value, kinds}
 use Rattle.meaning.specs.Apply.{apply}
 

@@ -34,14 +34,6 @@ module _ {K N S : List ℕ} {r : Checked} where
         refused = λ d. absurd (true≢false (sym e ∙ d));
       }
 
--- what a caller learns of a good pattern
-pub answered : {K N S : List ℕ} {r : Checked} → Settled K N S r → r .good ≡ true
-    → (P : Pattern) × (Q : List Kind) × GoodPattern K N S P Q × (r .variables ≡ length Q) × (r .kinds ≡ listed Q)
-answered a e =
-    let g = a .judged .0 e in
-    let f = a .found (g .0) (g .1) (g .2) in
-    (g .0, g .1, g .2, f .0, f .1)
-
 abbrev made : Bool → ℕ → List ℕ → Checked
 made g v k = record { good = g; variables = v; kinds = k }
 

@@ -1,18 +1,15 @@
 -- Each return of the check: the rule that is broken, and that those before it hold.
 use Prim.Native.Nat.{ℕ}
 use mathlib.Core.Path.{_≡_, refl}
-use mathlib.Core.Logic.{_⊎_, inl, inr}
+use mathlib.Core.Logic.{inl, inr}
 use mathlib.Core.Bool.{Bool, true, false}
 use mathlib.Core.List.{List, []}
-use lib.ListN.{length}
 use native.Mathlib.Omega.{arith}
 use Rattle.meaning.specs.Says.{Says}
-use Rattle.meaning.specs.Forest.{Term}
-use Rattle.meaning.specs.Pattern.{Pattern, Kind}
+use Rattle.meaning.specs.Pattern.{Kind}
 use Rattle.meaning.specs.Lowest.{accept}
 use Rattle.meaning.proofs.Answers.{said-no}
 use Rattle.tree.specs.Good.{Good as GoodRows}
-use Rattle.pattern.specs.Good.{GoodPattern}
 use Rattle.pattern.specs.Answer.{listed, Settled}
 use Rattle.pattern.specs.declared.Checked.{Checked}
 use Rattle.expression.specs.Expression.{Expression}
@@ -23,7 +20,7 @@ use Rattle.constraint.specs.Good.{GoodConstraints}
 use Rattle.constraint.specs.Whole.{Good as GoodConstraintList}
 use Rattle.pattern.specs.Known.{KindsAre}
 use Rattle.constraint.proofs.Meant.{list-judged}
-use Rattle.problem.specs.Problem.{Lists, Poses, Codes}
+use Rattle.problem.specs.Problem.{Lists, Codes}
 use Rattle.problem.specs.Answer.{Answered}
 use Rattle.problem.specs.declared.Problem.{Problem}
 

@@ -1,14 +1,16 @@
 -- What is accepted is a problem, and one only; and what a function that checks more gives.
 use Prim.Native.Nat.{ℕ}
 use mathlib.Core.Path.{_≡_}
-use mathlib.Core.Logic.{_⊎_, inl, inr}
+use mathlib.Core.Logic.{inl, inr}
 use mathlib.Core.List.{List}
 use native.Mathlib.Omega.{arith}
 use Rattle.meaning.specs.Forest.{Term}
 use Rattle.meaning.specs.Pattern.{Pattern, Kind}
 use Rattle.meaning.specs.Lowest.{accept}
-use Rattle.meaning.proofs.OneCode.{one-refuse, one-accept}
+use Rattle.meaning.proofs.OneCode.{one-refuse}
 use Rattle.tree.proofs.Unique.{unique}
+use Rattle.pattern.specs.Good.{GoodPattern}
+use Rattle.pattern.specs.Known.{KindsAre}
 use Rattle.expression.specs.Expression.{Expression}
 use Rattle.constraint.specs.Obeys.{Constraint}
 use Rattle.constraint.proofs.Meant.{one-meaning}
@@ -44,6 +46,14 @@ pub codes-high : (l : Lists) (others : ℕ → Type 0) (c : ℕ) → Posed l →
 codes-high l others c w o =
     let m = w .poses .rest in
     inr ((w .T, w .poses .tree), inr ((w .P, w .Q, m .pattern), inr ((w .es, m .table), inr ((w .P, w .Q, w .es, w .cs, m), o))))
+
+-- what is known where the answer is no refusal: a problem, and the kinds of its variables
+module _ {l : Lists} {r : Problem} (a : Answered l r) (z : r .code ≡ 0) where
+  pub the : Posed l
+  the = posed l accept (r .code) z (a .code)
+
+  pub known : {P : Pattern} {Q : List Kind} → GoodPattern (l .kind) (l .name) (l .patternSize) P Q → KindsAre Q (r .variables) (r .kinds)
+  known {P} {Q} g = let f = a .found z P Q g in record { many = f .0; few = g .bounded; are = f .1 }
 
 -- one code, one problem, one answer
 pub one-codes : (l : Lists) (others : ℕ → Type 0) → ((a b : ℕ) → others a → others b → a ≡ b) → (a b : ℕ) → Codes l others a → Codes l others b → a ≡ b

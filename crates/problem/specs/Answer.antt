@@ -1,5 +1,4 @@
 -- 01, "What the contracts have to decide": the result on all inputs, refused ones too.
-use Prim.Native.Nat.{ℕ}
 use mathlib.Core.Path.{_≡_}
 use mathlib.Core.List.{List, []}
 use lib.ListN.{length}

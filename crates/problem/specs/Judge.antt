@@ -6,7 +6,7 @@ use mathlib.Core.List.{List}
 use lib.ListN.{length}
 use Rattle.meaning.specs.Says.{Says}
 use Rattle.meaning.specs.Forest.{none, Term, _◂_}
-use Rattle.meaning.specs.Pattern.{Kind, Look, old, look}
+use Rattle.meaning.specs.Pattern.{Kind, old, look}
 use Rattle.meaning.specs.Read.{valueAt}
 use Rattle.meaning.specs.GoodRecord.{Fits}
 use Rattle.tree.specs.Good.{GoodTree}

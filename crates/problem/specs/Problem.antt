@@ -4,7 +4,7 @@ use Prim.Native.Nat.{ℕ}
 use mathlib.Core.List.{List}
 use Rattle.meaning.specs.Forest.{Term}
 use Rattle.meaning.specs.Pattern.{Pattern, Kind}
-use Rattle.meaning.specs.Lowest.{refuse, accept}
+use Rattle.meaning.specs.Lowest.{refuse}
 use Rattle.tree.specs.Good.{GoodTree}
 use Rattle.tree.specs.Good.{Good as GoodRows}
 use Rattle.pattern.specs.Good.{Good as GoodPatternRows}

@@ -1,5 +1,4 @@
 ghost use mathlib.Core.Path.{_≡_};
-ghost use Rattle.problem.specs.Problem.{Lists};
 ghost use Rattle.problem.specs.Answer.{Answered};
 ghost use Rattle.problem.specs.Judge.{JudgePre, JudgePost};
 ghost use Rattle.pattern.specs.Answer.{listed};

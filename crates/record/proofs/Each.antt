@@ -7,17 +7,17 @@ use lib.ListN.{length, getD}
 use native.Mathlib.Omega.{arith}
 use native.Mathlib.Decide.{ℕ-discrete}
 use Rattle.meaning.specs.Forest.{Forest}
-use Rattle.meaning.specs.Pattern.{Kind, anIndividual, aSequence, aFunction, aContext, Look, old, look}
+use Rattle.meaning.specs.Pattern.{Kind, anIndividual, aSequence, aFunction, aContext, old, look}
 use Rattle.meaning.specs.Says.{Says}
+use Rattle.meaning.specs.Read.{valueAt, readOff}
 use Rattle.meaning.specs.GoodRecord.{Fits, GoodRecord}
 use Rattle.meaning.proofs.Lists.{look-old, look-some}
 use Rattle.meaning.proofs.Answers.{says-yes, says-no, said-no}
 use Rattle.tree.specs.Places.{TermsAt}
 use Rattle.pattern.specs.Rows.{code}
-use Rattle.pattern.specs.Answer.{listed}
 use Rattle.pattern.specs.Known.{KindsAre}
 use Rattle.pattern.proofs.Listed.{one-code, listed-length, listed-look}
-use Rattle.record.specs.Pairs.{RowsPre, FitsPost, PairPost, RecordPre, RecordPost}
+use Rattle.record.specs.Pairs.{FitsPost, PairPost, RecordPre, RecordPost}
 
 -- the kinds by their numbers
 pub pair-sequence : {S : List ℕ} {kind a b : ℕ} {r : Bool} → kind ≡ 2 → FitsPost S aSequence a b r → PairPost S kind a b r
@@ -71,6 +71,18 @@ good-long [] R (a ∷ list) g = absurd g
 good-long (k ∷ Q) R [] g = absurd g
 good-long (k ∷ Q) R (a ∷ []) g = absurd g
 good-long (k ∷ Q) R (a ∷ b ∷ list) g = omega (arith, good-long Q R list (g .1))
+
+-- the values that a record means, one by one
+pub read-look : (Q : List Kind) (R : Forest) (list : List ℕ) (x : ℕ) (k : Kind) → GoodRecord Q R list → look Q x ≡ old k
+    → look (readOff Q R list) x ≡ old (valueAt k R (getD list (x + x) 0) (getD list (x + x + 1) 0))
+read-look [] R list x k g e = absurd (omega (arith, look-old [] x k e))
+read-look (j ∷ Q) R [] x k g e = absurd g
+read-look (j ∷ Q) R (a ∷ []) x k g e = absurd g
+read-look (j ∷ Q) R (a ∷ b ∷ list) zero k g e = let z : j ≡ k = cc in rw z
+read-look (j ∷ Q) R (a ∷ b ∷ list) (suc x) k g e =
+    let p : suc x + suc x ≡ suc (suc (x + x)) = omega arith in
+    let q : suc (suc (x + x)) + 1 ≡ suc (suc (x + x + 1)) = omega arith in
+    rw (p, q) (read-look Q R list x k (g .1) e)
 
 -- the loop: for every tree and every list of kinds, the variables below x are good
 pub record Passed (S kinds : List ℕ) (variables : ℕ) (list : List ℕ) (x : ℕ) : Type 0 where

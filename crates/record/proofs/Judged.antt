@@ -1,14 +1,14 @@
 -- What each return of the functions that judge one variable's numbers says.
 use Prim.Native.Nat.{ℕ, _+_, _<_, _≤_}
-use mathlib.Core.Path.{_≡_, ap}
-use mathlib.Core.Bool.{true, false}
+use mathlib.Core.Path.{_≡_}
+use mathlib.Core.Bool.{false}
 use mathlib.Core.List.{List}
 use lib.ListN.{length, getD}
 use lib.Dec.{eqb, leb, ltb}
 use native.Mathlib.Omega.{arith}
 use borrow.Author.Tests.{eqb-true, eq-eqb, leb-true, le-leb, ltb-true, lt-ltb}
-use Rattle.meaning.specs.Forest.{Forest, none, some, rows, terms, size}
-use Rattle.meaning.specs.Pattern.{Kind, anIndividual, aSequence, aFunction, aContext}
+use Rattle.meaning.specs.Forest.{Forest, terms, size}
+use Rattle.meaning.specs.Pattern.{anIndividual, aSequence, aFunction, aContext}
 use Rattle.meaning.specs.Read.{fromRow, headTerm}
 use Rattle.meaning.proofs.From.{from-past}
 use Rattle.meaning.proofs.Laws.{terms-few}

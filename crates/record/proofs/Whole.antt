@@ -5,20 +5,17 @@ use mathlib.Core.Bool.{Bool, true, false}
 use mathlib.Core.List.{List}
 use lib.ListN.{length}
 use Rattle.meaning.specs.Forest.{none, Term, _◂_}
-use Rattle.meaning.specs.Pattern.{Pattern, Kind}
 use Rattle.meaning.specs.Says.{Says}
 use Rattle.meaning.proofs.Answers.{says-no, said-no}
 use Rattle.tree.specs.Good.{GoodTree}
 use Rattle.tree.specs.Good.{Good as GoodRows}
 use Rattle.tree.specs.Places.{TermsAt}
 use Rattle.tree.proofs.Unique.{good-at, good-lengths}
-use Rattle.pattern.specs.Good.{GoodPattern}
-use Rattle.pattern.specs.Good.{Good as GoodPatternRows}
 use Rattle.pattern.specs.Answer.{Settled}
 use Rattle.pattern.specs.declared.Checked.{Checked}
 use Rattle.pattern.proofs.Settle.{variables-known}
 use Rattle.record.specs.Good.{Good}
-use Rattle.record.specs.Pairs.{RowsPre, RecordPre, RecordPost}
+use Rattle.record.specs.Pairs.{RecordPre, RecordPost}
 
 -- the rows of a good tree are its term's
 pub tree-at : {L S : List ℕ} {T : Term} → GoodTree L S T → TermsAt L S 0 (length S) (T ◂ none)

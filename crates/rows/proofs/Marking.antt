@@ -83,12 +83,6 @@ module _ {w d₀ s₀ l₀ : List ℕ} (m : MayMark w d₀ s₀ l₀) {d s l : L
   at-run : At w a (inRun (k .o) (k .f) T)
   at-run = run-walk (k .o) (k .f) (span .passed) (k .here)
 
-  pub few-rows : at-row ≤ length (rowsOf (m .f))
-  unfolding rowsS
-  few-rows =
-      let p : Prefix (atRun (k .o) (k .f)) (rowsOf (m .f)) = emitted (m .document) (k .here) in
-      omega (arith, k .row-is, ap length (p .is), length-append (atRun (k .o) (k .f)) (p .rest))
-
   start-is : offO (k .o) + width (k .f) ≡ i
   unfolding posS
   start-is = omega (arith, at-place (k .here) tt)

@@ -1,5 +1,5 @@
 // The depth, the start and the length of each row, written into three lists.
-ghost use Prim.Native.Nat.{_+_, _≤_, _<_};
+ghost use Prim.Native.Nat.{_≤_, _<_};
 ghost use lib.ListN.{length};
 ghost use Rattle.judge.specs.Tokens.{Classed};
 ghost use Rattle.rows.specs.Marks.{Put, PutLeaf, MayMark, Marks};

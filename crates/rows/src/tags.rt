@@ -1,5 +1,5 @@
 // The tags of a document that was judged: nothing in them is wrong, so only their ends are looked for.
-ghost use Prim.Native.Nat.{_+_, _≤_, _<_};
+ghost use Prim.Native.Nat.{_≤_, _<_};
 ghost use lib.ListN.{length};
 ghost use Rattle.judge.specs.Tokens.{Classed};
 ghost use Rattle.rows.specs.Marks.{StartsTo, ClosesTo};

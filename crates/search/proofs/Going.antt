@@ -1,40 +1,35 @@
 -- The turns of the search.
-use Prim.Native.Nat.{ℕ, zero, suc, _+_, _-_, _*_, _<_, _≤_}
-use mathlib.Core.Path.{_≡_, refl, ap, _∙_, sym, subst}
+use Prim.Native.Nat.{ℕ, suc, _+_, _-_, _*_, _<_, _≤_}
+use mathlib.Core.Path.{_≡_, refl, _∙_, sym, subst}
 use mathlib.Core.Bool.{Bool}
 use mathlib.Core.List.{List, [], _∷_, _++_}
 use lib.ListN.{length, getD, take, set, length-set}
-use lib.Seq.{take-suc-set, length-take-le, paste}
+use lib.Seq.{take-suc-set}
 use native.Mathlib.Omega.{arith}
 use Rattle.meaning.specs.Forest.{none, Term, _◂_, size}
-use Rattle.meaning.specs.Pattern.{Pattern, Kind, anIndividual, aSequence, aFunction, aContext, Look, old, look, Numbered}
+use Rattle.meaning.specs.Pattern.{Pattern, Kind, anIndividual, aSequence, aFunction, aContext, old, look, Numbered}
 use Rattle.meaning.specs.Value.{Value}
-use Rattle.meaning.specs.Record.{Entry, values, numbers}
 use Rattle.meaning.specs.Read.{valueAt}
 use Rattle.meaning.specs.GoodRecord.{Fits}
-use Rattle.meaning.proofs.Walk.{Res, fail, need, ok, walk}
+use Rattle.meaning.proofs.Walk.{fail, walk}
 use Rattle.meaning.proofs.Next.{Any, any?, next-fits, next-judged}
 use Rattle.meaning.proofs.Tame.{count, weight}
 use Rattle.expression.specs.Expression.{Expression}
-use Rattle.constraint.specs.Obeys.{Constraint, free, Obeys, givenTo, Allowed}
-use Rattle.constraint.specs.Good.{GoodConstraints}
+use Rattle.constraint.specs.Obeys.{Constraint, Obeys, Allowed}
 use Rattle.constraint.specs.Pair.{Pair, no-pair, a-pair}
 use Rattle.constraint.proofs.Constraints.{pair-at}
 use Rattle.constraint.proofs.Allowed.{allowed?}
 use Rattle.variable.specs.State.{Written, row-of, zero-of-individual, zero-of-function, Kept}
-use Rattle.walk.specs.Walked.{given, Answers, fails, needs, matches}
+use Rattle.walk.specs.Walked.{given, Answers, fails}
 use Rattle.walk.specs.declared.Out.{Out}
 use Rattle.walk.specs.declared.Out.the-variants as out
-use Rattle.listing.proofs.Events.{Outcome, done}
-use Rattle.listing.proofs.Events as events
-use Rattle.listing.proofs.Back.{BackTo}
-use Rattle.listing.proofs.Fill.{Filled, fill, rest, ahead}
+use Rattle.listing.proofs.Events.{Outcome}
 use Rattle.listing.proofs.Given.{Chosen, given-cut}
-use Rattle.listing.proofs.Levels.{Level, level-kind, level-within, Levels, levels-back, levels-kept, levels-next, levels-set, levels-given, levels-need}
-use Rattle.listing.proofs.Loop.{Fixed, At, at-rest, at-back, all-done, at-spent, at-next, at-fail, at-need, at-match, no-room, room-left, need-deep}
-use Rattle.listing.proofs.Whole.{walked, outcome, is-tame}
-use Rattle.search.specs.Search.{Search, AttemptPre, AttemptPost, GoAsked, GoPre, GoPost}
-use Rattle.search.specs.declared.Found.{Found}
+use Rattle.listing.proofs.Levels.{Level, level-kind, level-within, Levels, levels-kept, levels-next, levels-set, levels-given}
+use Rattle.listing.proofs.Run.{Tame}
+use Rattle.listing.proofs.Loop.{Fixed}
+use Rattle.listing.proofs.Whole.{walked, is-tame}
+use Rattle.search.specs.Search.{Search, AttemptPost}
 
 -- individual and function variables have no constraint
 unjudged : {es : List Expression} (k : Kind) {a b : ℕ} {c : Constraint} (v : Value) → weight k ≡ 0 → Pair es k a b c → Obeys c v
@@ -59,6 +54,15 @@ module _ {L S M name first : List ℕ} {null : List Bool} {cont : List ℕ} {end
 
   abbrev pub Walked : List ℕ → Outcome
   Walked = walked (Allowed cs) (allowed? cs) numbered T
+
+  -- what does not change while it is searched
+  pub is-fixed : {width room : ℕ} {before : List ℕ} → width ≡ length Q + length Q → room * width ≤ length before → Fixed Walked (count Q) (size T) width room before
+  is-fixed wide fits =
+      record {
+        is-tame = subst (λ (n : ℕ). Tame Walked (count Q) (size T) n) (sym wide) (is-tame (Allowed cs) (allowed? cs) numbered T);
+        small = omega (arith, few Q, w .judging .few);
+        fits = fits;
+      }
 
   pub individuals : (x : ℕ) (v : Value) → look Q x ≡ old anIndividual → Allowed cs x v
   individuals x v e = unjudged anIndividual v refl (pair-at x (w .judging .given) e)

@@ -1,50 +1,35 @@
 -- The search's loop: what holds at each turn, for every problem that the lists mean.
-use Prim.Native.Nat.{ℕ, zero, suc, _+_, _-_, _*_, _<_, _≤_}
-use mathlib.Core.Path.{_≡_, refl, ap, _∙_, sym, subst}
+use Prim.Native.Nat.{ℕ, suc, _+_, _-_, _*_, _<_, _≤_}
+use mathlib.Core.Path.{_≡_, refl, ap, _∙_, subst}
 use mathlib.Core.Bool.{Bool}
-use mathlib.Core.List.{List, [], _∷_, _++_}
+use mathlib.Core.List.{List, []}
 use lib.ListN.{length, getD, take, set, length-set}
-use lib.Seq.{length-take-le, paste}
+use lib.Seq.{paste}
 use native.Mathlib.Omega.{arith}
 use native.Mathlib.Numerals.{add-one}
 use Rattle.meaning.specs.Forest.{Term, size, rows}
 use Rattle.meaning.specs.Pattern.{Pattern, Kind}
 use Rattle.meaning.specs.Record.{Entry, numbers}
-use Rattle.meaning.proofs.Walk.{Res, fail, need, ok, walk}
-use Rattle.meaning.proofs.Tame.{count, tame-need, tame-ok}
+use Rattle.meaning.proofs.Walk.{need, ok, walk}
+use Rattle.meaning.proofs.Tame.{count, tame-need}
 use Rattle.tree.specs.Good.{GoodTree}
 use Rattle.tree.proofs.Unique.{good-lengths}
 use Rattle.expression.specs.Expression.{Expression}
 use Rattle.constraint.specs.Obeys.{Constraint, Allowed}
 use Rattle.constraint.proofs.Allowed.{allowed?}
-use Rattle.walk.specs.Walked.{Answers, fails, needs, matches}
+use Rattle.walk.specs.Walked.{Answers}
 use Rattle.walk.specs.declared.Out.{Out}
 use Rattle.walk.specs.declared.Out.the-variants as answer
-use Rattle.listing.proofs.Events.{Outcome, done}
+use Rattle.walk.proofs.Answered.{failed, needed, matched}
 use Rattle.listing.proofs.Events as events
-use Rattle.listing.proofs.Run.{Tame}
 use Rattle.listing.proofs.Back.{BackTo}
 use Rattle.listing.proofs.Fill.{Filled, fill, rest, ahead}
-use Rattle.listing.proofs.Levels.{Level, Levels, levels-back, levels-need}
-use Rattle.listing.proofs.Loop.{Fixed, Stands, At, at-rest, at-back, all-done, at-spent, at-next, at-fail, at-need, at-match, no-room, room-left, need-deep}
-use Rattle.listing.proofs.Whole.{outcome, is-tame}
-use Rattle.search.specs.Search.{Search, AttemptPre, AttemptPost, GoAsked, GoPre, GoPost}
+use Rattle.listing.proofs.Levels.{Levels, levels-back, levels-need}
+use Rattle.listing.proofs.Loop.{Fixed, At, at-rest, at-back, all-done, at-spent, at-next, at-fail, at-need, at-match, no-room, room-left, need-deep}
+use Rattle.listing.proofs.Whole.{outcome}
+use Rattle.search.specs.Search.{AttemptPre, AttemptPost, GoAsked, GoPre, GoPost}
 use Rattle.search.specs.declared.Found.{Found}
-use Rattle.search.proofs.Going.{few, Walked, Leveled, try-kind, try-answered}
-
--- what the answer says of the walk
-pub said-fail : {R : List ℕ} {r : Res} → Answers R answer.Fail r → r ≡ fail
-said-fail fails = refl
-
-pub said-need : {R : List ℕ} {r : Res} (x s lo hi : ℕ) → Answers R (answer.Need x s lo hi) r → (B : List Entry) × (r ≡ need B s lo hi) × (length B ≡ x) × (take (x + x) R ≡ numbers B)
-said-need x s lo hi (needs {B = B} l n) = (B, refl, l, n)
-
-pub said-done : {R : List ℕ} {r : Res} (n : ℕ) → Answers R (answer.Ok n) r → (B : List Entry) × (r ≡ ok B []) × (take (n + n) R ≡ numbers B) × (length B ≡ n)
-said-done n (matches {B = B} l k) = (B, refl, k, l)
-
-pub numbers-double : (B : List Entry) → length (numbers B) ≡ length B + length B
-numbers-double [] = refl
-numbers-double (e ∷ B) = omega (arith, numbers-double B)
+use Rattle.search.proofs.Going.{few, Walked, is-fixed, Leveled, try-kind, try-answered}
 
 pub tree-small : {L S : List ℕ} {T : Term} → GoodTree L S T → size T ≤ 2048
 unfolding rows
@@ -66,12 +51,7 @@ module _ (L S M name first : List ℕ) (null : List Bool) (cont : List ℕ) (end
     total = fill budget room width 0 0 before (rest (Walked (a .search)) (count Q) vals₀ N₀ F₀ start)
 
     fixed : Fixed (Walked (a .search)) (count Q) (size T) width room before
-    fixed =
-        record {
-          is-tame = subst (λ (n : ℕ). Tame (Walked (a .search)) (count Q) (size T) n) (sym (a .wide)) (is-tame (Allowed cs) (allowed? cs) (a .search .pattern .numbered) T);
-          small = omega (arith, few Q, a .search .judging .few);
-          fits = a .fits;
-        }
+    fixed = is-fixed (a .search) (a .wide) (a .fits)
 
     -- the loop goes on from here: events es are left
     abbrev Stand : List ℕ → List events.Event → List ℕ → List ℕ → List ℕ → ℕ → ℕ → ℕ → Type 0
@@ -206,13 +186,13 @@ module _ (L S M name first : List ℕ) (null : List Bool) (cont : List ℕ) (end
           nexts-long = t .nexts-long;
           lefts-long = t .lefts-long;
           charged = t .charged;
-          each = λ a. let h = t .each a in (h .0, at-fail (fixed a) (h .1) (ap outcome (said-fail (rw e at (h .2)))), h .3);
+          each = λ a. let h = t .each a in (h .0, at-fail (fixed a) (h .1) (ap outcome (failed (rw e at (h .2)))), h .3);
         }
 
     module _ {x s lo hi : ℕ} (e : o ≡ answer.Need x s lo hi) where
       need-said : {T : Term} {P : Pattern} {Q : List Kind} {es : List Expression} {cs : List Constraint} {vals₀ : List ℕ} (a : Asked T P Q es cs vals₀)
           → (B : List Entry) × (walk (Allowed cs) (allowed? cs) P T (take depth (t .each a .0)) ≡ need B s lo hi) × (length B ≡ x) × (take (x + x) R ≡ numbers B)
-      need-said a = said-need x s lo hi (rw e at (t .each a .2))
+      need-said a = needed (rw e at (t .each a .2))
 
       need-small : {T : Term} {P : Pattern} {Q : List Kind} {es : List Expression} {cs : List Constraint} {vals₀ : List ℕ} (a : Asked T P Q es cs vals₀) → (lo ≤ hi) × (hi < 2048) × (depth < count Q)
       need-small {T} {cs = cs} a =
@@ -248,10 +228,7 @@ module _ (L S M name first : List ℕ) (null : List Bool) (cont : List ℕ) (end
     module _ {n : ℕ} (e : o ≡ answer.Ok n) where
       done-said : {T : Term} {P : Pattern} {Q : List Kind} {es : List Expression} {cs : List Constraint} {vals₀ : List ℕ} (a : Asked T P Q es cs vals₀)
           → (B : List Entry) × (walk (Allowed cs) (allowed? cs) P T (take depth (t .each a .0)) ≡ ok B []) × (take (length (numbers B)) R ≡ numbers B)
-      done-said a =
-          let d = said-done n (rw e at (t .each a .2)) in
-          let y : n + n ≡ length (numbers (d .0)) = omega (arith, d .3, numbers-double (d .0)) in
-          (d .0, d .1, rw y at (d .2))
+      done-said a = matched (rw e at (t .each a .2))
 
       pub tried-full : cnt ≡ room → Post (record { ending = 1; records = cnt; tries = tries }) out
       tried-full f = record { all = λ T P Q es cs vals a. let d = done-said a in no-room (fixed a) (t .each a .1) (numbers (d .0)) (ap outcome (d .1)) f }

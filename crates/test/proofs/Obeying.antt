@@ -1,6 +1,6 @@
 -- The turns of the loop that judges one variable after another.
 use Prim.Native.Nat.{ℕ, suc, _+_, _<_, _≤_}
-use mathlib.Core.Path.{_≡_, refl, sym, _∙_}
+use mathlib.Core.Path.{_≡_}
 use mathlib.Core.Bool.{Bool, true, false}
 use mathlib.Core.List.{List}
 use lib.ListN.{length, getD}
@@ -13,7 +13,7 @@ use Rattle.meaning.specs.Read.{valueAt}
 use Rattle.meaning.specs.GoodRecord.{GoodRecord}
 use Rattle.meaning.proofs.Answers.{says-yes, says-no, said-no}
 use Rattle.meaning.proofs.Lists.{look-some}
-use Rattle.record.proofs.Each.{Each, good-each, good-long}
+use Rattle.record.proofs.Each.{good-each, good-long}
 use Rattle.expression.specs.Expression.{Expression}
 use Rattle.expression.specs.Good.{GoodTable}
 use Rattle.letters.specs.State.{TablesOf}

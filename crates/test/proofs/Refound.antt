@@ -1,9 +1,9 @@
 -- The walk with a record's own choices finds the record again exactly where it is that of a substitution.
-use Prim.Native.Nat.{ℕ, _+_, _*_, _≤_}
+use Prim.Native.Nat.{ℕ, _+_, _≤_}
 use mathlib.Core.Path.{_≡_, refl, ap, _∙_, sym, subst}
 use mathlib.Core.Bool.{Bool, false}
-use mathlib.Core.List.{List, [], _∷_}
-use lib.ListN.{length, getD, take}
+use mathlib.Core.List.{List, []}
+use lib.ListN.{length, take}
 use lib.Seq.{take-all}
 use native.Mathlib.Omega.{arith}
 use Rattle.meaning.specs.Says.{Says}
@@ -15,30 +15,17 @@ use Rattle.meaning.specs.Matcher.{IsRecord}
 use Rattle.meaning.proofs.Walk.{Res, fail, need, ok}
 use Rattle.meaning.proofs.Walk as meant
 use Rattle.meaning.proofs.Next.{Any, any?}
-use Rattle.meaning.proofs.Tame.{tame-ok}
+use Rattle.meaning.proofs.Tame.{numbers-double, tame-ok}
 use Rattle.meaning.proofs.Theorems.{test-yes, test-no}
 use Rattle.meaning.proofs.Answers.{says-no}
-use Rattle.tree.proofs.Unique.{good-lengths}
-use Rattle.pattern.proofs.Joint.{good-scan, lengths}
 use Rattle.record.proofs.Each.{good-long}
-use Rattle.walk.specs.Packed.{Packed, PackPre}
+use Rattle.walk.specs.Packed.{Packed}
 use Rattle.walk.specs.Walked.{given, Answers, fails, needs, matches, Problem, WalkPre, WalkPost}
 use Rattle.walk.specs.declared.Out.{Out}
 use Rattle.walk.specs.declared.Out.the-variants as out
 use Rattle.test.specs.Inside.{Copied, Walkable, WalkablePre, PlacedPost}
 
-numbers-double : (B : List Entry) → length (numbers B) ≡ length B + length B
-numbers-double [] = refl
-numbers-double (e ∷ B) = omega (arith, numbers-double B)
-
 module _ {L S K N Z list : List ℕ} where
-  -- the pattern's lists are of one length, of at most 256 rows, and the record is short
-  pub pack-asked : {variables : ℕ} {M : List ℕ} → WalkablePre L S K N Z variables list → length M ≡ 768 → PackPre K N Z M
-  pack-asked p m =
-      let g = p .some .3 .pattern in
-      let l = lengths (good-scan g) in
-      record { names = l .0; sizes = l .1; room = omega (arith, g .few) }
-
   pub list-short : {variables : ℕ} → WalkablePre L S K N Z variables list → length list ≤ 32
   list-short p =
       let w = p .some .3 in

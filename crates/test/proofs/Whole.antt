@@ -1,20 +1,18 @@
 -- The test, whole: a record of a substitution that turns the pattern into the tree, and whose values obey, is one of a matcher.
-use Prim.Native.Nat.{ℕ, zero, suc, _+_, _<_, _≤_}
+use Prim.Native.Nat.{ℕ, _+_, _<_}
 use mathlib.Core.Path.{_≡_, refl, ap, _∙_, sym}
 use mathlib.Core.Logic.{inl, inr}
 use mathlib.Core.Bool.{Bool, true, false}
-use mathlib.Core.List.{List, [], _∷_}
+use mathlib.Core.List.{List}
 use lib.ListN.{length, getD}
 use native.Mathlib.Omega.{arith}
 use Rattle.meaning.specs.Says.{Says}
-use Rattle.meaning.specs.Forest.{Forest, none, Term, _◂_}
-use Rattle.meaning.specs.Pattern.{Pattern, Kind, Look, old, look, Numbered}
-use Rattle.meaning.specs.Value.{Value, kinds}
-use Rattle.meaning.specs.Solves.{Solves}
+use Rattle.meaning.specs.Forest.{none, Term, _◂_}
+use Rattle.meaning.specs.Pattern.{Pattern, Kind, old, look, Numbered}
+use Rattle.meaning.specs.Value.{Value}
 use Rattle.meaning.specs.Read.{valueAt, readOff}
 use Rattle.meaning.specs.GoodRecord.{GoodRecord}
 use Rattle.meaning.specs.Matcher.{IsRecord}
-use Rattle.meaning.specs.Lowest.{accept}
 use Rattle.meaning.proofs.Lists.{look-old, look-some}
 use Rattle.meaning.proofs.Steps.{kinds-length}
 use Rattle.meaning.proofs.Next.{Any, any?}
@@ -22,8 +20,8 @@ use Rattle.meaning.proofs.Round.{round}
 use Rattle.meaning.proofs.Answers.{says-yes, says-no, said-no}
 use Rattle.tree.specs.Good.{GoodTree}
 use Rattle.pattern.specs.Good.{GoodPattern}
-use Rattle.pattern.specs.Known.{KindsAre}
 use Rattle.record.specs.Pairs.{RecordPre, RecordPost}
+use Rattle.record.proofs.Each.{read-look}
 use Rattle.record.proofs.Whole.{tree-at}
 use Rattle.expression.specs.Expression.{Expression}
 use Rattle.constraint.specs.Obeys.{Constraint, Allowed}
@@ -31,23 +29,10 @@ use Rattle.constraint.proofs.Allowed.{allowed?}
 use Rattle.problem.specs.Problem.{Lists, Poses, Codes}
 use Rattle.problem.specs.Answer.{Answered}
 use Rattle.problem.specs.declared.Problem.{Problem}
-use Rattle.problem.proofs.Posed.{Posed, posed, codes-low, codes-high}
+use Rattle.problem.proofs.Posed.{codes-low, codes-high, the, known}
 use Rattle.test.specs.Tested.{Fifteen, Settled}
 use Rattle.test.specs.Inside.{Walkable, WalkablePre, PlacedPost, Constrained, ConstrainedPre, AllObey, ObeyedPost}
-use Rattle.test.specs.declared.Tested.{Tested}
 use Rattle.test.specs.declared.Tested.the-variants.{Refused, Yes, No}
-
--- the values that a record means, one by one
-read-look : (Q : List Kind) (R : Forest) (list : List ℕ) (x : ℕ) (k : Kind) → GoodRecord Q R list → look Q x ≡ old k
-    → look (readOff Q R list) x ≡ old (valueAt k R (getD list (x + x) 0) (getD list (x + x + 1) 0))
-read-look [] R list x k g e = absurd (omega (arith, look-old [] x k e))
-read-look (j ∷ Q) R [] x k g e = absurd g
-read-look (j ∷ Q) R (a ∷ []) x k g e = absurd g
-read-look (j ∷ Q) R (a ∷ b ∷ list) zero k g e = let z : j ≡ k = cc in rw z
-read-look (j ∷ Q) R (a ∷ b ∷ list) (suc x) k g e =
-    let p : suc x + suc x ≡ suc (suc (x + x)) = omega arith in
-    let q : suc (suc (x + x)) + 1 ≡ suc (suc (x + x + 1)) = omega arith in
-    rw (p, q) (read-look Q R list x k (g .1) e)
 
 module _ {P : Pattern} {Q : List Kind} {T : Term} {list : List ℕ} (n : Numbered P Q) (good : GoodRecord Q (T ◂ none) list) where
   -- the value of each variable of a matcher is what its numbers mean
@@ -85,23 +70,17 @@ module _ (l : Lists) {r : Problem} (a : Answered l r) where
       }
 
   module _ (z : r .code ≡ 0) where
-    the : Posed l
-    the = posed l accept (r .code) z (a .code)
-
-    known : {P : Pattern} {Q : List Kind} → GoodPattern (l .kind) (l .name) (l .patternSize) P Q → KindsAre Q (r .variables) (r .kinds)
-    known {P} {Q} g = let f = a .found z P Q g in record { many = f .0; few = g .bounded; are = f .1 }
-
     pub record-asked : RecordPre (l .size) (r .kinds) (r .variables)
-    record-asked = record { rows = record { some = (l .label, _, tree-at (the .poses .tree)) }; kinded = (the .Q, known (the .poses .rest .pattern)) }
+    record-asked = record { rows = record { some = (l .label, _, tree-at (the a z .poses .tree)) }; kinded = (the a z .Q, known a z (the a z .poses .rest .pattern)) }
 
     module _ (list : List ℕ) {b : Bool} (post : RecordPost (l .size) (r .kinds) (r .variables) list b) where
       fits-for : {T : Term} {P : Pattern} {Q : List Kind} → GoodTree (l .label) (l .size) T → GoodPattern (l .kind) (l .name) (l .patternSize) P Q → Says b (GoodRecord Q (T ◂ none) list)
-      fits-for {Q = Q} t p = post .is (l .label) _ Q (tree-at t) (known p)
+      fits-for {Q = Q} t p = post .is (l .label) _ Q (tree-at t) (known a z p)
 
       pub test-bad-record : b ≡ false → Settled l list (Refused 15)
       test-bad-record e =
           record {
-            code = codes-high l (Fifteen l list) 15 the (inl (λ g. said-no (fits-for (g .3) (g .4)) e (g .5), refl));
+            code = codes-high l (Fifteen l list) 15 (the a z) (inl (λ g. said-no (fits-for (g .3) (g .4)) e (g .5), refl));
             yes-or-no = λ h. absurd (omega arith);
             numbered = λ h. let y : _≡_ {A = ℕ} 15 0 = cc in omega arith;
           }
@@ -112,20 +91,20 @@ module _ (l : Lists) {r : Problem} (a : Answered l r) where
 
         accepted : Codes l (Fifteen l list) 0
         accepted =
-            let w = the .poses in
-            codes-high l (Fifteen l list) 0 the (inr ((the .T, the .P, the .Q, w .tree, w .rest .pattern, walkable w .good), refl))
+            let w = the a z .poses in
+            codes-high l (Fifteen l list) 0 (the a z) (inr ((the a z .T, the a z .P, the a z .Q, w .tree, w .rest .pattern, walkable w .good), refl))
 
         pub placed-asked : WalkablePre (l .label) (l .size) (l .kind) (l .name) (l .patternSize) (r .variables) list
-        placed-asked = record { some = (the .T, the .P, the .Q, walkable (the .poses), known (the .poses .rest .pattern) .many) }
+        placed-asked = record { some = (the a z .T, the a z .P, the a z .Q, walkable (the a z .poses), known a z (the a z .poses .rest .pattern) .many) }
 
         constrained : {T : Term} {P : Pattern} {Q : List Kind} {es : List Expression} {cs : List Constraint} → Poses l T P Q es cs
             → Constrained (l .label) (l .size) (l .expressionKind) (l .expressionName) (l .expressionSize) (l .constraint) (r .kinds) list T Q es cs
         constrained w =
-            let k = known (w .rest .pattern) in
+            let k = known a z (w .rest .pattern) in
             record { tree = w .tree; few = k .few; known = k .are; table = w .rest .table; given = w .rest .constraints; good = walkable w .good }
 
         pub obeyed-asked : ConstrainedPre (l .label) (l .size) (l .expressionKind) (l .expressionName) (l .expressionSize) (l .constraint) (r .kinds) (r .variables) list
-        obeyed-asked = record { some = (the .T, the .Q, the .es, the .cs, constrained (the .poses), known (the .poses .rest .pattern) .many) }
+        obeyed-asked = record { some = (the a z .T, the a z .Q, the a z .es, the a z .cs, constrained (the a z .poses), known a z (the a z .poses .rest .pattern) .many) }
 
         module _ {p : Bool} (placed : PlacedPost (l .label) (l .size) (l .kind) (l .name) (l .patternSize) list p) where
           pub test-elsewhere : p ≡ false → Settled l list No

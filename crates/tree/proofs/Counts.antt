@@ -1,11 +1,11 @@
 -- The loops that count terms and pass them.
-use Prim.Native.Nat.{ℕ, zero, suc, _+_, _<_, _≤_, _-_}
+use Prim.Native.Nat.{ℕ, zero, suc, _+_, _<_, _≤_}
 use mathlib.Core.Path.{_≡_, ap, sym}
 use mathlib.Core.List.{List}
 use lib.ListN.{length, getD}
 use native.Mathlib.Omega.{arith}
 use native.Mathlib.Numerals.{add-one}
-use Rattle.meaning.specs.Forest.{Forest, some, terms, _⊕_}
+use Rattle.meaning.specs.Forest.{Forest, terms, _⊕_}
 use Rattle.meaning.specs.Read.{takeT}
 use Rattle.meaning.proofs.Laws.{dropT, take-drop, terms-take, take-of, drop-of, terms-of}
 use Rattle.tree.specs.Places.{TermsAt, stop, step, TermAt, Next}

@@ -1,6 +1,6 @@
 -- The term at a row with what stands to its right, and the context around it, stand at their places.
 use Prim.Native.Nat.{ℕ, zero, suc, _+_, _<_, _≤_, _-_}
-use mathlib.Core.Path.{_≡_, refl, _∙_, sym}
+use mathlib.Core.Path.{_≡_, _∙_, sym}
 use mathlib.Core.Logic.{_≢_}
 use mathlib.Core.List.{List}
 use lib.ListN.{getD}

@@ -1,24 +1,27 @@
 -- The loops that go down to a row: to the child that holds it, and to the list in which it stands.
-use Prim.Native.Nat.{ℕ, suc, _+_, _<_, _≤_, _-_}
-use mathlib.Core.Path.{_≡_, ap, _∙_, sym, subst}
+use Prim.Native.Nat.{ℕ, suc, _+_, _<_, _≤_}
+use mathlib.Core.Path.{_≡_, refl, ap, _∙_, sym, subst}
 use mathlib.Core.Logic.{_≢_}
 use mathlib.Core.List.{List}
 use lib.ListN.{length, getD}
 use native.Mathlib.Omega.{arith}
 use native.Mathlib.Decide.{decLt}
-use Rattle.meaning.specs.Forest.{Forest, none, some, Term, _◂_, rows, Context, node}
+use Rattle.meaning.specs.Forest.{Forest, rows, Context, hole, node}
 use Rattle.meaning.specs.Read.{fromRow}
 use Rattle.meaning.proofs.From.{from-zero}
-use Rattle.tree.specs.Good.{GoodTree}
 use Rattle.tree.specs.Places.{TermsAt, Next, Level, ContextAt, at-hole, at-node}
 use Rattle.tree.specs.Helpers.{ChildPre, ChildPost, ListPre, ListPost}
 use Rattle.tree.proofs.Terms.{terms-le, term-next, term-size, first-at}
-use Rattle.tree.proofs.Unique.{good-at, good-lengths}
 use Rattle.tree.proofs.Cuts.{from-inside, from-behind}
 
 pub context-le : {L S : List ℕ} {a b : ℕ} {c : Context} → ContextAt L S a b c → a ≤ b
 context-le (at-hole n h) = omega arith
 context-le (at-node x p q k) = omega (arith, terms-le (x .before))
+
+-- the hole at the context's own row: the bare hole
+pub hole-here : {L S : List ℕ} {a b : ℕ} {c : Context} → ContextAt L S a b c → a ≡ b → c ≡ hole
+hole-here (at-hole n e) h = refl
+hole-here (at-node x p q k) h = absurd (omega (arith, terms-le (x .before)))
 
 pub a-node : {L S : List ℕ} {a b : ℕ} {c : Context} → ContextAt L S a b c → a ≢ b → (l : ℕ) × (left : Forest) × (d : Context) × (right : Forest) × ContextAt L S a b (node l left d right)
 a-node (at-hole n e) f = absurd (f e)
@@ -160,12 +163,3 @@ module _ {S : List ℕ} {row u e : ℕ} (down : Down S row u e) where
                 λ d q. w .2 (suc (rows (x .args) + d)) (omega arith) ∙ ap (λ (g : Forest). fromRow g (suc (rows (x .args) + d))) (x .is) ∙ from-behind (x .label) (x .args) (x .rest) d,
               );
         }
-
--- of a good tree
-pub good-list-pre : {L S : List ℕ} {T : Term} {row : ℕ} → GoodTree L S T → row < length L → ListPre S row
-good-list-pre {L} {S} {T} good h =
-    let e = good-lengths good .1 in
-    record { inside = omega arith; some = (L, T ◂ none, rw e (good-at good)) }
-
-pub good-list : {L S : List ℕ} {T : Term} {row r : ℕ} → GoodTree L S T → ListPost S row r → TermsAt L S row r (fromRow (T ◂ none) row)
-good-list {L} {S} {T} good post = post .is L (T ◂ none) (rw (good-lengths good .1) (good-at good))

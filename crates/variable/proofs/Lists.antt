@@ -1,6 +1,6 @@
 -- Laws of lists: entries and their numbers, and two lists that agree from a place on.
-use Prim.Native.Nat.{ℕ, zero, suc, _+_, _-_, _<_, _≤_}
-use mathlib.Core.Path.{_≡_, refl, ap, ap₂, _∙_, sym}
+use Prim.Native.Nat.{ℕ, zero, suc, _+_, _<_, _≤_}
+use mathlib.Core.Path.{_≡_, refl, ap₂, _∙_, sym}
 use mathlib.Core.List.{List, [], _∷_, _++_}
 use lib.ListN.{length, getD, take, drop, length-take, length-drop, drop-of-length-le, List·getD-eq-default}
 use lib.Seq.{ext-getD, getD-take, getD-drop, drop-cons}
@@ -14,11 +14,6 @@ use Rattle.meaning.specs.Order.{choices}
 use Rattle.meaning.proofs.Lists.{look-old}
 
 module _ {A : Type 0} where
-  pub look-some : (l : List A) (x : ℕ) → x < length l → (a : A) × (look l x ≡ old a)
-  look-some [] x h = absurd (omega arith)
-  look-some (a ∷ l) zero h = (a, refl)
-  look-some (a ∷ l) (suc x) h = look-some l x (omega arith)
-
   pub look-take : (m : ℕ) (l : List A) (x : ℕ) (a : A) → look l x ≡ old a → x < m → look (take m l) x ≡ old a
   look-take zero l x a h f = absurd (omega arith)
   look-take (suc m) [] x a h f = h
@@ -36,10 +31,6 @@ kinds-look (w ∷ l) zero v h = let z : w ≡ v = cc in rw z
 kinds-look (w ∷ l) (suc x) v h = kinds-look l x v h
 
 -- entries
-pub values-length : (B : List Entry) → length (values B) ≡ length B
-values-length [] = refl
-values-length (e ∷ B) = ap suc (values-length B)
-
 pub values-look : (B : List Entry) (x : ℕ) (v : Value) → look (values B) x ≡ old v → (e : Entry) × (look B x ≡ old e) × (e .value ≡ v)
 values-look [] x v h = absurd (omega (arith, look-old [] x v h))
 values-look (e ∷ B) zero v h = (e, refl, cc)

@@ -1,5 +1,5 @@
 -- The state of a walk: what it says of a variable that has appeared, and how one more is bound.
-use Prim.Native.Nat.{ℕ, suc, _+_, _-_, _<_, _≤_}
+use Prim.Native.Nat.{ℕ, suc, _+_, _<_, _≤_}
 use mathlib.Core.Path.{_≡_, refl, ap, _∙_, sym, subst}
 use mathlib.Core.Logic.{_≢_}
 use mathlib.Core.List.{List, [], _∷_, _++_, append-assoc}
@@ -11,11 +11,11 @@ use Rattle.meaning.specs.Pattern.{Kind, old, new, look, Comes, after}
 use Rattle.meaning.specs.Value.{Value, kind}
 use Rattle.meaning.specs.Record.{Entry, entry, values, second, numbers}
 use Rattle.meaning.specs.Order.{choices}
-use Rattle.meaning.proofs.Lists.{look-old, look-end, pre-look, all-more}
-use Rattle.meaning.proofs.Steps.{fresh, stands-inv, note-new}
+use Rattle.meaning.proofs.Lists.{look-old, look-some, look-end, pre-look, all-more}
+use Rattle.meaning.proofs.Steps.{values-length, fresh, stands-inv, note-new}
 use Rattle.meaning.proofs.Next.{Any}
 use Rattle.variable.specs.State.{ValueAt, State, Written, row-of, zero-of-individual, zero-of-function, Kept}
-use Rattle.variable.proofs.Lists.{look-some, kinds-look, values-length, values-look, numbers-more, numbers-at, same-before, same-behind, none-left, next-left}
+use Rattle.variable.proofs.Lists.{kinds-look, values-look, numbers-more, numbers-at, same-before, same-behind, none-left, next-left}
 
 -- what a walk writes later, a walk writes
 written-more : {Q : List Kind} {n m i : ℕ} → n ≤ m → Written Q m i → Written Q n i

@@ -3,5 +3,4 @@ pub mod Views
 pub mod Terms
 pub mod Arguments
 pub mod Roots
-pub mod Given
 pub mod Answered

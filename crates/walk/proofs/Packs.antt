@@ -1,5 +1,5 @@
 -- The loop that packs the pattern's three lists into one.
-use Prim.Native.Nat.{ℕ, _+_, _*_, _-_, _<_, _≤_}
+use Prim.Native.Nat.{ℕ, _+_, _*_, _<_, _≤_}
 use mathlib.Core.Path.{_≡_, refl, _∙_}
 use mathlib.Core.Logic.{_≢_}
 use mathlib.Core.List.{List}
@@ -7,7 +7,16 @@ use lib.ListN.{length, getD, set, length-set}
 use lib.Seq.{getD-set-same, getD-set-other}
 use native.Mathlib.Omega.{arith}
 use native.Mathlib.Decide.{decLt}
+use Rattle.meaning.specs.Pattern.{Pattern, Kind}
+use Rattle.pattern.specs.Good.{GoodPattern}
+use Rattle.pattern.proofs.Joint.{good-scan, lengths}
 use Rattle.walk.specs.Packed.{Packed, PackPre}
+
+-- a good pattern may be packed
+pub pack-asked : {K N Z M : List ℕ} {P : Pattern} {Q : List Kind} → GoodPattern K N Z P Q → length M ≡ 768 → PackPre K N Z M
+pack-asked g m =
+    let l = lengths (good-scan g) in
+    record { names = l .0; sizes = l .1; room = omega (arith, g .few) }
 
 -- the first rows are packed
 pub record Packing (K N Z M₀ M : List ℕ) (row : ℕ) : Type 0 where

@@ -1,5 +1,5 @@
 -- Laws of the term walk.
-use Prim.Native.Nat.{ℕ, suc, _+_, _*_, _-_, _<_, _≤_}
+use Prim.Native.Nat.{ℕ, suc, _+_, _*_, _<_, _≤_}
 use mathlib.Core.Path.{_≡_, refl, _∙_, sym, subst}
 use mathlib.Core.Logic.{_≢_}
 use mathlib.Core.List.{List}
@@ -8,7 +8,7 @@ use native.Mathlib.Omega.{arith}
 use native.Mathlib.Decide.{ℕ-discrete}
 use Rattle.meaning.specs.Forest.{Term}
 use Rattle.meaning.specs.Read.{cut}
-use Rattle.meaning.specs.Pattern.{Pattern, symbol, individual, function, context, Patterns, Kind, anIndividual, aFunction, aContext, Comes, after, afterT, afterF, GoodT, GoodF}
+use Rattle.meaning.specs.Pattern.{Pattern, individual, context, Patterns, Kind, anIndividual, aFunction, aContext, Comes, after, afterT, afterF, GoodT, GoodF}
 use Rattle.meaning.specs.Value.{ofFunction}
 use Rattle.meaning.specs.Record.{Entry}
 use Rattle.meaning.proofs.Walk.{Res, ok, when, andThen, meet, walkT, walkF}

@@ -5,11 +5,6 @@ use Rattle.lister.proofs.Begun.{first-asked, walked-long, begun-fail, b
 use borrow.Author.Needs.{needs}
 use Rattle.lister.proofs.begin.Statement.{statement}
 use Rattle.lister.proofs.begin.Tie as tie
-use Rattle.lister.proofs.begin.Reads as reads
-use Rattle.lister.proofs.begin.Lts as lts
-use Rattle.search.proofs.go.Reads as go-reads
-use Rattle.search.proofs.put.Reads as put-reads
-use Rattle.walk.proofs.walk.Reads as walk-reads
 
 slice-aggregate-walk : tie.Need-slice-aggregate-walk
 slice-aggregate-walk c = search needs

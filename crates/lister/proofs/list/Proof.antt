@@ -1,17 +1,12 @@
 use native.Mathlib.Omega.{arith}
 use mathlib.Core.Path.{refl}
 use mathlib.Core.List.{[]}
-use Rattle.lister.proofs.Whole.{list-refused, tables-asked, pack-asked, few-variables, begin-asked, list-done}
+use Rattle.problem.proofs.Posed.{the}
+use Rattle.walk.proofs.Packs.{pack-asked}
+use Rattle.lister.proofs.Whole.{list-refused, tables-asked, few-variables, begin-asked, list-done}
 use borrow.Author.Needs.{needs}
 use Rattle.lister.proofs.list.Statement.{statement}
 use Rattle.lister.proofs.list.Tie as tie
-use Rattle.lister.proofs.list.Reads as reads
-use Rattle.lister.proofs.list.Lts as lts
-use Rattle.letters.proofs.tables_of.Reads as tables-of-reads
-use Rattle.lister.proofs.begin.Reads as begin-reads
-use Rattle.lister.proofs.room_for.Reads as room-for-reads
-use Rattle.problem.proofs.check.Reads as check-reads
-use Rattle.walk.proofs.pack.Reads as pack-reads
 
 check-requires : tie.Need-check-requires
 check-requires c κs = search needs
@@ -26,7 +21,7 @@ slice-aggregate-pack : tie.Need-slice-aggregate-pack
 slice-aggregate-pack c = search needs
 
 pack-requires : tie.Need-pack-requires
-pack-requires c κs = pack-asked _ (c .before .before .before .before .before .before .before .before .before .check .ensures) 0 [] (c .before .before .before .before .before .before .before .before .if1 .left) refl
+pack-requires c κs = pack-asked (the (c .before .before .before .before .before .before .before .before .before .check .ensures) (c .before .before .before .before .before .before .before .before .if1 .left) .poses .rest .pattern) refl
 
 add-width : tie.Need-add-width
 add-width c = omega (arith, few-variables _ (c .before .before .before .before .before .before .before .before .before .before .before .check .ensures) 0 [] (c .before .before .before .before .before .before .before .before .before .before .if1 .left))

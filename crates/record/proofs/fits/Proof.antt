@@ -3,13 +3,8 @@ use native.Mathlib.Omega.{arith}
 use borrow.Author.Tests.{not-true, not-false}
 use mathlib.Core.Path.{refl}
 use Rattle.record.proofs.Each.{Passed, read-pair, wrong-length, passed-none, kinds-long, passed-bad, passed-more, passed-all}
-use borrow.Author.Needs.{needs}
 use Rattle.record.proofs.fits.Statement.{statement}
 use Rattle.record.proofs.fits.Tie as tie
-use Rattle.record.proofs.fits.Reads as reads
-use Rattle.record.proofs.fits.Lts as lts
-use Rattle.record.proofs.pair_fits.Reads as pair-fits-reads
-use Rattle.tree.proofs.at.Reads as at-reads
 
 abbrev Inv-loop : tie.InvT-loop
 Inv-loop size kinds variables «record» x₀ x = Passed size kinds variables «record» x

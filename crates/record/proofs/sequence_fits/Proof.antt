@@ -1,4 +1,3 @@
-use borrow.Author.Needs.{needs}
 use native.Mathlib.Omega.{arith}
 use Rattle.record.proofs.Judged.{sequence-out, sequence-end, sequence-in}
 use Rattle.record.proofs.sequence_fits.Statement.{statement}

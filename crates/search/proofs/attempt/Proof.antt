@@ -1,13 +1,8 @@
 use native.Mathlib.Omega.{arith}
 use borrow.Author.Tests.{not-true, not-false}
 use Rattle.search.proofs.Tried.{try-judged, try-within, try-fails, try-asked, try-walked}
-use borrow.Author.Needs.{needs}
 use Rattle.search.proofs.attempt.Statement.{statement}
 use Rattle.search.proofs.attempt.Tie as tie
-use Rattle.search.proofs.attempt.Reads as reads
-use Rattle.search.proofs.attempt.Lts as lts
-use Rattle.memory.proofs.judge.Reads as judge-reads
-use Rattle.walk.proofs.walk.Reads as walk-reads
 
 judge-requires : tie.Need-judge-requires
 judge-requires c κs = record { asked = try-judged (c .before .before .before .before .before .pre .0); remembers = c .before .before .before .before .before .pre .1 }

@@ -1,17 +1,11 @@
-use mathlib.Core.Path.{_≡_, refl, sym, ap, _∙_, subst}
-use mathlib.Core.Logic.{⊎-elim}
-use mathlib.Core.List.{List, [], _∷_, _++_}
-use Prim.Native.Nat.{ℕ, _≤_, _<_, _-_, _+_, _*_, zero-le}
+use mathlib.Core.Path.{_≡_}
+use Prim.Native.Nat.{ℕ, _≤_, _<_, _-_, zero-le}
 use native.Mathlib.Omega.{arith}
-use native.Mathlib.Numerals.{add-one}
 use borrow.Author.Needs.{needs}
-use borrow.Author.Tests.{eq-eqb, ne-eqb, le-leb, lt-leb}
-use lib.ListN.{length, getD, take, drop, set, length-set}
+use lib.ListN.{getD}
 use native.Mathlib.Decide.{decLe}
 use Rattle.search.proofs.back.Statement.{statement}
 use Rattle.search.proofs.back.Tie as tie
-use Rattle.search.proofs.back.Reads as reads
-use Rattle.search.proofs.back.Lts as lts
 
 pos-of-ne : {n : ℕ} → (n ≡ 0 → ⊥) → 0 < n
 pos-of-ne h = omega arith

@@ -7,11 +7,6 @@ use Rattle.memory.proofs.Numbers.{blank}
 use borrow.Author.Needs.{needs}
 use Rattle.search.proofs.go.Statement.{statement}
 use Rattle.search.proofs.go.Tie as tie
-use Rattle.search.proofs.go.Reads as reads
-use Rattle.search.proofs.go.Lts as lts
-use Rattle.search.proofs.attempt.Reads as attempt-reads
-use Rattle.search.proofs.back.Reads as back-reads
-use Rattle.search.proofs.put.Reads as put-reads
 
 abbrev Inv-loop : tie.InvT-loop
 Inv-loop label size pattern name first null cont ends constraint kinds budget room width start out₀ record₀ variables₀ starts₀ nexts₀ lefts₀ memory₀ depth₀ count₀ tries₀ out «record» variables starts nexts lefts memory depth count tries =

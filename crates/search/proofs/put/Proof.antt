@@ -1,17 +1,12 @@
-use mathlib.Core.Path.{_≡_, refl, sym, ap, _∙_, subst}
-use mathlib.Core.Logic.{⊎-elim}
-use mathlib.Core.List.{List, [], _∷_, _++_}
-use Prim.Native.Nat.{ℕ, _≤_, _<_, _-_, _+_, _*_, zero-le}
+use mathlib.Core.Path.{_≡_, refl}
+use Prim.Native.Nat.{_≤_, _-_, zero-le}
 use native.Mathlib.Omega.{arith}
 use native.Mathlib.Numerals.{add-one}
 use borrow.Author.Needs.{needs}
-use borrow.Author.Tests.{eq-eqb, ne-eqb, le-leb, lt-leb}
-use lib.ListN.{length, getD, take, drop, set, length-set}
+use lib.ListN.{length, length-set}
 use lib.Seq.{paste, paste-zero, paste-suc}
 use Rattle.search.proofs.put.Statement.{statement}
 use Rattle.search.proofs.put.Tie as tie
-use Rattle.search.proofs.put.Reads as reads
-use Rattle.search.proofs.put.Lts as lts
 
 abbrev Inv-loop : tie.InvT-loop
 Inv-loop out₀ at rec n j₀ out j = (out ≡ paste out₀ at rec j) × (j ≤ n) × (length out ≡ length out₀)

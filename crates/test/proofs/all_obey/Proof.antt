@@ -2,13 +2,8 @@ use Prim.Native.Nat.{_-_}
 use native.Mathlib.Omega.{arith}
 use borrow.Author.Tests.{not-true, not-false}
 use Rattle.test.proofs.Obeying.{Obeying, obeying-none, list-long, judge-asked, obeying-not, obeying-more, obeying-all}
-use borrow.Author.Needs.{needs}
 use Rattle.test.proofs.all_obey.Statement.{statement}
 use Rattle.test.proofs.all_obey.Tie as tie
-use Rattle.test.proofs.all_obey.Reads as reads
-use Rattle.test.proofs.all_obey.Lts as lts
-use Rattle.problem.proofs.judge.Reads as judge-reads
-use Rattle.tree.proofs.at.Reads as at-reads
 
 abbrev Inv-loop : tie.InvT-loop
 Inv-loop label size name first null cont ends constraint kinds variables «record» x₀ x = Obeying label size name first null cont ends constraint kinds variables «record» x

@@ -3,11 +3,8 @@ use native.Mathlib.Omega.{arith}
 use lib.ListN.{length}
 use mathlib.Core.Path.{refl}
 use Rattle.test.proofs.Same.{Same, same-none, same-set, same-all}
-use borrow.Author.Needs.{needs}
 use Rattle.test.proofs.copy.Statement.{statement}
 use Rattle.test.proofs.copy.Tie as tie
-use Rattle.test.proofs.copy.Reads as reads
-use Rattle.test.proofs.copy.Lts as lts
 
 abbrev Inv-loop : tie.InvT-loop
 Inv-loop list found₀ i₀ found i = Same list found i

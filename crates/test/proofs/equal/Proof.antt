@@ -3,11 +3,8 @@ use native.Mathlib.Omega.{arith}
 use lib.ListN.{length}
 use Rattle.meaning.proofs.Answers.{says-yes}
 use Rattle.test.proofs.Same.{Same, same-none, same-more, same-all, not-same}
-use borrow.Author.Needs.{needs}
 use Rattle.test.proofs.equal.Statement.{statement}
 use Rattle.test.proofs.equal.Tie as tie
-use Rattle.test.proofs.equal.Reads as reads
-use Rattle.test.proofs.equal.Lts as lts
 
 abbrev Inv-loop : tie.InvT-loop
 Inv-loop found list i₀ i = Same list found i

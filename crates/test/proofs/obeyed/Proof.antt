@@ -1,11 +1,6 @@
 use Rattle.test.proofs.Obeying.{all-asked, all-judged}
-use borrow.Author.Needs.{needs}
 use Rattle.test.proofs.obeyed.Statement.{statement}
 use Rattle.test.proofs.obeyed.Tie as tie
-use Rattle.test.proofs.obeyed.Reads as reads
-use Rattle.test.proofs.obeyed.Lts as lts
-use Rattle.letters.proofs.tables_of.Reads as tables-of-reads
-use Rattle.test.proofs.all_obey.Reads as all-obey-reads
 
 tables-of-requires : tie.Need-tables-of-requires
 tables-of-requires c κs = let h = c .before .before .before .before .before .before .before .pre .some in (h .2, h .4 .table)

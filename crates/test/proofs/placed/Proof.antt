@@ -1,20 +1,15 @@
 use mathlib.Core.Path.{refl}
-use Rattle.test.proofs.Refound.{pack-asked, list-short, walk-asked, placed-fail, placed-need, placed-ok, walked-long}
+use Rattle.walk.proofs.Packs.{pack-asked}
+use Rattle.test.proofs.Refound.{list-short, walk-asked, placed-fail, placed-need, placed-ok, walked-long}
 use borrow.Author.Needs.{needs}
 use Rattle.test.proofs.placed.Statement.{statement}
 use Rattle.test.proofs.placed.Tie as tie
-use Rattle.test.proofs.placed.Reads as reads
-use Rattle.test.proofs.placed.Lts as lts
-use Rattle.test.proofs.copy.Reads as copy-reads
-use Rattle.test.proofs.equal.Reads as equal-reads
-use Rattle.walk.proofs.pack.Reads as pack-reads
-use Rattle.walk.proofs.walk.Reads as walk-reads
 
 slice-aggregate-pack : tie.Need-slice-aggregate-pack
 slice-aggregate-pack c = search needs
 
 pack-requires : tie.Need-pack-requires
-pack-requires c κs = pack-asked (c .before .before .before .before .before .before .before .pre) refl
+pack-requires c κs = pack-asked (c .before .before .before .before .before .before .before .pre .some .3 .pattern) refl
 
 copy-requires : tie.Need-copy-requires
 copy-requires c κs = list-short (c .before .before .before .before .before .before .before .before .before .pre)

@@ -3,12 +3,6 @@ use Rattle.test.proofs.Whole.{test-refused, record-asked, test-bad-reco
 use borrow.Author.Needs.{needs}
 use Rattle.test.proofs.test.Statement.{statement}
 use Rattle.test.proofs.test.Tie as tie
-use Rattle.test.proofs.test.Reads as reads
-use Rattle.test.proofs.test.Lts as lts
-use Rattle.problem.proofs.check.Reads as check-reads
-use Rattle.record.proofs.fits.Reads as fits-reads
-use Rattle.test.proofs.obeyed.Reads as obeyed-reads
-use Rattle.test.proofs.placed.Reads as placed-reads
 
 check-requires : tie.Need-check-requires
 check-requires c κs = search needs

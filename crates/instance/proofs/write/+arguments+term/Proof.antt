@@ -1,10 +1,9 @@
 use Rattle.instance.proofs.Cycle.{individual-pre, individual-post, filling-pre, under-falls, under-pre, context-pre, context-post, below-pre, head-pre, head-post, end-post, sequence-pre, behind-pre, behind-post, first-pre, first-falls, rest-pre, rest-post}
 use Rattle.instance.proofs.Glue.{term-row, list-row}
 use native.Mathlib.Omega.{arith}
-use Prim.Native.Nat.{_+_, _*_, _-_}
+use Prim.Native.Nat.{ℕ, _+_, _*_, _-_, _<_}
 use lib.ListN.{getD}
 use mathlib.Core.Path.{_∙_}
-use Prim.Native.Nat.{ℕ, _<_}
 use borrow.Fn.Kinds.{In}
 use borrow.Fn.PlainCycle.{Measures, is, falls, and}
 use Rattle.instance.proofs.write.arguments.Reads as arguments

@@ -5,7 +5,7 @@ use lib.ListN.{length}
 use Rattle.grammar.specs.Rows.{rowsOf}
 use Rattle.judge.proofs.Machine.{there}
 use Rattle.rows.specs.Marks.{MayMark}
-use Rattle.rows.proofs.Marking.{Marking, begins, few-open, till, before, leaf-room, less-before, leaf-within, leaf-put, some-open, end-later, end-within, end-next, name-later, name-within, start-within, name-row, name-room, name-short, few-opens, start-next, finish}
+use Rattle.rows.proofs.Marking.{Marking, begins, few-open, till, leaf-room, less-before, leaf-within, leaf-put, some-open, end-later, end-within, end-next, name-later, name-within, start-within, name-row, name-room, name-short, few-opens, start-next, finish}
 use borrow.Author.Needs.{needs}
 use Rattle.rows.proofs.mark.mark.Statement.{statement}
 use Rattle.rows.proofs.mark.mark.Tie as tie
