@@ -1,55 +1,14 @@
 // What the site's server, written in C, calls: thin exports over the proved functions. `include/khargovsun.h` declares them in C.
-ghost use mathlib.Core.Path.{_≡_};
-ghost use Prim.Native.Nat.{_<_};
 ghost use Rattle.document.specs.Checked.{Checked};
 ghost use Rattle.document.specs.Reading.{Read};
 ghost use Rattle.dictionary.specs.Spelling.{PartAnswered};
 ghost use Rattle.instance.specs.Instance.{lists};
-ghost use Rattle.site.specs.Answers.{Lists, Tests, Makes};
-
-// A refusal of the reader has its code and, with code 3, the place; the four lists are then unchanged.
-#[repr(C)]
-pub struct Reading {
-    pub code: u32,
-    pub place: u32,
-    pub rows: u32,
-}
-
-#[repr(C)]
-pub struct Listing {
-    pub code: u32,
-    pub ending: u32,
-    pub records: u32,
-    pub tries: u32,
-}
-
-#[repr(C)]
-pub struct Testing {
-    pub code: u32,
-    pub yes: u32,
-}
-
-#[repr(C)]
-pub struct Making {
-    pub code: u32,
-    pub rows: u32,
-}
-
-// `length` bytes from `start` of the dictionary (source 0) or of the document (source 1).
-#[repr(C)]
-pub struct Part {
-    pub source: u32,
-    pub start: u32,
-    pub length: u32,
-}
-
-// A count as C has it.
-fn narrow(n: usize) -> u32
-    requires { ⌜ n < 4294967296 ⌝ }
-    ensures { λ r. ⌜ r ≡ n ⌝ }
-{
-    n as u32
-}
+ghost use Rattle.answer.specs.Answers.{Lists, Tests, Makes};
+use answer::Listing;
+use answer::Making;
+use answer::Part;
+use answer::Reading;
+use answer::Testing;
 
 #[no_mangle]
 pub extern "C" fn khargovsun_check(dictionary: &[u8], document: &[u8]) -> u64
@@ -103,7 +62,7 @@ pub extern "C" fn khargovsun_list(
       constraint = now (constraint .entry);
     }) budget (now (out .entry)) (r .code) (r .ending) (r .records) (r .tries) (now (out .exit)) ⌝ }
 {
-    let listed = lister::list(
+    answer::of_lister(lister::list(
         label,
         size,
         kind,
@@ -115,13 +74,7 @@ pub extern "C" fn khargovsun_list(
         constraint,
         budget,
         out,
-    );
-    Listing {
-        code: listed.code,
-        ending: listed.ending,
-        records: narrow(listed.records),
-        tries: listed.tries,
-    }
+    ))
 }
 
 #[no_mangle]
@@ -149,7 +102,7 @@ pub extern "C" fn khargovsun_test(
       constraint = now (constraint .entry);
     }) (now («record» .entry)) (r .code) (r .yes) ⌝ }
 {
-    match test::test(
+    answer::of_test(test::test(
         label,
         size,
         kind,
@@ -160,11 +113,7 @@ pub extern "C" fn khargovsun_test(
         expression_size,
         constraint,
         record,
-    ) {
-        test::Tested::Refused(code) => Testing { code: code, yes: 0 },
-        test::Tested::Yes => Testing { code: 0, yes: 1 },
-        test::Tested::No => Testing { code: 0, yes: 0 },
-    }
+    ))
 }
 
 #[no_mangle]
@@ -180,7 +129,7 @@ pub extern "C" fn khargovsun_instance(
 ) -> Making
     ensures { λ r. ⌜ Makes (lists (now (label .entry)) (now (size .entry)) (now (kind .entry)) (now (name .entry)) (now («pattern_size» .entry)) (now («record» .entry))) (now («out_label» .entry)) (now («out_size» .entry)) (r .code) (r .rows) (now («out_label» .exit)) (now («out_size» .exit)) ⌝ }
 {
-    match instance::instance(
+    answer::of_instance(instance::instance(
         label,
         size,
         kind,
@@ -189,16 +138,7 @@ pub extern "C" fn khargovsun_instance(
         record,
         out_label,
         out_size,
-    ) {
-        instance::Made::Refused(code) => Making {
-            code: code,
-            rows: 0,
-        },
-        instance::Made::Rows(rows) => Making {
-            code: 0,
-            rows: narrow(rows),
-        },
-    }
+    ))
 }
 
 #[no_mangle]

@@ -10,7 +10,7 @@ use Rattle.test.specs.declared.Tested.{Tested}
 use Rattle.test.proofs.Unique.{one-tested}
 use Rattle.instance.specs.Instance as instance
 use Rattle.instance.proofs.Promises.{one-making}
-use Rattle.site.specs.Answers.{number, Lists, Tests, Makes}
+use Rattle.answer.specs.Answers.{number, Lists, Tests, Makes}
 
 pub one-listing : {l : problem.Lists} {budget : ℕ} {before : List ℕ} {c e r t d f s u : ℕ} {v w : List ℕ} → Lists l budget before c e r t v → Lists l budget before d f s u w
     → Same (record { code = c; ending = e; records = r; tries = t }) (record { code = d; ending = f; records = s; tries = u }) v w
