@@ -139,7 +139,7 @@ static void limits(void) {
 
 /* ---- The spelling lookup, on lists that no reader wrote ---- */
 
-static const uint32_t FAR = 4294967295u;
+#define FAR 4294967295u
 
 static const struct spelling {
     const char *name;
