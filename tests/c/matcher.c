@@ -214,13 +214,13 @@ static void listings_and_refusals(void) {
     list none = NONE;
     for (size_t k = 0; k < COUNT(LISTINGS); k++) {
         const struct listing *l = &LISTINGS[k];
-        khargovsun_listing want = {0, l->ending, l->records, l->tries};
+        khargovsun_listing want = {.ending = l->ending, .records = l->records, .tries = l->tries};
         list_is(l->name, &l->problem, l->budget, l->room, want, l->out);
         listed_again(l);
     }
     for (size_t k = 0; k < COUNT(REFUSALS); k++) {
         const struct refusal *r = &REFUSALS[k];
-        khargovsun_listing want = {r->code, 0, 0, 0};
+        khargovsun_listing want = {.code = r->code};
         list_is(r->name, &r->problem, 1000, ROOM, want, none);
         list_is(r->name, &r->problem, 0, 0, want, none);
         test_is(r->name, &r->problem, none, r->code, 0);
@@ -253,7 +253,7 @@ static void largest(void) {
     instance_is("16 before 17", t, more, record, 0, 0, 16, none, none);
     instance_is("2,048 rows, room for 2,047", t, copy, record, ROWS - 1, ROWS, 17, none, none);
     problem p = {{{label, ROWS}, {size, ROWS}}, {LIST(0, 2), LIST(0, 0), LIST(2, 1)}, NOTHING, LIST(0, 0)};
-    khargovsun_listing want = {0, 0, 1, ROWS};
+    khargovsun_listing want = {.records = 1, .tries = ROWS};
     list_is("g(s0) on 2,048 rows", &p, 4294967295u, ROOM, want, record);
 }
 
