@@ -7,8 +7,7 @@
 #include <string.h>
 #include <time.h>
 
-// What Rattle exports: a slice is a pointer and then a length.
-uint64_t khargovsun_check(const uint8_t *dictionary, size_t names, const uint8_t *document, size_t bytes);
+#include "../include/khargovsun.h"
 
 enum { TARGET = 26000, LIMIT = 32768, DEEPEST = 60, ROUNDS = 20, TURNS = 21 };
 

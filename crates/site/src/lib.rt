@@ -1,9 +1,161 @@
-// What the site's server, written in C, calls.
+// What the site's server, written in C, calls: thin exports over the proved functions. `include/khargovsun.h` declares them in C.
 ghost use Rattle.document.specs.Checked.{Checked};
+ghost use Rattle.document.specs.Reading.{Read};
+ghost use Rattle.dictionary.specs.Spelling.{PartAnswered};
+ghost use Rattle.instance.specs.Instance.{lists};
+ghost use Rattle.answer.specs.Answers.{Lists, Tests, Makes};
+use answer::Listing;
+use answer::Making;
+use answer::Part;
+use answer::Reading;
+use answer::Testing;
 
 #[no_mangle]
 pub extern "C" fn khargovsun_check(dictionary: &[u8], document: &[u8]) -> u64
     ensures { λ r. ⌜ Checked (now (dictionary .entry)) (now (document .entry)) r ⌝ }
 {
     document::check(dictionary, document)
+}
+
+#[no_mangle]
+pub extern "C" fn khargovsun_read(
+    dictionary: &[u8],
+    document: &[u8],
+    label: &mut [u32],
+    size: &mut [u32],
+    start: &mut [u32],
+    length: &mut [u32],
+) -> Reading
+    ensures { λ r. ⌜ Read (now (dictionary .entry)) (now (document .entry)) (now (label .entry)) (now (size .entry)) (now (start .entry)) (now (length .entry)) (now (label .exit)) (now (size .exit)) (now (start .exit)) (now (length .exit)) (r .code) (r .place) (r .rows) ⌝ }
+{
+    let read = document::read(dictionary, document, label, size, start, length);
+    Reading {
+        code: read.code,
+        place: read.place,
+        rows: read.rows,
+    }
+}
+
+#[no_mangle]
+pub extern "C" fn khargovsun_list(
+    label: &[u32],
+    size: &[u32],
+    kind: &[u32],
+    name: &[u32],
+    pattern_size: &[u32],
+    expression_kind: &[u32],
+    expression_name: &[u32],
+    expression_size: &[u32],
+    constraint: &[u32],
+    budget: u32,
+    out: &mut [u32],
+) -> Listing
+    ensures { λ r. ⌜ Lists (record {
+      label = now (label .entry);
+      size = now (size .entry);
+      kind = now (kind .entry);
+      name = now (name .entry);
+      patternSize = now («pattern_size» .entry);
+      expressionKind = now («expression_kind» .entry);
+      expressionName = now («expression_name» .entry);
+      expressionSize = now («expression_size» .entry);
+      constraint = now (constraint .entry);
+    }) budget (now (out .entry)) (r .code) (r .ending) (r .records) (r .tries) (now (out .exit)) ⌝ }
+{
+    answer::of_lister(lister::list(
+        label,
+        size,
+        kind,
+        name,
+        pattern_size,
+        expression_kind,
+        expression_name,
+        expression_size,
+        constraint,
+        budget,
+        out,
+    ))
+}
+
+#[no_mangle]
+pub extern "C" fn khargovsun_test(
+    label: &[u32],
+    size: &[u32],
+    kind: &[u32],
+    name: &[u32],
+    pattern_size: &[u32],
+    expression_kind: &[u32],
+    expression_name: &[u32],
+    expression_size: &[u32],
+    constraint: &[u32],
+    record: &[u32],
+) -> Testing
+    ensures { λ r. ⌜ Tests (record {
+      label = now (label .entry);
+      size = now (size .entry);
+      kind = now (kind .entry);
+      name = now (name .entry);
+      patternSize = now («pattern_size» .entry);
+      expressionKind = now («expression_kind» .entry);
+      expressionName = now («expression_name» .entry);
+      expressionSize = now («expression_size» .entry);
+      constraint = now (constraint .entry);
+    }) (now («record» .entry)) (r .code) (r .yes) ⌝ }
+{
+    answer::of_test(test::test(
+        label,
+        size,
+        kind,
+        name,
+        pattern_size,
+        expression_kind,
+        expression_name,
+        expression_size,
+        constraint,
+        record,
+    ))
+}
+
+#[no_mangle]
+pub extern "C" fn khargovsun_instance(
+    label: &[u32],
+    size: &[u32],
+    kind: &[u32],
+    name: &[u32],
+    pattern_size: &[u32],
+    record: &[u32],
+    out_label: &mut [u32],
+    out_size: &mut [u32],
+) -> Making
+    ensures { λ r. ⌜ Makes (lists (now (label .entry)) (now (size .entry)) (now (kind .entry)) (now (name .entry)) (now («pattern_size» .entry)) (now («record» .entry))) (now («out_label» .entry)) (now («out_size» .entry)) (r .code) (r .rows) (now («out_label» .exit)) (now («out_size» .exit)) ⌝ }
+{
+    answer::of_instance(instance::instance(
+        label,
+        size,
+        kind,
+        name,
+        pattern_size,
+        record,
+        out_label,
+        out_size,
+    ))
+}
+
+#[no_mangle]
+pub extern "C" fn khargovsun_spelling(
+    dictionary: &[u8],
+    document: &[u8],
+    label: &[u32],
+    start: &[u32],
+    length: &[u32],
+    row: usize,
+) -> Part
+    ensures { λ r. ⌜ PartAnswered (now (dictionary .entry)) (now (document .entry)) (now (label .entry)) (now (start .entry)) (now (length .entry)) row (r .source) (r .start) (r .length) ⌝ }
+{
+    let part = dictionary::spelling::part_of(dictionary, document, label, start, length, row);
+    Part {
+        source: part.source,
+        start: part.start,
+        length: part.length,
+    }
 }

@@ -1,0 +1,119 @@
+-- The two counts that the exports narrow fit 32 bits: the lister's records and the instance maker's rows.
+use Prim.Native.Nat.{ℕ, zero, suc, _+_, _≤_, _<_, zero-le}
+use mathlib.Core.Path.{_≡_, ap, sym, subst}
+use mathlib.Core.Logic.{inl, inr}
+use mathlib.Core.Bool.{Bool, true, false}
+use mathlib.Core.List.{List, [], _∷_, _++_, append-assoc, append-nil}
+use lib.ListN.{length, length-append}
+use native.Mathlib.Omega.{arith}
+use native.Mathlib.Decide.{ℕ-discrete}
+use Rattle.meaning.specs.Forest.{Term, size}
+use Rattle.meaning.specs.Pattern.{Pattern, Kind, Numbered}
+use Rattle.meaning.specs.Value.{Value}
+use Rattle.meaning.specs.Lowest.{accept}
+use Rattle.meaning.proofs.Tame.{count}
+use Rattle.constraint.specs.Obeys.{Allowed}
+use Rattle.constraint.proofs.Allowed.{allowed?}
+use Rattle.problem.proofs.Posed.{posed}
+use Rattle.problem.specs.Problem as problem
+use Rattle.listing.specs.Answer.{Result, roomOf}
+use Rattle.listing.specs.Meant.{Meant}
+use Rattle.listing.proofs.Events.{Outcome, fail, need, done, Event, tried, matched, snoc, branch, after, events}
+use Rattle.listing.proofs.Run.{run}
+use Rattle.listing.proofs.Whole.{walked, meant}
+use Rattle.listing.proofs.Facts.{one-answer, leading, at-most-one}
+use Rattle.lister.specs.Listed as lister
+use Rattle.lister.specs.declared.Listed.{Listed}
+use Rattle.instance.specs.Instance as instance
+use Rattle.instance.specs.declared.Made.{Made}
+use Rattle.instance.proofs.Whole.{one-instance}
+
+-- between two matches stands a try; the flag says whether a match may come before the first one
+data Paced : Bool → List Event → Type 0 where
+  ended : {b : Bool} → Paced b []
+  trying : {b : Bool} {v : List ℕ} {es : List Event} → Paced true es → Paced b (tried v ∷ es)
+  matching : {v r : List ℕ} {es : List Event} → Paced false es → Paced true (matched v r ∷ es)
+
+weaken : {es : List Event} → Paced false es → Paced true es
+weaken ended = ended
+weaken (trying h) = trying h
+
+module _ (f : List ℕ → List Event) (hf : (p : List ℕ) (es : List Event) → Paced false es → Paced true (f p ++ es)) where
+  branch-paced : (p : List ℕ) (lo n : ℕ) (es : List Event) → Paced false es → Paced false (branch f p lo n ++ es)
+  branch-paced p lo zero es h = h
+  branch-paced p lo (suc n) es h =
+      let i = hf (snoc p lo) (branch f p (suc lo) n ++ es) (branch-paced p (suc lo) n es h) in
+      trying (subst (λ (fs : List Event). Paced true fs) (sym (append-assoc (f (snoc p lo)) (branch f p (suc lo) n) es)) i)
+
+  after-paced : (p : List ℕ) (o : Outcome) (es : List Event) → Paced false es → Paced true (after f p o ++ es)
+  after-paced p fail es h = weaken h
+  after-paced p (need lo n) es h = weaken (branch-paced p lo n es h)
+  after-paced p (done r) es h = matching h
+
+events-paced : (walk : List ℕ → Outcome) (m : ℕ) (p : List ℕ) (es : List Event) → Paced false es → Paced true (events walk m p ++ es)
+events-paced walk zero p es h = after-paced (λ q. []) (λ q fs k. weaken k) p (walk p) es h
+events-paced walk (suc m) p es h = after-paced (events walk m) (events-paced walk m) p (walk p) es h
+
+-- as many records as tries, and one more where a match may come first
+abbrev spare : Bool → ℕ
+spare true = 1
+spare false = 0
+
+run-few : {b : Bool} {es : List Event} → Paced b es → (budget room : ℕ) → length (run es budget room .records) ≤ budget + spare b
+run-few ended budget room = zero-le
+run-few (trying h) zero room = zero-le
+run-few (trying h) (suc budget) room = omega (arith, run-few h budget room)
+run-few (matching h) budget zero = zero-le
+run-few (matching h) budget (suc room) = omega (arith, run-few h budget room)
+
+-- where the first event is a match, it is the only one
+module _ (k budget room : ℕ) (many : 1 < k) (low : budget < k) where
+  after-few : (f : List ℕ → List Event) → ((p : List ℕ) (es : List Event) → Paced false es → Paced true (f p ++ es)) → (p : List ℕ) (o : Outcome) → length (run (after f p o) budget room .records) < k
+  after-few f hf p fail = omega arith
+  after-few f hf p (need lo n) = omega (arith, run-few (rw append-nil at (branch-paced f hf p lo n [] ended)) budget room)
+  after-few f hf p (done r) = go room
+    where
+      go : (room : ℕ) → length (run (matched p r ∷ []) budget room .records) < k
+      go zero = omega arith
+      go (suc room) = omega arith
+
+  events-few : (walk : List ℕ → Outcome) (m : ℕ) → length (run (events walk m []) budget room .records) < k
+  events-few walk zero = after-few (λ q. []) (λ q fs h. weaken h) [] (walk [])
+  events-few walk (suc m) = after-few (events walk m) (events-paced walk m) [] (walk [])
+
+-- fewer records than any number that is above the budget and above 1
+meant-few : (A : ℕ → Value → Type 0) (a? : (x : ℕ) (v : Value) → Dec (A x v)) {P : Pattern} {T : Term} {budget : ℕ} {x : Result} (k n : ℕ) → 1 < k → budget < k → (Q : List Kind) → Numbered P Q
+    → Meant A Q P T budget (roomOf n (length Q)) x → length (x .records) < k
+meant-few A a? {x = x} k n many low [] g m =
+    let b = leading m in
+    omega (arith, at-most-one a? g (m .solutions-are), ap length (b .is), length-append (x .records) (b .rest))
+meant-few A a? {T = T} {budget = budget} k n many low (q ∷ Q) g m =
+    rw (one-answer m (meant A a? g T budget _)) (events-few k budget _ many low (walked A a? g T) (count (q ∷ Q)))
+
+pub records-fit : {l : problem.Lists} {budget : ℕ} {before : List ℕ} {r : Listed} {new : List ℕ} → budget < 4294967296 → lister.Settled l budget before r new → r .records < 4294967296
+records-fit {l} {budget} {before} {r} low s = go (ℕ-discrete (r .code) 0)
+  where
+    go : Dec (r .code ≡ 0) → r .records < 4294967296
+    go (yes e) =
+        let p = posed l accept (r .code) e (s .code) in
+        let x = s .listed e (p .T) (p .P) (p .Q) (p .es) (p .cs) (p .poses) in
+        omega (arith, x .counts, meant-few (Allowed (p .cs)) (allowed? (p .cs)) 4294967296 (length before) (omega arith) low (p .Q) (p .poses .rest .pattern .numbered) (x .meant))
+    go (no n) = omega (arith, s .refused n .1)
+
+-- the instance that is made is the one whose rows are few
+few-instance : (l : instance.Lists) (m n c : ℕ) → c ≡ 0 → instance.Codes l m n c → (U : Term) × instance.Instance l U × (size U ≤ 2048)
+few-instance l m n c z (inl a) = absurd (omega (arith, a .1))
+few-instance l m n c z (inr (_, inl a)) = absurd (omega (arith, a .1))
+few-instance l m n c z (inr (_, inr (_, inl a))) = absurd (omega (arith, a .1))
+few-instance l m n c z (inr (_, inr (_, inr (_, inl a)))) = absurd (omega (arith, a .1))
+few-instance l m n c z (inr (_, inr (_, inr (_, inr (u, _))))) = u
+
+pub rows-fit : {l : instance.Lists} {outLabel outSize : List ℕ} {r : Made} {newLabel newSize : List ℕ} → instance.Settled l outLabel outSize r newLabel newSize → instance.rowsGiven r ≤ 2048
+rows-fit {l} {outLabel} {outSize} {r} s = go (ℕ-discrete (instance.codeGiven r) 0)
+  where
+    go : Dec (instance.codeGiven r ≡ 0) → instance.rowsGiven r ≤ 2048
+    go (yes e) =
+        let u = few-instance l (length outLabel) (length outSize) (instance.codeGiven r) e (s .coded) in
+        let m = s .accepted e in
+        omega (arith, u .2, m .answered, ap size (one-instance (m .its) (u .1)))
+    go (no n) = omega (arith, s .refused n .answered)

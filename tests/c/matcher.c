@@ -1,0 +1,266 @@
+/* khargovsun_list, khargovsun_test and khargovsun_instance, held to what 01 says. */
+#include "compare.h"
+#include "khargovsun.h"
+
+enum { ROOM = 64, BEYOND = 72, ROWS = 2048 };
+
+typedef struct {
+    list label, size;
+} tree;
+
+typedef struct {
+    list kind, name, size;
+} rows3;
+
+typedef struct {
+    tree tree;
+    rows3 pattern, expression;
+    list constraint;
+} problem;
+
+/* ---- The trees and patterns of 01's examples: g, f, h, a, b are 0 to 4 ---- */
+
+#define T {LIST(0, 1, 3, 1, 3), LIST(5, 2, 1, 1, 1)}
+#define F_A_A {LIST(1, 3, 3), LIST(3, 1, 1)}
+#define NOTHING {NONE, NONE, NONE}
+#define Q {LIST(4, 0, 2), LIST(0, 1, 1), LIST(3, 2, 1)}
+#define F_S0_S1 {LIST(0, 2, 2), LIST(1, 0, 1), LIST(3, 1, 1)}
+#define A_OR_A {LIST(3, 0, 0), LIST(0, 3, 3), LIST(3, 1, 1)}
+#define FREE2 LIST(0, 0, 0, 0)
+
+#define Q_ON_T {T, Q, NOTHING, FREE2}
+#define S0_S1 {F_A_A, F_S0_S1, NOTHING, FREE2}
+#define S0_S1_CHOICE {F_A_A, F_S0_S1, A_OR_A, LIST(1, 0, 0, 0)}
+#define S0_S0 {F_A_A, {LIST(0, 2, 2), LIST(1, 0, 0), LIST(3, 1, 1)}, NOTHING, LIST(0, 0)}
+#define S0_FLAG {F_A_A, {LIST(0, 2), LIST(1, 0), LIST(2, 1)}, {LIST(4, 1), LIST(0, 0), LIST(2, 1)}, LIST(1, 1)}
+#define C0_C0_A {{LIST(1, 1, 3), LIST(3, 2, 1)}, {LIST(4, 4, 0), LIST(0, 0, 3), LIST(3, 2, 1)}, NOTHING, LIST(0, 0)}
+#define F_A_S0 {{LIST(1), LIST(1)}, {LIST(0, 0, 2), LIST(1, 3, 0), LIST(3, 1, 1)}, NOTHING, LIST(0, 0)}
+#define F0_X1 {{LIST(1, 3), LIST(2, 1)}, {LIST(3, 1), LIST(0, 1), LIST(2, 1)}, NOTHING, FREE2}
+#define A_ON_A {{LIST(3), LIST(1)}, {LIST(0), LIST(3), LIST(1)}, NOTHING, NONE}
+
+static const struct listing {
+    const char *name;
+    problem problem;
+    uint32_t budget;
+    size_t room;
+    uint32_t ending, records, tries;
+    list out;
+} LISTINGS[] = {
+    {"Q on T", Q_ON_T, 1000, ROOM, 0, 2, 8, LIST(0, 1, 2, 1, 0, 3, 4, 0)},
+    {"Q on T, budget 4294967295", Q_ON_T, 4294967295u, 8, 0, 2, 8, LIST(0, 1, 2, 1, 0, 3, 4, 0)},
+    {"Q on T, budget 8", Q_ON_T, 8, ROOM, 0, 2, 8, LIST(0, 1, 2, 1, 0, 3, 4, 0)},
+    {"Q on T, budget 7", Q_ON_T, 7, ROOM, 2, 2, 7, LIST(0, 1, 2, 1, 0, 3, 4, 0)},
+    {"Q on T, budget 4", Q_ON_T, 4, ROOM, 2, 1, 4, LIST(0, 1, 2, 1)},
+    {"Q on T, budget 3", Q_ON_T, 3, ROOM, 2, 0, 3, NONE},
+    {"Q on T, budget 0", Q_ON_T, 0, ROOM, 2, 0, 0, NONE},
+    {"Q on T, room for one", Q_ON_T, 8, 4, 1, 1, 7, LIST(0, 1, 2, 1)},
+    {"Q on T, room for one and three entries", Q_ON_T, 8, 7, 1, 1, 7, LIST(0, 1, 2, 1)},
+    {"Q on T, no room", Q_ON_T, 8, 0, 1, 0, 4, NONE},
+    {"f(s0, s1) on f(a, a)", S0_S1, 1000, ROOM, 0, 3, 9, LIST(1, 0, 1, 2, 1, 1, 2, 1, 1, 2, 3, 0)},
+    {"s0 in the choice of a and a", S0_S1_CHOICE, 1000, ROOM, 0, 1, 5, LIST(1, 1, 2, 1)},
+    {"f(s0, s0) on f(a, a)", S0_S0, 1000, ROOM, 0, 1, 3, LIST(1, 1)},
+    {"s0 in repetition of empty, flag 1", S0_FLAG, 1000, ROOM, 0, 0, 3, NONE},
+    {"context 0 over context 0 over a", C0_C0_A, 1000, ROOM, 0, 1, 3, LIST(0, 1)},
+    {"f(a, s0) on f", F_A_S0, 1000, ROOM, 0, 0, 0, NONE},
+    {"function 0 over individual 1", F0_X1, 0, ROOM, 0, 1, 0, LIST(0, 0, 1, 0)},
+    {"a on a, room 0 and budget 0", A_ON_A, 0, 0, 0, 1, 0, NONE},
+};
+
+/* Problems that are refused, and a record for each; the lister and the test give the same code. */
+static const struct refusal {
+    const char *name;
+    problem problem;
+    uint32_t code;
+} REFUSALS[] = {
+    {"all lists empty", {{NONE, NONE}, NOTHING, NOTHING, NONE}, 11},
+    {"a root that ends early", {{LIST(0, 1, 3, 1, 3), LIST(4, 2, 1, 1, 1)}, Q, NOTHING, FREE2}, 11},
+    {"arguments past their row", {{LIST(0, 1, 3), LIST(3, 1, 2)}, Q, NOTHING, FREE2}, 11},
+    {"lists of unequal length", {{LIST(0, 1, 3), LIST(3, 1)}, Q, NOTHING, FREE2}, 11},
+    {"label 65,536", {{LIST(65536), LIST(1)}, Q, NOTHING, FREE2}, 11},
+    {"11 before all others", {{LIST(0), LIST(0)}, {LIST(5), LIST(0), LIST(1)}, {LIST(5), LIST(0), LIST(1)}, LIST(2)}, 11},
+    {"no pattern", {T, NOTHING, NOTHING, NONE}, 12},
+    {"kind 5", {T, {LIST(5), LIST(0), LIST(1)}, NOTHING, LIST(0, 0)}, 12},
+    {"a sequence variable as root", {T, {LIST(2), LIST(0), LIST(1)}, NOTHING, LIST(0, 0)}, 12},
+    {"a context over a sequence variable", {T, {LIST(4, 2), LIST(0, 1), LIST(2, 1)}, NOTHING, FREE2}, 12},
+    {"a context without argument", {T, {LIST(4), LIST(0), LIST(1)}, NOTHING, LIST(0, 0)}, 12},
+    {"an individual with arguments", {T, {LIST(1, 0), LIST(0, 3), LIST(2, 1)}, NOTHING, LIST(0, 0)}, 12},
+    {"variable 1 before 0", {T, {LIST(0, 2), LIST(1, 1), LIST(2, 1)}, NOTHING, LIST(0, 0)}, 12},
+    {"a number of two kinds", {T, {LIST(0, 1, 2), LIST(1, 0, 0), LIST(3, 1, 1)}, NOTHING, LIST(0, 0)}, 12},
+    {"12 before 13 and 14", {T, {LIST(1), LIST(1), LIST(1)}, {LIST(1), LIST(1), LIST(1)}, LIST(2)}, 12},
+    {"a symbol of two rows", {T, Q, {LIST(0, 0), LIST(3, 3), LIST(2, 1)}, FREE2}, 13},
+    {"a named empty word", {T, Q, {LIST(1), LIST(1), LIST(1)}, FREE2}, 13},
+    {"a choice of one", {T, Q, {LIST(3, 0), LIST(0, 3), LIST(2, 1)}, FREE2}, 13},
+    {"lists of an expression unequal", {T, Q, {LIST(0), LIST(3), NONE}, FREE2}, 13},
+    {"13 before 14", {T, Q, {LIST(5), LIST(0), LIST(1)}, NONE}, 13},
+    {"no constraint list", {T, Q, NOTHING, NONE}, 14},
+    {"a list one too long", {T, Q, NOTHING, LIST(0, 0, 0, 0, 0)}, 14},
+    {"a flag without constraint", {T, Q, NOTHING, LIST(0, 0, 0, 1)}, 14},
+    {"flag 2", {T, Q, {LIST(0), LIST(3), LIST(1)}, LIST(0, 0, 1, 2)}, 14},
+    {"a constraint beyond the table", {T, Q, {LIST(0), LIST(3), LIST(1)}, LIST(0, 0, 2, 0)}, 14},
+    {"a constraint on the inside of an expression", {F_A_A, F_S0_S1, A_OR_A, LIST(2, 0, 0, 0)}, 14},
+    {"a constraint on an individual variable", {T, {LIST(1), LIST(0), LIST(1)}, {LIST(0), LIST(3), LIST(1)}, LIST(1, 0)}, 14},
+};
+
+static const struct testing {
+    const char *name;
+    problem problem;
+    list record;
+    uint32_t code, yes;
+} TESTINGS[] = {
+    {"Q on T, first record", Q_ON_T, LIST(0, 1, 2, 1), 0, 1},
+    {"Q on T, second record", Q_ON_T, LIST(0, 3, 4, 0), 0, 1},
+    {"Q on T, another hole", Q_ON_T, LIST(0, 4, 5, 0), 0, 0},
+    {"Q on T, the bare hole", Q_ON_T, LIST(0, 0, 1, 3), 0, 0},
+    {"Q on T, another start of the empty sequence", Q_ON_T, LIST(0, 3, 5, 0), 0, 0},
+    {"Q on T, the context started elsewhere", Q_ON_T, LIST(1, 1, 2, 1), 0, 0},
+    {"f(s0, s1), middle record", S0_S1, LIST(1, 1, 2, 1), 0, 1},
+    {"f(s0, s1), parts exchanged", S0_S1, LIST(2, 1, 1, 1), 0, 0},
+    {"f(s0, s1), the root as a sequence", S0_S1, LIST(0, 1, 3, 0), 0, 0},
+    {"the choice kept", S0_S1_CHOICE, LIST(1, 1, 2, 1), 0, 1},
+    {"the choice broken", S0_S1_CHOICE, LIST(1, 2, 3, 0), 0, 0},
+    {"f(s0, s0)", S0_S0, LIST(1, 1), 0, 1},
+    {"f(s0, s0), both terms", S0_S0, LIST(1, 2), 0, 0},
+    {"flag 1", S0_FLAG, LIST(1, 0), 0, 0},
+    {"context 0 over context 0 over a", C0_C0_A, LIST(0, 1), 0, 1},
+    {"function 0 over individual 1", F0_X1, LIST(0, 0, 1, 0), 0, 1},
+    {"a on a", A_ON_A, NONE, 0, 1},
+    {"a record for a pattern without variables", A_ON_A, LIST(0, 0), 15, 0},
+    {"no record", Q_ON_T, NONE, 15, 0},
+    {"a record one short", Q_ON_T, LIST(0, 1, 2), 15, 0},
+    {"a record one long", Q_ON_T, LIST(0, 1, 2, 1, 0), 15, 0},
+    {"a context outside the tree", Q_ON_T, LIST(5, 5, 2, 1), 15, 0},
+    {"a hole outside the subterm", Q_ON_T, LIST(1, 3, 2, 1), 15, 0},
+    {"a sequence over the tree's length", Q_ON_T, LIST(0, 1, 6, 0), 15, 0},
+    {"more arguments than there are", Q_ON_T, LIST(0, 1, 4, 2), 15, 0},
+    {"two roots", S0_S1, LIST(0, 2, 3, 0), 15, 0},
+    {"an individual with a second number", F0_X1, LIST(0, 0, 1, 1), 15, 0},
+    {"a function's row outside the tree", F0_X1, LIST(2, 0, 1, 0), 15, 0},
+};
+
+#define CUT {LIST(0), LIST(2)}
+
+static const struct making {
+    const char *name;
+    tree tree;
+    rows3 pattern;
+    list record;
+    uint32_t code, rows;
+    list label, size;
+} MAKINGS[] = {
+    {"Q under its first record", T, Q, LIST(0, 1, 2, 1), 0, 5, LIST(0, 1, 3, 1, 3), LIST(5, 2, 1, 1, 1)},
+    {"Q under its second record", T, Q, LIST(0, 3, 4, 0), 0, 5, LIST(0, 1, 3, 1, 3), LIST(5, 2, 1, 1, 1)},
+    {"Q under a record of no matcher", T, Q, LIST(0, 4, 1, 2), 0, 8, LIST(0, 1, 3, 1, 1, 1, 3, 1), LIST(8, 2, 1, 1, 4, 2, 1, 1)},
+    {"Q under the bare hole", T, Q, LIST(0, 0, 5, 0), 0, 1, LIST(1), LIST(1)},
+    {"f(s0, s1) with one term twice", F_A_A, F_S0_S1, LIST(1, 1, 1, 2), 0, 4, LIST(1, 3, 3, 3), LIST(4, 1, 1, 1)},
+    {"function 0 over individual 1", T, {LIST(3, 1), LIST(0, 1), LIST(2, 1)}, LIST(0, 0, 1, 0), 0, 3, LIST(0, 1, 3), LIST(3, 2, 1)},
+    {"no variables", T, {LIST(0), LIST(3), LIST(1)}, NONE, 0, 1, LIST(3), LIST(1)},
+    {"all lists empty", {NONE, NONE}, NOTHING, NONE, 11, 0, NONE, NONE},
+    {"a bad tree", CUT, Q, LIST(0, 1, 2, 1), 11, 0, NONE, NONE},
+    {"11 before 12", CUT, NOTHING, NONE, 11, 0, NONE, NONE},
+    {"no pattern", T, NOTHING, NONE, 12, 0, NONE, NONE},
+    {"12 before 15", T, {LIST(2), LIST(0), LIST(1)}, NONE, 12, 0, NONE, NONE},
+    {"no record", T, Q, NONE, 15, 0, NONE, NONE},
+    {"a record one long", T, Q, LIST(0, 1, 2, 1, 0), 15, 0, NONE, NONE},
+    {"more arguments than there are", T, Q, LIST(0, 1, 4, 2), 15, 0, NONE, NONE},
+};
+
+/* ---- The calls ---- */
+
+#define LENT(l) (l).at, (l).n
+#define TREE(t) LENT((t).label), LENT((t).size)
+#define ROWS3(r) LENT((r).kind), LENT((r).name), LENT((r).size)
+#define PROBLEM(p) TREE((p).tree), ROWS3((p).pattern), ROWS3((p).expression), LENT((p).constraint)
+
+static void list_is(const char *name, const problem *p, uint32_t budget, size_t room, khargovsun_listing want, list records) {
+    static uint32_t out[BEYOND];
+    mark(out, BEYOND);
+    khargovsun_listing got = khargovsun_list(PROBLEM(*p), budget, room ? out : NULL, room);
+    same(name, "the code", got.code, want.code);
+    same(name, "the ending", got.ending, want.ending);
+    same(name, "the records", got.records, want.records);
+    same(name, "the tries", got.tries, want.tries);
+    holds(name, "out", out, BEYOND, records);
+}
+
+static void test_is(const char *name, const problem *p, list record, uint32_t code, uint32_t yes) {
+    khargovsun_testing got = khargovsun_test(PROBLEM(*p), LENT(record));
+    same(name, "the test's code", got.code, code);
+    same(name, "the test's yes", got.yes, yes);
+}
+
+static uint32_t new_label[ROWS + 2], new_size[ROWS + 2];
+
+static void instance_is(const char *name, tree t, rows3 pattern, list record, size_t label_room, size_t size_room, uint32_t code, list label, list size) {
+    mark(new_label, ROWS + 2), mark(new_size, ROWS + 2);
+    khargovsun_making got = khargovsun_instance(TREE(t), ROWS3(pattern), LENT(record), label_room ? new_label : NULL, label_room,
+                                                size_room ? new_size : NULL, size_room);
+    same(name, "the code", got.code, code);
+    same(name, "the rows", got.rows, label.n);
+    holds(name, "label", new_label, ROWS + 2, label);
+    holds(name, "size", new_size, ROWS + 2, size);
+}
+
+/* A listed record passes the test, and the pattern under it is the tree again. */
+static void listed_again(const struct listing *l) {
+    size_t width = l->records ? l->out.n / l->records : 0;
+    for (size_t k = 0; k < l->records; k++) {
+        list record = {l->out.at + k * width, width};
+        test_is(l->name, &l->problem, record, 0, 1);
+        instance_is(l->name, l->problem.tree, l->problem.pattern, record, ROWS, ROWS, 0, l->problem.tree.label, l->problem.tree.size);
+    }
+}
+
+static void listings_and_refusals(void) {
+    list none = NONE;
+    for (size_t k = 0; k < COUNT(LISTINGS); k++) {
+        const struct listing *l = &LISTINGS[k];
+        khargovsun_listing want = {.ending = l->ending, .records = l->records, .tries = l->tries};
+        list_is(l->name, &l->problem, l->budget, l->room, want, l->out);
+        listed_again(l);
+    }
+    for (size_t k = 0; k < COUNT(REFUSALS); k++) {
+        const struct refusal *r = &REFUSALS[k];
+        khargovsun_listing want = {.code = r->code};
+        list_is(r->name, &r->problem, 1000, ROOM, want, none);
+        list_is(r->name, &r->problem, 0, 0, want, none);
+        test_is(r->name, &r->problem, none, r->code, 0);
+    }
+}
+
+static void makings(void) {
+    list none = NONE;
+    for (size_t k = 0; k < COUNT(MAKINGS); k++) {
+        const struct making *m = &MAKINGS[k];
+        instance_is(m->name, m->tree, m->pattern, m->record, ROWS, ROWS, m->code, m->label, m->size);
+        instance_is(m->name, m->tree, m->pattern, m->record, 0, 0, m->code ? m->code : 17, none, none);
+        if (m->code != 0) continue;
+        instance_is(m->name, m->tree, m->pattern, m->record, m->rows - 1, ROWS, 17, none, none);
+        instance_is(m->name, m->tree, m->pattern, m->record, ROWS, m->rows - 1, 17, none, none);
+        instance_is(m->name, m->tree, m->pattern, m->record, m->rows, m->rows, 0, m->label, m->size);
+    }
+}
+
+/* A tree of 2,048 rows: a root with 2,047 leaves. Its copy has as many rows, with one term more it is over the limit. */
+static void largest(void) {
+    static uint32_t label[ROWS], size[ROWS];
+    for (size_t k = 0; k < ROWS; k++) label[k] = 3, size[k] = 1;
+    label[0] = 0, size[0] = ROWS;
+    tree t = {{label, ROWS}, {size, ROWS}};
+    rows3 copy = {LIST(0, 2), LIST(0, 0), LIST(2, 1)}, more = {LIST(0, 2, 0), LIST(0, 0, 3), LIST(3, 1, 1)};
+    list record = LIST(1, ROWS - 1), none = NONE;
+    instance_is("2,048 rows", t, copy, record, ROWS, ROWS, 0, t.label, t.size);
+    instance_is("2,049 rows", t, more, record, ROWS, ROWS, 16, none, none);
+    instance_is("16 before 17", t, more, record, 0, 0, 16, none, none);
+    instance_is("2,048 rows, room for 2,047", t, copy, record, ROWS - 1, ROWS, 17, none, none);
+    problem p = {{{label, ROWS}, {size, ROWS}}, {LIST(0, 2), LIST(0, 0), LIST(2, 1)}, NOTHING, LIST(0, 0)};
+    khargovsun_listing want = {.records = 1, .tries = ROWS};
+    list_is("g(s0) on 2,048 rows", &p, 4294967295u, ROOM, want, record);
+}
+
+int main(void) {
+    listings_and_refusals();
+    for (size_t k = 0; k < COUNT(TESTINGS); k++) test_is(TESTINGS[k].name, &TESTINGS[k].problem, TESTINGS[k].record, TESTINGS[k].code, TESTINGS[k].yes);
+    makings();
+    largest();
+    return result("matcher.c");
+}
