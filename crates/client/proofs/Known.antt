@@ -37,7 +37,7 @@ pub for-one : (v : ℕ) → ForOne (v + v) v
 for-one zero = tt
 for-one (suc v) = ap atMost (div-self {n = suc v + suc v} (omega arith))
 
-pub not-full : (lent v : ℕ) → ForOne lent v → roomOf lent v ≡ atMost 0 → ⊥
+not-full : (lent v : ℕ) → ForOne lent v → roomOf lent v ≡ atMost 0 → ⊥
 not-full lent zero o e = let z : _≡_ {A = ℕ} 0 1 = cc in omega arith
 not-full lent (suc v) o e = let z : _≡_ {A = ℕ} 0 1 = cc in omega arith
 

@@ -41,7 +41,7 @@ pub record Absent (Allowed : ℕ → Value → Type 0) (Q : List Kind) (P : Patt
   pub tries-are : Tries Allowed Q P T tries
   pub enough : length tries ≤ budget
 
--- the tries are more than the budget, and none is reached within it that solves
+-- the tries are more than the budget, and no matcher is reached within it
 pub record Unknown (Allowed : ℕ → Value → Type 0) (Q : List Kind) (P : Pattern) (T : Term) (budget : ℕ) : Type 0 where
   pub more : (tries : List (List ℕ)) → Tries Allowed Q P T tries → budget < length tries
   pub not-found : Found Allowed Q P T budget → ⊥
