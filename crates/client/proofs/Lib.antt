@@ -1,0 +1,4 @@
+pub mod Ways
+pub mod Known
+pub mod Whole
+pub mod Promises
