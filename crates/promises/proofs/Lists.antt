@@ -85,7 +85,7 @@ more-lengthens l b c before after before' after' r s T P Q es cs h k w x y =
     let e : x .listed ≡ ran g T cs b (length before) .records = ap (λ (z : Result). z .records) (is-ran g T cs (length before) (is-meant x)) in
     let f : y .listed ≡ ran g T cs c (length before') .records = ap (λ (z : Result). z .records) (is-ran g T cs (length before') (is-meant y)) in
     let d = more (events (walked (Allowed cs) (allowed? cs) g T) (count Q) []) b c (fitting (length before) (length Q + length Q)) (fitting (length before') (length Q + length Q)) h (fitting-more (length before) (length before') (length Q + length Q) k) in
-    rw (e, f) (record { rest = d .0; is = d .1 })
+    rw (e, f) d
 
 pub listings : Listings
 listings = record { lists-all = lists-all; empty-is-none = empty-is-none; more-lengthens = more-lengthens }
