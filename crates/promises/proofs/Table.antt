@@ -99,7 +99,46 @@ of-all C (b ∷ l) h a (inr m) = of-all C l (h .1) a m
 
 each-row : All Answers table
 unfolding walkT walkF rows terms takeT dropT cut cutF holeRow decLe ℕ-discrete decLt heads path when? by? either? parts? again? repeated? word? in? flagged? obeys? allowed?
-each-row = (answers _ query-on-tree refl, (answers _ query-on-tree refl, (answers _ query-on-tree refl, (answers _ query-on-tree refl, (answers _ query-on-tree refl, (answers _ two-sequences refl, (answers _ in-choice refl, (answers _ same-sequence refl, (answers _ in-repetition refl, (answers _ same-context refl, (answers _ no-term-left refl, (answers _ function-over-individual refl, (answers _ is-ground refl, tt)))))))))))))
+each-row = (
+  answers _ query-on-tree refl,
+  (
+    answers _ query-on-tree refl,
+    (
+      answers _ query-on-tree refl,
+      (
+        answers _ query-on-tree refl,
+        (
+          answers _ query-on-tree refl,
+          (
+            answers _ two-sequences refl,
+            (
+              answers _ in-choice refl,
+              (
+                answers _ same-sequence refl,
+                (
+                  answers _ in-repetition refl,
+                  (
+                    answers _ same-context refl,
+                    (
+                      answers _ no-term-left refl,
+                      (
+                        answers _ function-over-individual refl,
+                        (
+                          answers _ is-ground refl,
+                          tt,
+                        ),
+                      ),
+                    ),
+                  ),
+                ),
+              ),
+            ),
+          ),
+        ),
+      ),
+    ),
+  ),
+)
 
 pub table-holds : TableHolds
 table-holds = of-all Answers table each-row
