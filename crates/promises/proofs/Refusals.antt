@@ -63,6 +63,7 @@ one-answer-listed o = (λ i. record { code = o .code i; ending = o .ending i; re
 pub refusals : Refusals
 refusals = record {
   reader = record { dictionary = dictionary; document = document; room = room; unchanged = unchanged };
+  matcher = record { list = λ s. s .code; test = λ s. s .code; instance = λ s. s .coded };
   one =
       record {
         read = one-answer;

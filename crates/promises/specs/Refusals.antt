@@ -4,6 +4,8 @@ use Prim.Native.Nat.{ℕ, _<_}
 use mathlib.Core.Path.{_≡_}
 use mathlib.Core.Logic.{_↔_}
 use mathlib.Core.List.{List}
+use lib.ListN.{length}
+use Rattle.meaning.specs.Lowest.{accept}
 use Rattle.judge.specs.Verdict.{Verdict}
 use Rattle.dictionary.specs.Names.{GoodDictionary}
 use Rattle.document.specs.Reading.{Read, Unchanged, shortest}
@@ -26,6 +28,12 @@ pub record ReaderRefuses : Type 0 where
       → Verdict w 0 0 fit → (code ≡ 6) ↔ (shortest l s b n < fit)
   pub unchanged : {d w l s b n l' s' b' n' : List ℕ} {code place rows : ℕ} → Read d w l s b n l' s' b' n' code place rows → (code ≡ 0 → ⊥) → Unchanged l s b n l' s' b' n' × (rows ≡ 0)
 
+-- the lister, the test and the instance maker give the lowest code whose rule is broken, and 0 where none is
+pub record MatcherRefuses : Type 0 where
+  pub list : {l : Problem.Lists} {budget : ℕ} {before after : List ℕ} {r : Listed} → Lister.Settled l budget before r after → Problem.Codes l accept (r .code)
+  pub test : {l : Problem.Lists} {list : List ℕ} {r : Tested} → Test.Settled l list r → Problem.Codes l (Test.Fifteen l list) (Test.codeOf r)
+  pub instance : {l : Maker.Lists} {L S L' S' : List ℕ} {r : Made} → Maker.Settled l L S r L' S' → Maker.Codes l (length L) (length S) (Maker.codeGiven r)
+
 -- every answer, refusals among them, is settled, with each lent list afterwards
 pub record OnlyOne : Type 0 where
   pub read : OneAnswer
@@ -43,5 +51,6 @@ pub record NothingWritten : Type 0 where
 
 pub record Refusals : Type 0 where
   pub reader : ReaderRefuses
+  pub matcher : MatcherRefuses
   pub one : OnlyOne
   pub nothing-written : NothingWritten
