@@ -1,24 +1,6 @@
 // One function for each word: it hands the line's lists to the check or the test of that name, and prints the answer.
 use libc::STDOUT_FILENO;
-
-// The list of that number, from 0 on, or an empty part where there are fewer.
-fn part<'a>(numbers: &'a [u32], ends: &[usize], list: usize) -> &'a [u32] {
-    let start = if list == 0 { 0 } else { end_of(ends, list - 1) };
-    let end = end_of(ends, list);
-    if start <= end {
-        if end <= numbers.len() {
-            return &numbers[start..end];
-        }
-    }
-    &numbers[0..0]
-}
-
-fn end_of(ends: &[usize], list: usize) -> usize {
-    if list < ends.len() {
-        return ends[list];
-    }
-    0
-}
+use lines::lists::part;
 
 pub fn unreadable() {
     io::write_all(STDOUT_FILENO, b": cannot be read\n");

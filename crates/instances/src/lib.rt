@@ -3,9 +3,10 @@ pub mod parts;
 pub mod printing;
 
 use instance::Made;
-use parts::part;
+use lines::lists::BEFORE;
+use lines::lists::part;
+use lines::lists::unchanged;
 use parts::room;
-use printing::BEFORE;
 
 fn begins(list: &[u32], wanted: &[u32]) -> bool {
     let mut i = 0;
@@ -29,8 +30,8 @@ fn is_list(made: &[u32], wanted: &[u32], rows: usize) -> bool {
 }
 
 fn print_kept(made_label: &[u32], made_size: &[u32], rows: usize) {
-    if printing::unchanged(made_label, rows) {
-        if printing::unchanged(made_size, rows) {
+    if unchanged(made_label, rows) {
+        if unchanged(made_size, rows) {
             return;
         }
     }

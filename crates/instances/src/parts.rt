@@ -1,25 +1,6 @@
-// The parts that a line's lists are, and how much of a list is lent.
+// How much of a list is lent, as a line says.
 ghost use Prim.Native.Nat.{_≤_};
 ghost use lib.ListN.{length};
-
-// The list of that number, from 0 on, or an empty part where there are fewer.
-pub fn part<'a>(numbers: &'a [u32], ends: &[usize], list: usize) -> &'a [u32] {
-    let start = if list == 0 { 0 } else { end_of(ends, list - 1) };
-    let end = end_of(ends, list);
-    if start <= end {
-        if end <= numbers.len() {
-            return &numbers[start..end];
-        }
-    }
-    &numbers[0..0]
-}
-
-fn end_of(ends: &[usize], list: usize) -> usize {
-    if list < ends.len() {
-        return ends[list];
-    }
-    0
-}
 
 // The only number of a list.
 pub fn only(list: &[u32]) -> u32 {

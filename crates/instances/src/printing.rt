@@ -1,8 +1,5 @@
-// Numbers and lists as a line prints them, and the numbers that a list holds before it is lent.
+// Numbers and lists as a line prints them.
 use libc::STDOUT_FILENO;
-
-// No answer writes this number, so that every write is seen.
-pub const BEFORE: u32 = 4294967295;
 
 pub fn wider(number: u32) -> u64 {
     number as u64
@@ -42,16 +39,4 @@ pub fn beginning(numbers: &[u32], many: usize) {
     } else {
         list(numbers);
     }
-}
-
-// Does the list hold what it held before, from a place on?
-pub fn unchanged(list: &[u32], from: usize) -> bool {
-    let mut at = from;
-    while at < list.len() {
-        if list[at] != BEFORE {
-            return false;
-        }
-        at += 1;
-    }
-    true
 }

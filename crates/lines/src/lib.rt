@@ -3,6 +3,7 @@ ghost use Prim.Native.Nat.{_≤_};
 ghost use lib.ListN.{length};
 
 pub mod fields;
+pub mod lists;
 
 // The word is section 0, the text 1, and the lists 2; a section ends at the space in front of a bar, and begins after the one behind it.
 pub fn section(line: &[u8], number: usize) -> &[u8] {

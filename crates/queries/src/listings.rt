@@ -1,9 +1,10 @@
 // A problem on a tree: what the lister answers, and the instance of each record.
 use instances::parts::only;
-use instances::parts::part;
 use instances::parts::room;
 use instances::printing;
-use instances::printing::BEFORE;
+use lines::lists::BEFORE;
+use lines::lists::part;
+use lines::lists::unchanged;
 
 fn listed(
     label: &[u32],
@@ -56,7 +57,7 @@ fn print_records(
         start = end;
         left -= 1;
     }
-    if !printing::unchanged(out, start) {
+    if !unchanged(out, start) {
         printing::text(b", list changed");
     }
 }

@@ -3,8 +3,8 @@ ghost use Prim.Native.Nat.{_≤_};
 ghost use lib.ListN.{length};
 use crate::listings;
 use instances::parts::least;
-use instances::parts::part;
 use instances::printing;
+use lines::lists::part;
 
 fn name_byte(byte: u8) -> u8 {
     if byte == b' ' {

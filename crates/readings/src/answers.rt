@@ -2,9 +2,8 @@
 ghost use Prim.Native.Nat.{_<_, _≤_};
 ghost use lib.ListN.{length};
 use libc::STDOUT_FILENO;
-
-// What the lists hold before each call. No row has this number, so that every write is seen.
-const BEFORE: u32 = 4294967295;
+use lines::lists::BEFORE;
+use lines::lists::unchanged;
 
 // Trees of more rows are not printed.
 const PRINTED: usize = 12;
@@ -29,17 +28,6 @@ fn room(rooms: &[u8], number: usize, list: &[u32]) -> usize
         return list.len();
     }
     wanted
-}
-
-fn unchanged(list: &[u32], from: usize) -> bool {
-    let mut at = from;
-    while at < list.len() {
-        if list[at] != BEFORE {
-            return false;
-        }
-        at += 1;
-    }
-    true
 }
 
 // The check has no room limit, so that where the reader lacks room it must accept.

@@ -1,8 +1,8 @@
 use Prim.Native.Nat.{_-_}
 use lib.ListN.{length}
 use borrow.Author.Needs.{needs}
-use Rattle.instances.proofs.printing.unchanged.Statement.{statement}
-use Rattle.instances.proofs.printing.unchanged.Tie as tie
+use Rattle.lines.proofs.lists.unchanged.Statement.{statement}
+use Rattle.lines.proofs.lists.unchanged.Tie as tie
 
 abbrev Inv-loop : tie.InvT-loop
 Inv-loop list from at₀ at = Unit {0}
