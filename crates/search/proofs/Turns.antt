@@ -58,6 +58,32 @@ pub record Input : Type 0 where
   pub start : ℕ
   pub before : List ℕ
 
+abbrev pub given :
+    (L S M name first : List ℕ) (null : List Bool) (cont : List ℕ) (ends : List Bool) (C kinds : List ℕ) (budget room width : ℕ) (R X St N F : List ℕ) (start : ℕ) (before : List ℕ) → Input
+given L S M name first null cont ends C kinds budget room width R X St N F start before =
+    record {
+      L = L;
+      S = S;
+      M = M;
+      name = name;
+      first = first;
+      null = null;
+      cont = cont;
+      ends = ends;
+      C = C;
+      kinds = kinds;
+      budget = budget;
+      room = room;
+      width = width;
+      R = R;
+      X = X;
+      St = St;
+      N = N;
+      F = F;
+      start = start;
+      before = before;
+    }
+
 -- the last level has its place in the lists, and its values are small
 pub record Placed (X St N F : List ℕ) (depth : ℕ) : Type 0 where
   pub some : 0 < depth

@@ -2,8 +2,9 @@ use Prim.Native.Nat.{ℕ, _+_, _-_, _*_, _<_, _≤_}
 use native.Mathlib.Omega.{arith}
 use mathlib.Core.Path.{_≡_, refl}
 use lib.ListN.{length, getD, set}
-use Rattle.search.proofs.Turns.{Input, Placed, Deeper, Going, Ready, Tried}
-use Rattle.search.proofs.Turns.{going-start, going-depth, going-long, going-back, going-end, going-ready, going-spent, attempt-asked, placed, going-try}
+use Rattle.search.proofs.Turns.{Input, given, Placed, Deeper, Going, Ready, Tried}
+use Rattle.search.proofs.Turns.{going-start, going-depth, going-long, going-back, going-end, going-ready, going-spent}
+use Rattle.search.proofs.Turns.{placed, attempt-asked, going-try}
 use Rattle.search.proofs.Turns.{tried-fail, deeper, tried-need, tried-full, put-asked, tried-match, tried-counted}
 use Rattle.memory.specs.Memory.{Remembers}
 use Rattle.memory.proofs.Numbers.{blank}
@@ -12,61 +13,24 @@ use Rattle.search.proofs.go.Statement.{statement}
 use Rattle.search.proofs.go.Tie as tie
 
 abbrev Inv-loop : tie.InvT-loop
-Inv-loop label size pattern name first null cont ends constraint kinds budget room width start out₀ record₀ variables₀ starts₀ nexts₀ lefts₀ memory₀ depth₀ count₀ tries₀ out «record» variables starts nexts lefts memory depth count tries =
-    Going (record {
-      L = label;
-      S = size;
-      M = pattern;
-      name = name;
-      first = first;
-      null = null;
-      cont = cont;
-      ends = ends;
-      C = constraint;
-      kinds = kinds;
-      budget = budget;
-      room = room;
-      width = width;
-      R = record₀;
-      X = variables₀;
-      St = starts₀;
-      N = nexts₀;
-      F = lefts₀;
-      start = start;
-      before = out₀;
-    }) out «record» variables starts nexts lefts depth count tries
+Inv-loop label size pattern name first null cont ends constraint kinds budget room width start
+    out₀ record₀ variables₀ starts₀ nexts₀ lefts₀ memory₀ depth₀ count₀ tries₀ out «record» variables starts nexts lefts memory depth count tries =
+    Going
+    (given label size pattern name first null cont ends constraint kinds budget room width record₀ variables₀ starts₀ nexts₀ lefts₀ start out₀)
+    out «record» variables starts nexts lefts depth count tries
     × Remembers label size name first null cont ends constraint memory
 
 abbrev μ-loop : tie.MeasureT-loop
-μ-loop label size pattern name first null cont ends constraint kinds budget room width start out₀ record₀ variables₀ starts₀ nexts₀ lefts₀ memory₀ depth₀ count₀ tries₀ out «record» variables starts nexts lefts memory depth count tries =
+μ-loop label size pattern name first null cont ends constraint kinds budget room width start
+    out₀ record₀ variables₀ starts₀ nexts₀ lefts₀ memory₀ depth₀ count₀ tries₀ out «record» variables starts nexts lefts memory depth count tries =
     budget - tries
 
 -- what the search was given; the lists that it changes itself have no names as they came
 abbrev input : tie.Start Inv-loop μ-loop → Input
 input s =
     let a = s .args in
-    record {
-      L = a .label .now;
-      S = a .size .now;
-      M = a .pattern .now;
-      name = a .name .now;
-      first = a .first .now;
-      null = a .null .now;
-      cont = a .cont .now;
-      ends = a .ends .now;
-      C = a .constraint .now;
-      kinds = a .kinds .now;
-      budget = a .budget;
-      room = a .room;
-      width = a .width;
-      R = a .t14;
-      X = a .t15;
-      St = a .t16;
-      N = a .t17;
-      F = a .t18;
-      start = a .start;
-      before = a .out .now;
-    }
+    given (a .label .now) (a .size .now) (a .pattern .now) (a .name .now) (a .first .now) (a .null .now) (a .cont .now) (a .ends .now)
+    (a .constraint .now) (a .kinds .now) (a .budget) (a .room) (a .width) (a .t14) (a .t15) (a .t16) (a .t17) (a .t18) (a .start) (a .out .now)
 
 -- from a turn's head to the function's start, and from a turn's try to its head
 abbrev begun : tie.At-loop Inv-loop μ-loop → tie.Start Inv-loop μ-loop
@@ -82,10 +46,13 @@ kept h = going-long (h .loop .inv .0) (begun h .pre)
 -- a turn that has gone back to a level with a value left
 ready : (c : tie.Else1 Inv-loop μ-loop) →
     let l = c .before .before .before .loop in
-    Ready (input (begun (c .before .before .before))) (l .out) (l .«record») (l .variables) (l .starts) (l .nexts) (l .lefts) (c .before .back .result) (l .count) (l .tries)
+    Ready (input (begun (c .before .before .before))) (l .out) (l .«record») (l .variables) (l .starts) (l .nexts) (l .lefts)
+    (c .before .back .result) (l .count) (l .tries)
 ready c = going-ready (c .before .before .before .loop .inv .0) (c .before .back .ensures) (c .if1 .left)
 
-level : (c : tie.Else2 Inv-loop μ-loop) → let l = c .before .before .before .before .loop in Placed (l .variables) (l .starts) (l .nexts) (l .lefts) (c .before .before .back .result)
+level : (c : tie.Else2 Inv-loop μ-loop) →
+    let l = c .before .before .before .before .loop in
+    Placed (l .variables) (l .starts) (l .nexts) (l .lefts) (c .before .before .back .result)
 level c = placed (ready (c .before)) (begun (c .before .before .before .before) .pre)
 
 -- a turn that has tried the level's next value
@@ -180,7 +147,9 @@ array-read-attempt-2 : tie.Need-array-read-attempt-2 Inv-loop μ-loop
 array-read-attempt-2 c = omega (arith, level (c .before))
 
 attempt-requires : tie.Need-attempt-requires Inv-loop μ-loop
-attempt-requires c κs = (attempt-asked (ready (c .before .before .before)) (begun (c .before .before .before .before .before .before) .pre), c .before .before .before .before .before .before .loop .inv .1)
+attempt-requires c κs =
+    let h = c .before .before .before .before .before .before in
+    (attempt-asked (ready (c .before .before .before)) (begun h .pre), h .loop .inv .1)
 
 enum-told : tie.Need-enum-told Inv-loop μ-loop
 enum-told c = search needs
@@ -231,7 +200,9 @@ loop-less-2 : tie.Need-loop-less-2 Inv-loop μ-loop
 loop-less-2 c = omega (arith, tried (c .before .before .before) .charged)
 
 loop-again-2 : tie.Need-loop-again-2 Inv-loop μ-loop
-loop-again-2 c = (tried-need (tried (c .before .before .before)) (c .before .x .given .1) (begun (head (c .before .before .before)) .pre) refl, c .before .before .before .attempt .ensures .1)
+loop-again-2 c =
+    let t = c .before .before .before in
+    (tried-need (tried t) (c .before .x .given .1) (begun (head t) .pre) refl, t .attempt .ensures .1)
 
 enum-told-2 : tie.Need-enum-told-2 Inv-loop μ-loop
 enum-told-2 c = search needs
@@ -249,15 +220,19 @@ put-requires : tie.Need-put-requires Inv-loop μ-loop
 put-requires c κs = let r = room-left (c .before .before) in (r .0, tried (c .before .before .before .before .before) .record-long, r .1)
 
 add-count : tie.Need-add-count Inv-loop μ-loop
-add-count c = let p = begun (head (c .before .before .before .before .before .before .before .before)) in omega (arith, tried-counted (tried (c .before .before .before .before .before .before .before .before)) (p .pre), c .before .before .before .before .before .if3 .left, p .fits .room)
+add-count c =
+    let t = c .before .before .before .before .before .before .before .before in
+    let p = begun (head t) in
+    omega (arith, tried-counted (tried t) (p .pre), c .before .before .before .before .before .if3 .left, p .fits .room)
 
 loop-less-3 : tie.Need-loop-less-3 Inv-loop μ-loop
 loop-less-3 c = omega (arith, tried (c .before .before .before .before .before .before .before .before) .charged)
 
 loop-again-3 : tie.Need-loop-again-3 Inv-loop μ-loop
 loop-again-3 c =
-    let t = c .before .before .before .before .before .before .before .before in
-    (rw (c .before .before .put .ensures) (tried-match (tried t) (c .before .before .before .before .before .before .enum-told2 .given .1) (c .before .before .before .before .before .if3 .left)), t .attempt .ensures .1)
+    let c₅ = c .before .before .before .before .before in
+    let t = c₅ .before .before .before in
+    (rw (c .before .before .put .ensures) (tried-match (tried t) (c₅ .before .enum-told2 .given .1) (c₅ .if3 .left)), t .attempt .ensures .1)
 
 pub go-spec : {M : Type 1} → statement M
 go-spec =
