@@ -84,26 +84,20 @@ given L S M name first null cont ends C kinds budget room width R X St N F start
       before = before;
     }
 
--- the last level has its place in the lists, and its values are small
-pub record Placed (X St N F : List ℕ) (depth : ℕ) : Type 0 where
-  pub some : 0 < depth
-  pub deep : depth ≤ 16
-  pub live : 0 < getD F (depth - 1) 0
-  pub small : getD N (depth - 1) 0 + getD F (depth - 1) 0 ≤ 2049
+-- the lists are as long as they are at the start
+pub record Long (R X St N F : List ℕ) : Type 0 where
+  pub record-long : length R ≡ 32
   pub variables-long : length X ≡ 16
   pub starts-long : length St ≡ 16
   pub nexts-long : length N ≡ 16
   pub lefts-long : length F ≡ 16
 
--- one more level has its place in the lists, and its values are small
-pub record Deeper (X St N F : List ℕ) (depth lo hi : ℕ) : Type 0 where
-  pub some : lo ≤ hi
-  pub small : hi < 2048
-  pub deep : depth < 16
-  pub variables-long : length X ≡ 16
-  pub starts-long : length St ≡ 16
-  pub nexts-long : length N ≡ 16
-  pub lefts-long : length F ≡ 16
+-- the last level has its place and a value left, and its values are small
+pub record Placed (N F : List ℕ) (depth : ℕ) : Type 0 where
+  pub some : 0 < depth
+  pub deep : depth ≤ 16
+  pub live : 0 < getD F (depth - 1) 0
+  pub small : getD N (depth - 1) 0 + getD F (depth - 1) 0 ≤ 2049
 
 module _ (i : Input) where
   abbrev Asked : Term → Pattern → List Kind → List Expression → List Constraint → List ℕ → Type 0
@@ -134,11 +128,7 @@ module _ (i : Input) where
 
   -- at the loop's head
   pub record Going (out R X St N F : List ℕ) (depth cnt tries : ℕ) : Type 0 where
-    pub record-long : length R ≡ 32
-    pub variables-long : length X ≡ 16
-    pub starts-long : length St ≡ 16
-    pub nexts-long : length N ≡ 16
-    pub lefts-long : length F ≡ 16
+    pub long : Long R X St N F
     pub charged : tries ≤ i .budget
     pub each : {T : Term} {P : Pattern} {Q : List Kind} {es : List Expression} {cs : List Constraint} {vals₀ : List ℕ} (a : Asked T P Q es cs vals₀)
         → (vals : List ℕ) × Stand a out (rest (Walked (a .search)) (count Q) vals N F depth) vals N F depth cnt tries × Leveled (a .search) vals X St N F R depth
@@ -151,11 +141,7 @@ module _ (i : Input) where
 
   -- a try was made: the answer o, and the record R
   pub record Tried (out R X St N F : List ℕ) (depth cnt tries : ℕ) (o : Out) : Type 0 where
-    pub record-long : length R ≡ 32
-    pub variables-long : length X ≡ 16
-    pub starts-long : length St ≡ 16
-    pub nexts-long : length N ≡ 16
-    pub lefts-long : length F ≡ 16
+    pub long : Long R X St N F
     pub charged : tries ≤ i .budget
     pub each : {T : Term} {P : Pattern} {Q : List Kind} {es : List Expression} {cs : List Constraint} {vals₀ : List ℕ} (a : Asked T P Q es cs vals₀)
         → (vals : List ℕ) × Stand a out (ahead (Walked (a .search)) (count Q) vals N F depth) vals N F depth cnt tries
@@ -165,11 +151,13 @@ module _ {i : Input} where
   pub going-start : Pre i → Going i (i .before) (i .R) (i .X) (i .St) (i .N) (i .F) (i .start) 0 0
   going-start p =
       record {
-        record-long = p .record-long;
-        variables-long = p .variables-long;
-        starts-long = p .starts-long;
-        nexts-long = p .nexts-long;
-        lefts-long = p .lefts-long;
+        long = record {
+          record-long = p .record-long;
+          variables-long = p .variables-long;
+          starts-long = p .starts-long;
+          nexts-long = p .nexts-long;
+          lefts-long = p .lefts-long;
+        };
         charged = omega arith;
         each = λ {T} {P} {Q} {es} {cs} {vals₀} a. (
           vals₀,
@@ -189,11 +177,7 @@ module _ {i : Input} where
     pub going-back : {d : ℕ} → BackTo F depth d → Going i out R X St N F d cnt tries
     going-back b =
         record {
-          record-long = g .record-long;
-          variables-long = g .variables-long;
-          starts-long = g .starts-long;
-          nexts-long = g .nexts-long;
-          lefts-long = g .lefts-long;
+          long = g .long;
           charged = g .charged;
           each = λ {T} {P} {Q} {es} {cs} {vals₀} a.
               let h = g .each a in
@@ -227,12 +211,12 @@ module _ {i : Input} where
         let k = try-kind (a .search) (below a) (r .live) in
         let t = a .search .judging .tree in
         record {
-          long = g .record-long;
+          long = g .long .record-long;
           small = omega (arith, level-small i a (g .each a .2) (depth - 1) (omega (arith, r .some)), tree-small t);
           some = (h .0, h .1, h .2, h .3, h .4, k .0, a .search, k .1, k .2);
         }
 
-    pub placed : Pre i → Placed X St N F depth
+    pub placed : Pre i → Placed N F depth
     placed p =
         let a = p .some .6 in
         let t = a .search .judging .tree in
@@ -241,10 +225,6 @@ module _ {i : Input} where
           deep = going-depth g p;
           live = r .live;
           small = omega (arith, level-small i a (g .each a .2) (depth - 1) (omega (arith, r .some)), tree-small t);
-          variables-long = g .variables-long;
-          starts-long = g .starts-long;
-          nexts-long = g .nexts-long;
-          lefts-long = g .lefts-long;
         }
 
     pub going-try : {o : Out} {R′ N′ F′ : List ℕ} → Pre i → (tries ≡ i .budget → ⊥) → N′ ≡ set N (depth - 1) (getD N (depth - 1) 0 + 1) → F′ ≡ set F (depth - 1) (getD F (depth - 1) 0 - 1)
@@ -252,18 +232,20 @@ module _ {i : Input} where
         → Tried i out R′ X St N′ F′ depth cnt (tries + 1) o
     going-try {o} {R′} {N′} {F′} p b en ef post =
         record {
-          record-long = post .long;
-          variables-long = g .variables-long;
-          starts-long = g .starts-long;
-          nexts-long = rw en (length-set N (depth - 1) (getD N (depth - 1) 0 + 1) ∙ g .nexts-long);
-          lefts-long = rw ef (length-set F (depth - 1) (getD F (depth - 1) 0 - 1) ∙ g .lefts-long);
+          long = record {
+            record-long = post .long;
+            variables-long = g .long .variables-long;
+            starts-long = g .long .starts-long;
+            nexts-long = rw en (length-set N (depth - 1) (getD N (depth - 1) 0 + 1) ∙ g .long .nexts-long);
+            lefts-long = rw ef (length-set F (depth - 1) (getD F (depth - 1) 0 - 1) ∙ g .long .lefts-long);
+          };
           charged = omega (arith, g .charged);
           each = λ {T} {P} {Q} {es} {cs} {vals₀} a.
               let h = g .each a in
               let vals : List ℕ = set (h .0) (depth - 1) (getD N (depth - 1) 0) in
               let deep = going-depth g p in
               let e : suc (depth - 1) ≡ depth = omega (arith, r .some) in
-              let t = try-answered (a .search) (below a) (r .live) (h .1 .vals-long) (omega (arith, g .nexts-long)) (omega (arith, g .lefts-long)) post in
+              let t = try-answered (a .search) (below a) (r .live) (h .1 .vals-long) (omega (arith, g .long .nexts-long)) (omega (arith, g .long .lefts-long)) post in
               let u : Answers R′ o (walk (Allowed cs) (allowed? cs) P T (take (suc (depth - 1)) vals)) × Levels (Allowed cs) (allowed? cs) (a .search .pattern .numbered) T vals X St N′ F′ R′ (suc (depth - 1)) = rw (en, ef) t in
               let t′ : Answers R′ o (walk (Allowed cs) (allowed? cs) P T (take depth vals)) × Levels (Allowed cs) (allowed? cs) (a .search .pattern .numbered) T vals X St N′ F′ R′ depth =
               subst (λ (n : ℕ). Answers R′ o (walk (Allowed cs) (allowed? cs) P T (take n vals)) × Levels (Allowed cs) (allowed? cs) (a .search .pattern .numbered) T vals X St N′ F′ R′ n) e u in
@@ -274,11 +256,7 @@ module _ {i : Input} where
     pub tried-fail : o ≡ answer.Fail → Going i out R X St N F depth cnt tries
     tried-fail e =
         record {
-          record-long = t .record-long;
-          variables-long = t .variables-long;
-          starts-long = t .starts-long;
-          nexts-long = t .nexts-long;
-          lefts-long = t .lefts-long;
+          long = t .long;
           charged = t .charged;
           each = λ a. let h = t .each a in (h .0, at-fail (fixed i a) (h .1) (ap outcome (failed (rw e at (h .2)))), h .3);
         }
@@ -294,36 +272,30 @@ module _ {i : Input} where
           let m = tame-need (Allowed cs) (allowed? cs) T _ (a .search .pattern .numbered) (n .1) in
           (m .1, omega (arith, m .2, tree-small (a .search .judging .tree)), need-deep (fixed i a) (t .each a .1) lo (suc hi - lo) (ap outcome (n .1)) .0)
 
-      pub deeper : Pre i → Deeper X St N F depth lo hi
-      deeper p =
+      pub need-fits : Pre i → (lo ≤ hi) × (hi < 2048) × (depth < 16)
+      need-fits p =
           let a = p .some .6 in
           let n = need-small a in
-          record {
-            some = n .0;
-            small = n .1;
-            deep = omega (arith, n .2, few (p .some .2), a .search .judging .few);
-            variables-long = t .variables-long;
-            starts-long = t .starts-long;
-            nexts-long = t .nexts-long;
-            lefts-long = t .lefts-long;
-          }
+          (n .0, n .1, omega (arith, n .2, few (p .some .2), a .search .judging .few))
 
       pub tried-need : Pre i → {n : ℕ} → n ≡ hi + 1 - lo → Going i out R (set X depth x) (set St depth s) (set N depth lo) (set F depth n) (depth + 1) cnt tries
       tried-need p {n} en =
-          let q = deeper p in
+          let q = need-fits p in
           record {
-            record-long = t .record-long;
-            variables-long = length-set X depth x ∙ t .variables-long;
-            starts-long = length-set St depth s ∙ t .starts-long;
-            nexts-long = length-set N depth lo ∙ t .nexts-long;
-            lefts-long = length-set F depth n ∙ t .lefts-long;
+            long = record {
+              record-long = t .long .record-long;
+              variables-long = length-set X depth x ∙ t .long .variables-long;
+              starts-long = length-set St depth s ∙ t .long .starts-long;
+              nexts-long = length-set N depth lo ∙ t .long .nexts-long;
+              lefts-long = length-set F depth n ∙ t .long .lefts-long;
+            };
             charged = t .charged;
             each = λ {T} {P} {Q} {es} {cs} {vals₀} a.
                 let h = t .each a in
                 let b = need-said a in
                 let y : n ≡ suc hi - lo = omega arith in
-                let m = levels-need (Allowed cs) (allowed? cs) (a .search .pattern .numbered) T (h .3) (omega (arith, h .1 .vals-long)) (omega (arith, t .variables-long)) (omega (arith, t .starts-long)) (omega (arith, t .nexts-long)) (omega (arith, t .lefts-long))
-                (b .1) (q .some) (rw (b .2) (b .3)) in
+                let m = levels-need (Allowed cs) (allowed? cs) (a .search .pattern .numbered) T (h .3) (omega (arith, h .1 .vals-long)) (omega (arith, t .long .variables-long)) (omega (arith, t .long .starts-long)) (omega (arith, t .long .nexts-long)) (omega (arith, t .long .lefts-long))
+                (b .1) (q .0) (rw (b .2) (b .3)) in
                 (h .0, rw y (at-need (fixed i a) (h .1) lo (suc hi - lo) (ap outcome (b .1))), rw (y, add-one depth, ← (b .2)) m);
           }
 
@@ -343,11 +315,7 @@ module _ {i : Input} where
       pub tried-match : (cnt ≡ i .room → ⊥) → Going i (paste out (cnt * i .width) R (i .width)) R X St N F depth (cnt + 1) tries
       tried-match f =
           record {
-            record-long = t .record-long;
-            variables-long = t .variables-long;
-            starts-long = t .starts-long;
-            nexts-long = t .nexts-long;
-            lefts-long = t .lefts-long;
+            long = t .long;
             charged = t .charged;
             each = λ a.
                 let h = t .each a in

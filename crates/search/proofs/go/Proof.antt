@@ -2,10 +2,10 @@ use Prim.Native.Nat.{ℕ, _+_, _-_, _*_, _<_, _≤_}
 use native.Mathlib.Omega.{arith}
 use mathlib.Core.Path.{_≡_, refl}
 use lib.ListN.{length, getD, set}
-use Rattle.search.proofs.Turns.{Input, given, Placed, Deeper, Going, Ready, Tried}
+use Rattle.search.proofs.Turns.{Input, given, Placed, Going, Ready, Tried}
 use Rattle.search.proofs.Turns.{going-start, going-depth, going-long, going-back, going-end, going-ready, going-spent}
 use Rattle.search.proofs.Turns.{placed, attempt-asked, going-try}
-use Rattle.search.proofs.Turns.{tried-fail, deeper, tried-need, tried-full, put-asked, tried-match, tried-counted}
+use Rattle.search.proofs.Turns.{tried-fail, need-fits, tried-need, tried-full, put-asked, tried-match, tried-counted}
 use Rattle.memory.specs.Memory.{Remembers}
 use Rattle.memory.proofs.Numbers.{blank}
 use borrow.Author.Needs.{needs}
@@ -52,7 +52,7 @@ ready c = going-ready (c .before .before .before .loop .inv .0) (c .before .back
 
 level : (c : tie.Else2 Inv-loop μ-loop) →
     let l = c .before .before .before .before .loop in
-    Placed (l .variables) (l .starts) (l .nexts) (l .lefts) (c .before .before .back .result)
+    Placed (l .nexts) (l .lefts) (c .before .before .back .result)
 level c = placed (ready (c .before)) (begun (c .before .before .before .before) .pre)
 
 -- a turn that has tried the level's next value
@@ -64,14 +64,13 @@ tried : (c : tie.After-attempt Inv-loop μ-loop) →
     depth (l .count) (l .tries + 1) (c .attempt .result)
 tried c = going-try (ready (c .before .before .before .before)) (begun (head c) .pre) (c .before .before .before .if2 .left) refl refl (c .attempt .ensures .0)
 
--- the walk needs a choice: the next level
+-- the walk needs a choice: there is a place for one more level, and its values are small
 next-level : (c : tie.After-known-told Inv-loop μ-loop) →
-    let l = head (c .before .before .before) .loop in
-    let depth = c .before .before .before .before .before .before .before .before .back .result in
     let values = c .before .x .given .0 in
-    Deeper (l .variables) (l .starts) (set (l .nexts) (depth - 1) (getD (l .nexts) (depth - 1) 0 + 1))
-    (set (l .lefts) (depth - 1) (getD (l .lefts) (depth - 1) 0 - 1)) depth (values .1 .1 .0) (values .1 .1 .1 .0)
-next-level c = deeper (tried (c .before .before .before)) (c .before .x .given .1) (begun (head (c .before .before .before)) .pre)
+    let lo = values .1 .1 .0 in
+    let hi = values .1 .1 .1 .0 in
+    (lo ≤ hi) × (hi < 2048) × (c .before .before .before .before .before .before .before .before .back .result < 16)
+next-level c = need-fits (tried (c .before .before .before)) (c .before .x .given .1) (begun (head (c .before .before .before)) .pre)
 
 -- the walk is done, and there is room for the record
 room-left : (c : tie.Else3 Inv-loop μ-loop) →
@@ -84,7 +83,7 @@ loop-holds : tie.Need-loop-holds Inv-loop μ-loop
 loop-holds c = (going-start (c .before .before .before .before .before .pre), blank _ _ _ _ _ _ _ _)
 
 back-requires : tie.Need-back-requires Inv-loop μ-loop
-back-requires c κs = (going-depth (c .before .loop .inv .0) (begun (c .before) .pre), c .before .loop .inv .0 .lefts-long)
+back-requires c κs = (going-depth (c .before .loop .inv .0) (begun (c .before) .pre), c .before .loop .inv .0 .long .lefts-long)
 
 same-length : tie.Need-same-length Inv-loop μ-loop
 same-length c = kept (c .before .before .before)
@@ -217,7 +216,7 @@ mul-put : tie.Need-mul-put Inv-loop μ-loop
 mul-put c = let h = head (c .before .before .before .before) in omega (arith, room-left (c .before), kept h, begun h .good)
 
 put-requires : tie.Need-put-requires Inv-loop μ-loop
-put-requires c κs = let r = room-left (c .before .before) in (r .0, tried (c .before .before .before .before .before) .record-long, r .1)
+put-requires c κs = let r = room-left (c .before .before) in (r .0, tried (c .before .before .before .before .before) .long .record-long, r .1)
 
 add-count : tie.Need-add-count Inv-loop μ-loop
 add-count c =
