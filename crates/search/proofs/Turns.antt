@@ -227,17 +227,24 @@ module _ {i : Input} where
           small = omega (arith, level-small i a (g .each a .2) (depth - 1) (omega (arith, r .some)), tree-small t);
         }
 
-    pub going-try : {o : Out} {R′ N′ F′ : List ℕ} → Pre i → (tries ≡ i .budget → ⊥) → N′ ≡ set N (depth - 1) (getD N (depth - 1) 0 + 1) → F′ ≡ set F (depth - 1) (getD F (depth - 1) 0 - 1)
+    -- the level's next value, and how many are left after it
+    abbrev N′ : List ℕ
+    N′ = set N (depth - 1) (getD N (depth - 1) 0 + 1)
+
+    abbrev F′ : List ℕ
+    F′ = set F (depth - 1) (getD F (depth - 1) 0 - 1)
+
+    pub going-try : {o : Out} {R′ : List ℕ} → Pre i → (tries ≡ i .budget → ⊥)
         → AttemptPost (i .L) (i .S) (i .M) (i .name) (i .first) (i .null) (i .cont) (i .ends) (i .C) (i .kinds) R (getD X (depth - 1) 0) (getD St (depth - 1) 0) (getD N (depth - 1) 0) o R′
         → Tried i out R′ X St N′ F′ depth cnt (tries + 1) o
-    going-try {o} {R′} {N′} {F′} p b en ef post =
+    going-try {o} {R′} p b post =
         record {
           long = record {
             record-long = post .long;
             variables-long = g .long .variables-long;
             starts-long = g .long .starts-long;
-            nexts-long = rw en (length-set N (depth - 1) (getD N (depth - 1) 0 + 1) ∙ g .long .nexts-long);
-            lefts-long = rw ef (length-set F (depth - 1) (getD F (depth - 1) 0 - 1) ∙ g .long .lefts-long);
+            nexts-long = length-set N (depth - 1) (getD N (depth - 1) 0 + 1) ∙ g .long .nexts-long;
+            lefts-long = length-set F (depth - 1) (getD F (depth - 1) 0 - 1) ∙ g .long .lefts-long;
           };
           charged = omega (arith, g .charged);
           each = λ {T} {P} {Q} {es} {cs} {vals₀} a.
@@ -246,10 +253,9 @@ module _ {i : Input} where
               let deep = going-depth g p in
               let e : suc (depth - 1) ≡ depth = omega (arith, r .some) in
               let t = try-answered (a .search) (below a) (r .live) (h .1 .vals-long) (omega (arith, g .long .nexts-long)) (omega (arith, g .long .lefts-long)) post in
-              let u : Answers R′ o (walk (Allowed cs) (allowed? cs) P T (take (suc (depth - 1)) vals)) × Levels (Allowed cs) (allowed? cs) (a .search .pattern .numbered) T vals X St N′ F′ R′ (suc (depth - 1)) = rw (en, ef) t in
-              let t′ : Answers R′ o (walk (Allowed cs) (allowed? cs) P T (take depth vals)) × Levels (Allowed cs) (allowed? cs) (a .search .pattern .numbered) T vals X St N′ F′ R′ depth =
-              subst (λ (n : ℕ). Answers R′ o (walk (Allowed cs) (allowed? cs) P T (take n vals)) × Levels (Allowed cs) (allowed? cs) (a .search .pattern .numbered) T vals X St N′ F′ R′ n) e u in
-              (vals, at-next (fixed i a) (h .1) (r .some) (r .live) b vals N′ F′ refl en ef, t′ .0, t′ .1);
+              let t′ : Answers R′ o (walk (Allowed cs) (allowed? cs) P T (take depth vals)) × Leveled (a .search) vals X St N′ F′ R′ depth =
+              subst (λ (n : ℕ). Answers R′ o (walk (Allowed cs) (allowed? cs) P T (take n vals)) × Leveled (a .search) vals X St N′ F′ R′ n) e t in
+              (vals, at-next (fixed i a) (h .1) (r .some) (r .live) b vals N′ F′ refl refl refl, t′ .0, t′ .1);
         }
 
   module _ {out R X St N F : List ℕ} {depth cnt tries : ℕ} {o : Out} (t : Tried i out R X St N F depth cnt tries o) where

@@ -62,7 +62,7 @@ tried : (c : tie.After-attempt Inv-loop μ-loop) →
     Tried (input (begun (head c))) (l .out) (c .attempt .last .1 .1 .1 .1 .1 .1 .1 .1 .1 .1 .0) (l .variables) (l .starts)
     (set (l .nexts) (depth - 1) (getD (l .nexts) (depth - 1) 0 + 1)) (set (l .lefts) (depth - 1) (getD (l .lefts) (depth - 1) 0 - 1))
     depth (l .count) (l .tries + 1) (c .attempt .result)
-tried c = going-try (ready (c .before .before .before .before)) (begun (head c) .pre) (c .before .before .before .if2 .left) refl refl (c .attempt .ensures .0)
+tried c = going-try (ready (c .before .before .before .before)) (begun (head c) .pre) (c .before .before .before .if2 .left) (c .attempt .ensures .0)
 
 -- the walk needs a choice: there is a place for one more level, and its values are small
 next-level : (c : tie.After-known-told Inv-loop μ-loop) →
