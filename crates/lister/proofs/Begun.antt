@@ -37,7 +37,8 @@ pub record Begun (L S M name first : List ℕ) (null : List Bool) (cont : List �
   pub walked : WalkPost L S M R 0 o R′
 
 module _ {L S M name first : List ℕ} {null : List Bool} {cont : List ℕ} {ends : List Bool} {C kinds : List ℕ} {room width : ℕ} {before : List ℕ} where
-  module _ {T : Term} {P : Pattern} {Q : List Kind} {es : List Expression} {cs : List Constraint} (a : BeginAsked L S M name first null cont ends C kinds room width before T P Q es cs) where
+  module _ {T : Term} {P : Pattern} {Q : List Kind} {es : List Expression} {cs : List Constraint}
+      (a : BeginAsked L S M name first null cont ends C kinds room width before T P Q es cs) where
     fixed : Fixed (walked (Allowed cs) (allowed? cs) (a .search .pattern .numbered) T) (count Q) (size T) width room before
     fixed = is-fixed (a .search) (a .wide) (a .fits)
 
@@ -66,9 +67,10 @@ module _ {L S M name first : List ℕ} {null : List Bool} {cont : List ℕ} {end
 
     answers : {T : Term} {P : Pattern} {Q : List Kind} {es : List Expression} {cs : List Constraint} (a : Asked T P Q es cs) → Answers R′ o (walk (Allowed cs) (allowed? cs) P T [])
     answers {T} {P} {Q} {es} {cs} a =
-        rw (first-free (Allowed cs) (allowed? cs) Q (individuals (a .search)) (functions (a .search)) (a .search .pattern .numbered) T) (b .walked .is T P Q (problem a (b .long)) .0)
+        rw (first-free (Allowed cs) (allowed? cs) Q (individuals (a .search)) (functions (a .search)) (a .search .pattern .numbered) T)
+        (b .walked .is T P Q (problem a (b .long)) .0)
 
-    pub walked-long : length R′ ≡ 32
+    walked-long : length R′ ≡ 32
     walked-long = let s = b .pre .some in b .walked .is (s .0) (s .1) (s .2) (problem (s .5) (b .long)) .1 .long ∙ b .long
 
     pub begun-fail : {budget : ℕ} → o ≡ answer.Fail → Post budget (record { ending = 0; records = 0; tries = 0 }) before
@@ -109,19 +111,20 @@ module _ {L S M name first : List ℕ} {null : List Bool} {cont : List ℕ} {end
       asked : {T : Term} {P : Pattern} {Q : List Kind} {es : List Expression} {cs : List Constraint} (a : Asked T P Q es cs)
           → GoAsked L S M name first null cont ends C kinds room width R′ (level x) (level s) (level lo) (level (hi + 1 - lo)) 1 before T P Q es cs (replicate 16 0)
       asked {T} {P} {Q} {es} {cs} a =
-          let b′ = need-said a in
+          let d = need-said a in
           let y : hi + 1 - lo ≡ suc hi - lo = omega arith in
           let none : List ℕ = replicate 16 0 in
           let z : Levels (Allowed cs) (allowed? cs) (a .search .pattern .numbered) T none none none none none R′ 0 =
           record { room = omega (arith, walked-long, a .search .judging .few); long = omega arith; each = λ k l. absurd (omega arith); made = λ k l. absurd (omega arith) } in
-          let m = levels-need (Allowed cs) (allowed? cs) (a .search .pattern .numbered) T z (omega arith) (omega arith) (omega arith) (omega arith) (omega arith) (b′ .1) (need-fits .0) (rw (b′ .2) (b′ .3)) in
+          let m = levels-need (Allowed cs) (allowed? cs) (a .search .pattern .numbered) T z (omega arith) (omega arith) (omega arith) (omega arith) (omega arith)
+          (d .1) (need-fits .0) (rw (d .2) (d .3)) in
           record {
             search = a .search;
             wide = a .wide;
             fits = a .fits;
             vals-long = refl;
-            deep = omega (arith, first-deep (fixed a) lo (suc hi - lo) (ap outcome (b′ .1)));
-            levels = rw (y, ← (b′ .2)) m;
+            deep = omega (arith, first-deep (fixed a) lo (suc hi - lo) (ap outcome (d .1)));
+            levels = rw (y, ← (d .2)) m;
           }
 
       pub go-asked : GoPre L S M name first null cont ends C kinds room width R′ (level x) (level s) (level lo) (level (hi + 1 - lo)) 1 before

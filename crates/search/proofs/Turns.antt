@@ -24,7 +24,7 @@ use Rattle.walk.proofs.Answered.{failed, needed, matched}
 use Rattle.listing.proofs.Events as events
 use Rattle.listing.proofs.Back.{BackTo}
 use Rattle.listing.proofs.Fill.{Filled, fill, rest, ahead}
-use Rattle.listing.proofs.Levels.{Levels, levels-back, levels-need}
+use Rattle.listing.proofs.Levels.{levels-back, levels-need}
 use Rattle.listing.proofs.Loop.{Fixed, At, at-rest, at-back, all-done, at-spent, at-next, at-fail, at-need, at-match, no-room, room-left, need-deep}
 use Rattle.listing.proofs.Whole.{outcome}
 use Rattle.search.specs.Search.{AttemptPre, AttemptPost, GoAsked, GoPre, GoPost}
@@ -35,7 +35,8 @@ pub tree-small : {L S : List ℕ} {T : Term} → GoodTree L S T → size T ≤ 2
 unfolding rows
 tree-small t = omega (arith, t .few, good-lengths t)
 
--- what the search is given
+-- what the search is given, in the order of its parameters: the tree, the packed pattern, the tables, the limits, and then
+-- the record and the levels as they stand, with the list that is to be filled
 pub record Input : Type 0 where
   pub L : List ℕ
   pub S : List ℕ
@@ -59,7 +60,8 @@ pub record Input : Type 0 where
   pub before : List ℕ
 
 abbrev pub given :
-    (L S M name first : List ℕ) (null : List Bool) (cont : List ℕ) (ends : List Bool) (C kinds : List ℕ) (budget room width : ℕ) (R X St N F : List ℕ) (start : ℕ) (before : List ℕ) → Input
+    (L S M name first : List ℕ) (null : List Bool) (cont : List ℕ) (ends : List Bool) (C kinds : List ℕ) (budget room width : ℕ)
+    (R X St N F : List ℕ) (start : ℕ) (before : List ℕ) → Input
 given L S M name first null cont ends C kinds budget room width R X St N F start before =
     record {
       L = L;
@@ -101,13 +103,19 @@ pub record Placed (N F : List ℕ) (depth : ℕ) : Type 0 where
 
 module _ (i : Input) where
   abbrev Asked : Term → Pattern → List Kind → List Expression → List Constraint → List ℕ → Type 0
-  Asked T P Q es cs vals = GoAsked (i .L) (i .S) (i .M) (i .name) (i .first) (i .null) (i .cont) (i .ends) (i .C) (i .kinds) (i .room) (i .width) (i .R) (i .X) (i .St) (i .N) (i .F) (i .start) (i .before) T P Q es cs vals
+  Asked T P Q es cs vals =
+      GoAsked (i .L) (i .S) (i .M) (i .name) (i .first) (i .null) (i .cont) (i .ends) (i .C) (i .kinds) (i .room) (i .width)
+      (i .R) (i .X) (i .St) (i .N) (i .F) (i .start) (i .before) T P Q es cs vals
 
   abbrev Post : Found → List ℕ → Type 0
-  Post r after = GoPost (i .L) (i .S) (i .M) (i .name) (i .first) (i .null) (i .cont) (i .ends) (i .C) (i .kinds) (i .budget) (i .room) (i .width) (i .R) (i .X) (i .St) (i .N) (i .F) (i .start) (i .before) r after
+  Post r after =
+      GoPost (i .L) (i .S) (i .M) (i .name) (i .first) (i .null) (i .cont) (i .ends) (i .C) (i .kinds) (i .budget) (i .room) (i .width)
+      (i .R) (i .X) (i .St) (i .N) (i .F) (i .start) (i .before) r after
 
   abbrev Pre : Type 0
-  Pre = GoPre (i .L) (i .S) (i .M) (i .name) (i .first) (i .null) (i .cont) (i .ends) (i .C) (i .kinds) (i .room) (i .width) (i .R) (i .X) (i .St) (i .N) (i .F) (i .start) (i .before)
+  Pre =
+      GoPre (i .L) (i .S) (i .M) (i .name) (i .first) (i .null) (i .cont) (i .ends) (i .C) (i .kinds) (i .room) (i .width)
+      (i .R) (i .X) (i .St) (i .N) (i .F) (i .start) (i .before)
 
   module _ {T : Term} {P : Pattern} {Q : List Kind} {es : List Expression} {cs : List Constraint} {vals₀ : List ℕ} (a : Asked T P Q es cs vals₀) where
     -- all that the search comes to, by its events
@@ -117,9 +125,10 @@ module _ (i : Input) where
     fixed : Fixed (Walked (a .search)) (count Q) (size T) (i .width) (i .room) (i .before)
     fixed = is-fixed (a .search) (a .wide) (a .fits)
 
-    -- the loop goes on from here: events es are left
+    -- the loop goes on from here with the events that are left
     abbrev Stand : List ℕ → List events.Event → List ℕ → List ℕ → List ℕ → ℕ → ℕ → ℕ → Type 0
-    Stand out left vals N F depth cnt tries = At (Walked (a .search)) (count Q) (size T) (i .width) (i .budget) (i .room) (i .before) total left out vals N F depth cnt tries
+    Stand out left vals N F depth cnt tries =
+        At (Walked (a .search)) (count Q) (size T) (i .width) (i .budget) (i .room) (i .before) total left out vals N F depth cnt tries
 
     level-small : {vals X St N F R : List ℕ} {depth : ℕ} → Leveled (a .search) vals X St N F R depth → (k : ℕ) → k < depth → getD N k 0 + getD F k 0 ≤ size T
     level-small lv k l =
@@ -199,12 +208,14 @@ module _ {i : Input} where
     pub going-spent : tries ≡ i .budget → Post i (record { ending = 2; records = cnt; tries = tries }) out
     going-spent e = record { all = λ T P Q es cs vals a. at-spent (fixed i a) (g .each a .1) (r .some) (r .live) e }
 
-    below : {T : Term} {P : Pattern} {Q : List Kind} {es : List Expression} {cs : List Constraint} {vals₀ : List ℕ} (a : Asked i T P Q es cs vals₀) → Leveled (a .search) (g .each a .0) X St N F R (suc (depth - 1))
+    below : {T : Term} {P : Pattern} {Q : List Kind} {es : List Expression} {cs : List Constraint} {vals₀ : List ℕ} (a : Asked i T P Q es cs vals₀)
+        → Leveled (a .search) (g .each a .0) X St N F R (suc (depth - 1))
     below {T} {P} {Q} {es} {cs} a =
         let e : depth ≡ suc (depth - 1) = omega (arith, r .some) in
-        subst (λ (n : ℕ). Levels (Allowed cs) (allowed? cs) (a .search .pattern .numbered) T (g .each a .0) X St N F R n) e (g .each a .2)
+        subst (λ (n : ℕ). Leveled (a .search) (g .each a .0) X St N F R n) e (g .each a .2)
 
-    pub attempt-asked : Pre i → AttemptPre (i .L) (i .S) (i .M) (i .name) (i .first) (i .null) (i .cont) (i .ends) (i .C) (i .kinds) R (getD X (depth - 1) 0) (getD St (depth - 1) 0) (getD N (depth - 1) 0)
+    pub attempt-asked : Pre i
+        → AttemptPre (i .L) (i .S) (i .M) (i .name) (i .first) (i .null) (i .cont) (i .ends) (i .C) (i .kinds) R (getD X (depth - 1) 0) (getD St (depth - 1) 0) (getD N (depth - 1) 0)
     attempt-asked p =
         let h = p .some in
         let a = h .6 in
@@ -272,7 +283,8 @@ module _ {i : Input} where
           → (B : List Entry) × (walk (Allowed cs) (allowed? cs) P T (take depth (t .each a .0)) ≡ need B s lo hi) × (length B ≡ x) × (take (x + x) R ≡ numbers B)
       need-said a = needed (rw e at (t .each a .2))
 
-      need-small : {T : Term} {P : Pattern} {Q : List Kind} {es : List Expression} {cs : List Constraint} {vals₀ : List ℕ} (a : Asked i T P Q es cs vals₀) → (lo ≤ hi) × (hi < 2048) × (depth < count Q)
+      need-small : {T : Term} {P : Pattern} {Q : List Kind} {es : List Expression} {cs : List Constraint} {vals₀ : List ℕ} (a : Asked i T P Q es cs vals₀)
+          → (lo ≤ hi) × (hi < 2048) × (depth < count Q)
       need-small {T} {cs = cs} a =
           let n = need-said a in
           let m = tame-need (Allowed cs) (allowed? cs) T _ (a .search .pattern .numbered) (n .1) in
@@ -300,8 +312,8 @@ module _ {i : Input} where
                 let h = t .each a in
                 let b = need-said a in
                 let y : n ≡ suc hi - lo = omega arith in
-                let m = levels-need (Allowed cs) (allowed? cs) (a .search .pattern .numbered) T (h .3) (omega (arith, h .1 .vals-long)) (omega (arith, t .long .variables-long)) (omega (arith, t .long .starts-long)) (omega (arith, t .long .nexts-long)) (omega (arith, t .long .lefts-long))
-                (b .1) (q .0) (rw (b .2) (b .3)) in
+                let m = levels-need (Allowed cs) (allowed? cs) (a .search .pattern .numbered) T (h .3) (omega (arith, h .1 .vals-long)) (omega (arith, t .long .variables-long))
+                (omega (arith, t .long .starts-long)) (omega (arith, t .long .nexts-long)) (omega (arith, t .long .lefts-long)) (b .1) (q .0) (rw (b .2) (b .3)) in
                 (h .0, rw y (at-need (fixed i a) (h .1) lo (suc hi - lo) (ap outcome (b .1))), rw (y, add-one depth, ← (b .2)) m);
           }
 

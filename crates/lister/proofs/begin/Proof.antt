@@ -53,7 +53,9 @@ returns : tie.Need-returns
 returns c = begun-full (begun (c .before .before .before .before)) (c .before .enum-told2 .given .1) (c .if1 .taken)
 
 put-requires : tie.Need-put-requires
-put-requires c κs = begun-put (begun (c .before .before .before .before .before .before)) (c .before .before .before .enum-told2 .given .1) (c .before .before .if1 .left)
+put-requires c κs =
+    let c₂ = c .before .before in
+    begun-put (begun (c₂ .before .before .before .before)) (c₂ .before .enum-told2 .given .1) (c₂ .if1 .left)
 
 returns-2 : tie.Need-returns-2
 returns-2 c = begun-fail (begun (c .before .before .before)) (c .enum-told .given .1)
@@ -62,7 +64,9 @@ same-length : tie.Need-same-length
 same-length c = search needs
 
 returns-3 : tie.Need-returns-3
-returns-3 c = begun-need (begun (c .before .before .before .before .before .before .before .before)) (c .before .before .before .before .before .x .given .1) (c .before .before .go .ensures)
+returns-3 c =
+    let c₅ = c .before .before .before .before .before in
+    begun-need (begun (c₅ .before .before .before)) (c₅ .x .given .1) (c .before .before .go .ensures)
 
 same-length-2 : tie.Need-same-length-2
 same-length-2 c = search needs
