@@ -30,7 +30,8 @@ use Rattle.search.proofs.Turns.{tree-small}
 use Rattle.lister.specs.Begun.{BeginAsked, BeginPre, BeginPost}
 
 -- the first walk was made: its answer o, and the record R′
-pub record Begun (L S M name first : List ℕ) (null : List Bool) (cont : List ℕ) (ends : List Bool) (C kinds : List ℕ) (room width : ℕ) (before R′ : List ℕ) (o : Out) : Type 0 where
+pub record Begun (L S M name first : List ℕ) (null : List Bool) (cont : List ℕ) (ends : List Bool) (C kinds : List ℕ)
+    (room width : ℕ) (before R′ : List ℕ) (o : Out) : Type 0 where
   pub R : List ℕ
   pub long : length R ≡ 32
   pub pre : BeginPre L S M name first null cont ends C kinds room width before
@@ -65,7 +66,8 @@ module _ {L S M name first : List ℕ} {null : List Bool} {cont : List ℕ} {end
     abbrev Post : ℕ → Found → List ℕ → Type 0
     Post budget = BeginPost L S M name first null cont ends C kinds budget room width before
 
-    answers : {T : Term} {P : Pattern} {Q : List Kind} {es : List Expression} {cs : List Constraint} (a : Asked T P Q es cs) → Answers R′ o (walk (Allowed cs) (allowed? cs) P T [])
+    answers : {T : Term} {P : Pattern} {Q : List Kind} {es : List Expression} {cs : List Constraint} (a : Asked T P Q es cs)
+        → Answers R′ o (walk (Allowed cs) (allowed? cs) P T [])
     answers {T} {P} {Q} {es} {cs} a =
         rw (first-free (Allowed cs) (allowed? cs) Q (individuals (a .search)) (functions (a .search)) (a .search .pattern .numbered) T)
         (b .walked .is T P Q (problem a (b .long)) .0)
@@ -140,7 +142,8 @@ module _ {L S M name first : List ℕ} {null : List Bool} {cont : List ℕ} {end
           }
 
       pub begun-need : {budget : ℕ} {r : Found} {after : List ℕ}
-          → GoPost L S M name first null cont ends C kinds budget room width R′ (level x) (level s) (level lo) (level (hi + 1 - lo)) 1 before r after → Post budget r after
+          → GoPost L S M name first null cont ends C kinds budget room width R′ (level x) (level s) (level lo) (level (hi + 1 - lo)) 1 before r after
+          → Post budget r after
       begun-need {budget} post =
           record {
             all = λ T P Q es cs a.

@@ -86,7 +86,7 @@ given L S M name first null cont ends C kinds budget room width R X St N F start
       before = before;
     }
 
--- the lists are as long as they are at the start
+-- the lengths that the record and the levels' lists keep
 pub record Long (R X St N F : List ℕ) : Type 0 where
   pub record-long : length R ≡ 32
   pub variables-long : length X ≡ 16
@@ -210,12 +210,13 @@ module _ {i : Input} where
 
     below : {T : Term} {P : Pattern} {Q : List Kind} {es : List Expression} {cs : List Constraint} {vals₀ : List ℕ} (a : Asked i T P Q es cs vals₀)
         → Leveled (a .search) (g .each a .0) X St N F R (suc (depth - 1))
-    below {T} {P} {Q} {es} {cs} a =
+    below a =
         let e : depth ≡ suc (depth - 1) = omega (arith, r .some) in
         subst (λ (n : ℕ). Leveled (a .search) (g .each a .0) X St N F R n) e (g .each a .2)
 
     pub attempt-asked : Pre i
-        → AttemptPre (i .L) (i .S) (i .M) (i .name) (i .first) (i .null) (i .cont) (i .ends) (i .C) (i .kinds) R (getD X (depth - 1) 0) (getD St (depth - 1) 0) (getD N (depth - 1) 0)
+        → AttemptPre (i .L) (i .S) (i .M) (i .name) (i .first) (i .null) (i .cont) (i .ends) (i .C) (i .kinds) R
+        (getD X (depth - 1) 0) (getD St (depth - 1) 0) (getD N (depth - 1) 0)
     attempt-asked p =
         let h = p .some in
         let a = h .6 in
@@ -238,7 +239,7 @@ module _ {i : Input} where
           small = omega (arith, level-small i a (g .each a .2) (depth - 1) (omega (arith, r .some)), tree-small t);
         }
 
-    -- the level's next value, and how many are left after it
+    -- the levels' lists once the last level's next value is taken
     abbrev N′ : List ℕ
     N′ = set N (depth - 1) (getD N (depth - 1) 0 + 1)
 
@@ -246,7 +247,8 @@ module _ {i : Input} where
     F′ = set F (depth - 1) (getD F (depth - 1) 0 - 1)
 
     pub going-try : {o : Out} {R′ : List ℕ} → Pre i → (tries ≡ i .budget → ⊥)
-        → AttemptPost (i .L) (i .S) (i .M) (i .name) (i .first) (i .null) (i .cont) (i .ends) (i .C) (i .kinds) R (getD X (depth - 1) 0) (getD St (depth - 1) 0) (getD N (depth - 1) 0) o R′
+        → AttemptPost (i .L) (i .S) (i .M) (i .name) (i .first) (i .null) (i .cont) (i .ends) (i .C) (i .kinds) R
+        (getD X (depth - 1) 0) (getD St (depth - 1) 0) (getD N (depth - 1) 0) o R′
         → Tried i out R′ X St N′ F′ depth cnt (tries + 1) o
     going-try {o} {R′} p b post =
         record {
