@@ -1,9 +1,9 @@
 -- The first walk, before any choice, and what the search begins with.
 use Prim.Native.Nat.{ℕ, suc, _+_, _-_, _<_, _≤_}
-use mathlib.Core.Path.{_≡_, ap, _∙_}
+use mathlib.Core.Path.{_≡_, refl, ap, _∙_}
 use mathlib.Core.Bool.{Bool}
 use mathlib.Core.List.{List, []}
-use lib.ListN.{length, take, set, length-set}
+use lib.ListN.{length, take, set, replicate}
 use lib.Seq.{paste}
 use native.Mathlib.Omega.{arith}
 use Rattle.meaning.specs.Forest.{Term, size}
@@ -29,17 +29,17 @@ use Rattle.search.proofs.Going.{is-fixed, individuals, functions}
 use Rattle.search.proofs.Turns.{tree-small}
 use Rattle.lister.specs.Begun.{BeginAsked, BeginPre, BeginPost}
 
-module _ (L S M name first : List ℕ) (null : List Bool) (cont : List ℕ) (ends : List Bool) (C kinds : List ℕ) (budget room width : ℕ) (before : List ℕ) where
-  abbrev Asked : Term → Pattern → List Kind → List Expression → List Constraint → Type 0
-  Asked = BeginAsked L S M name first null cont ends C kinds room width before
+-- the first walk was made: its answer o, and the record R′
+pub record Begun (L S M name first : List ℕ) (null : List Bool) (cont : List ℕ) (ends : List Bool) (C kinds : List ℕ)
+    (room width : ℕ) (before R′ : List ℕ) (o : Out) : Type 0 where
+  pub R : List ℕ
+  pub long : length R ≡ 32
+  pub pre : BeginPre L S M name first null cont ends C kinds room width before
+  pub walked : WalkPost L S M R 0 o R′
 
-  abbrev Pre : Type 0
-  Pre = BeginPre L S M name first null cont ends C kinds room width before
-
-  abbrev Post : Found → List ℕ → Type 0
-  Post = BeginPost L S M name first null cont ends C kinds budget room width before
-
-  module _ {T : Term} {P : Pattern} {Q : List Kind} {es : List Expression} {cs : List Constraint} (a : Asked T P Q es cs) where
+module _ {L S M name first : List ℕ} {null : List Bool} {cont : List ℕ} {ends : List Bool} {C kinds : List ℕ} {room width : ℕ} {before : List ℕ} where
+  module _ {T : Term} {P : Pattern} {Q : List Kind} {es : List Expression} {cs : List Constraint}
+      (a : BeginAsked L S M name first null cont ends C kinds room width before T P Q es cs) where
     fixed : Fixed (walked (Allowed cs) (allowed? cs) (a .search .pattern .numbered) T) (count Q) (size T) width room before
     fixed = is-fixed (a .search) (a .wide) (a .fits)
 
@@ -56,82 +56,99 @@ module _ (L S M name first : List ℕ) (null : List Bool) (cont : List ℕ) (end
           room = omega (arith, a .search .judging .few);
         }
 
-  pub first-asked : {R : List ℕ} → Pre → length R ≡ 32 → WalkPre L S M R 0
+  pub first-asked : {R : List ℕ} → BeginPre L S M name first null cont ends C kinds room width before → length R ≡ 32 → WalkPre L S M R 0
   first-asked p h = let s = p .some in record { some = (s .0, s .1, s .2, problem (s .5) h) }
 
-  module _ {R R′ : List ℕ} {o : Out} (long : length R ≡ 32) (post : WalkPost L S M R 0 o R′) where
-    answers : {T : Term} {P : Pattern} {Q : List Kind} {es : List Expression} {cs : List Constraint} (a : Asked T P Q es cs) → Answers R′ o (walk (Allowed cs) (allowed? cs) P T [])
+  module _ {R′ : List ℕ} {o : Out} (b : Begun L S M name first null cont ends C kinds room width before R′ o) where
+    abbrev Asked : Term → Pattern → List Kind → List Expression → List Constraint → Type 0
+    Asked = BeginAsked L S M name first null cont ends C kinds room width before
+
+    abbrev Post : ℕ → Found → List ℕ → Type 0
+    Post budget = BeginPost L S M name first null cont ends C kinds budget room width before
+
+    answers : {T : Term} {P : Pattern} {Q : List Kind} {es : List Expression} {cs : List Constraint} (a : Asked T P Q es cs)
+        → Answers R′ o (walk (Allowed cs) (allowed? cs) P T [])
     answers {T} {P} {Q} {es} {cs} a =
-        rw (first-free (Allowed cs) (allowed? cs) Q (individuals (a .search)) (functions (a .search)) (a .search .pattern .numbered) T) (post .is T P Q (problem a long) .0)
+        rw (first-free (Allowed cs) (allowed? cs) Q (individuals (a .search)) (functions (a .search)) (a .search .pattern .numbered) T)
+        (b .walked .is T P Q (problem a (b .long)) .0)
 
-    pub walked-long : Pre → length R′ ≡ 32
-    walked-long p = let s = p .some in post .is (s .0) (s .1) (s .2) (problem (s .5) long) .1 .long ∙ long
+    walked-long : length R′ ≡ 32
+    walked-long = let s = b .pre .some in b .walked .is (s .0) (s .1) (s .2) (problem (s .5) (b .long)) .1 .long ∙ b .long
 
-    pub begun-fail : o ≡ answer.Fail → Post (record { ending = 0; records = 0; tries = 0 }) before
-    begun-fail e = record { all = λ T P Q es cs a. first-fail (fixed a) budget (ap outcome (failed (rw e at (answers a)))) }
+    pub begun-fail : {budget : ℕ} → o ≡ answer.Fail → Post budget (record { ending = 0; records = 0; tries = 0 }) before
+    begun-fail {budget} e = record { all = λ T P Q es cs a. first-fail (fixed a) budget (ap outcome (failed (rw e at (answers a)))) }
 
     module _ {n : ℕ} (e : o ≡ answer.Ok n) where
       said : {T : Term} {P : Pattern} {Q : List Kind} {es : List Expression} {cs : List Constraint} (a : Asked T P Q es cs)
           → (B : List Entry) × (walk (Allowed cs) (allowed? cs) P T [] ≡ ok B []) × (take (length (numbers B)) R′ ≡ numbers B)
       said a = matched (rw e at (answers a))
 
-      pub begun-full : room ≡ 0 → Post (record { ending = 1; records = 0; tries = 0 }) before
-      begun-full f = record { all = λ T P Q es cs a. let d = said a in first-full (fixed a) budget (numbers (d .0)) (ap outcome (d .1)) f }
+      pub begun-full : {budget : ℕ} → room ≡ 0 → Post budget (record { ending = 1; records = 0; tries = 0 }) before
+      begun-full {budget} f = record { all = λ T P Q es cs a. let d = said a in first-full (fixed a) budget (numbers (d .0)) (ap outcome (d .1)) f }
 
-      pub begun-put : Pre → (room ≡ 0 → ⊥) → (width ≤ 32) × (0 + width ≤ length before)
-      begun-put p f = let a = p .some .5 in (omega (arith, a .wide, a .search .judging .few), omega (arith, first-room (fixed a) f))
+      pub begun-put : (room ≡ 0 → ⊥) → (width ≤ 32) × (length R′ ≡ 32) × (0 + width ≤ length before)
+      begun-put f =
+          let a = b .pre .some .5 in
+          (omega (arith, a .wide, a .search .judging .few), walked-long, omega (arith, first-room (fixed a) f))
 
-      pub begun-done : (room ≡ 0 → ⊥) → Post (record { ending = 0; records = 1; tries = 0 }) (paste before 0 R′ width)
-      begun-done f = record { all = λ T P Q es cs a. let d = said a in first-done (fixed a) budget (numbers (d .0)) R′ (ap outcome (d .1)) (d .2) f }
+      pub begun-done : {budget : ℕ} → (room ≡ 0 → ⊥) → Post budget (record { ending = 0; records = 1; tries = 0 }) (paste before 0 R′ width)
+      begun-done {budget} f = record { all = λ T P Q es cs a. let d = said a in first-done (fixed a) budget (numbers (d .0)) R′ (ap outcome (d .1)) (d .2) f }
 
     module _ {x s lo hi : ℕ} (e : o ≡ answer.Need x s lo hi) where
       need-said : {T : Term} {P : Pattern} {Q : List Kind} {es : List Expression} {cs : List Constraint} (a : Asked T P Q es cs)
           → (B : List Entry) × (walk (Allowed cs) (allowed? cs) P T [] ≡ need B s lo hi) × (length B ≡ x) × (take (x + x) R′ ≡ numbers B)
       need-said a = needed (rw e at (answers a))
 
-      pub need-fits : Pre → (lo ≤ hi) × (hi < 2048)
-      need-fits p =
-          let a = p .some .5 in
-          let m = tame-need (Allowed (p .some .4)) (allowed? (p .some .4)) (p .some .0) _ (a .search .pattern .numbered) (need-said a .1) in
+      pub need-fits : (lo ≤ hi) × (hi < 2048)
+      need-fits =
+          let p = b .pre .some in
+          let a = p .5 in
+          let m = tame-need (Allowed (p .4)) (allowed? (p .4)) (p .0) _ (a .search .pattern .numbered) (need-said a .1) in
           (m .1, omega (arith, m .2, tree-small (a .search .judging .tree)))
 
-      module _ (vals X St N F : List ℕ) (lv : length vals ≡ 16) (lx : length X ≡ 16) (ls : length St ≡ 16) (ln : length N ≡ 16) (lf : length F ≡ 16) where
-        asked : {T : Term} {P : Pattern} {Q : List Kind} {es : List Expression} {cs : List Constraint} (a : Asked T P Q es cs) (p : Pre)
-            → GoAsked L S M name first null cont ends C kinds room width R′ (set X 0 x) (set St 0 s) (set N 0 lo) (set F 0 (hi + 1 - lo)) 1 before T P Q es cs vals
-        asked {T} {P} {Q} {es} {cs} a p =
-            let b = need-said a in
-            let y : hi + 1 - lo ≡ suc hi - lo = omega arith in
-            let z : Levels (Allowed cs) (allowed? cs) (a .search .pattern .numbered) T vals X St N F R′ 0 =
-            record { room = omega (arith, walked-long p, a .search .judging .few); long = omega arith; each = λ k l. absurd (omega arith); made = λ k l. absurd (omega arith) } in
-            let m = levels-need (Allowed cs) (allowed? cs) (a .search .pattern .numbered) T z (omega arith) (omega arith) (omega arith) (omega arith) (omega arith) (b .1) (need-fits p .0) (rw (b .2) (b .3)) in
-            record {
-              search = a .search;
-              wide = a .wide;
-              fits = a .fits;
-              vals-long = lv;
-              deep = omega (arith, first-deep (fixed a) lo (suc hi - lo) (ap outcome (b .1)));
-              levels = rw (y, ← (b .2)) m;
-            }
+      -- the levels' lists with the first level in them
+      abbrev level : ℕ → List ℕ
+      level k = set (replicate 16 0) 0 k
 
-        pub go-asked : Pre → GoPre L S M name first null cont ends C kinds room width R′ (set X 0 x) (set St 0 s) (set N 0 lo) (set F 0 (hi + 1 - lo)) 1 before
-        go-asked p =
-            let h = p .some in
-            record {
-              record-long = walked-long p;
-              variables-long = length-set X 0 x ∙ lx;
-              starts-long = length-set St 0 s ∙ ls;
-              nexts-long = length-set N 0 lo ∙ ln;
-              lefts-long = length-set F 0 (hi + 1 - lo) ∙ lf;
-              some = (h .0, h .1, h .2, h .3, h .4, vals, asked (h .5) p);
-            }
+      asked : {T : Term} {P : Pattern} {Q : List Kind} {es : List Expression} {cs : List Constraint} (a : Asked T P Q es cs)
+          → GoAsked L S M name first null cont ends C kinds room width R′ (level x) (level s) (level lo) (level (hi + 1 - lo)) 1 before T P Q es cs (replicate 16 0)
+      asked {T} {P} {Q} {es} {cs} a =
+          let d = need-said a in
+          let y : hi + 1 - lo ≡ suc hi - lo = omega arith in
+          let none : List ℕ = replicate 16 0 in
+          let z : Levels (Allowed cs) (allowed? cs) (a .search .pattern .numbered) T none none none none none R′ 0 =
+          record { room = omega (arith, walked-long, a .search .judging .few); long = omega arith; each = λ k l. absurd (omega arith); made = λ k l. absurd (omega arith) } in
+          let m = levels-need (Allowed cs) (allowed? cs) (a .search .pattern .numbered) T z (omega arith) (omega arith) (omega arith) (omega arith) (omega arith)
+          (d .1) (need-fits .0) (rw (d .2) (d .3)) in
+          record {
+            search = a .search;
+            wide = a .wide;
+            fits = a .fits;
+            vals-long = refl;
+            deep = omega (arith, first-deep (fixed a) lo (suc hi - lo) (ap outcome (d .1)));
+            levels = rw (y, ← (d .2)) m;
+          }
 
-        pub begun-need : {r : Found} {after : List ℕ} → Pre
-            → GoPost L S M name first null cont ends C kinds budget room width R′ (set X 0 x) (set St 0 s) (set N 0 lo) (set F 0 (hi + 1 - lo)) 1 before r after → Post r after
-        begun-need {r} {after} p post =
-            record {
-              all = λ T P Q es cs a.
-                  let b = need-said a in
-                  let y : hi + 1 - lo ≡ suc hi - lo = omega arith in
-                  let e = first-need (fixed a) vals N F lo (suc hi - lo) (omega arith) (omega arith) (ap outcome (b .1)) in
-                  ap (fill budget room width 0 0 before) (rw (← y) at e) ∙ post .all T P Q es cs vals (asked a p);
-            }
+      pub go-asked : GoPre L S M name first null cont ends C kinds room width R′ (level x) (level s) (level lo) (level (hi + 1 - lo)) 1 before
+      go-asked =
+          let h = b .pre .some in
+          record {
+            record-long = walked-long;
+            variables-long = refl;
+            starts-long = refl;
+            nexts-long = refl;
+            lefts-long = refl;
+            some = (h .0, h .1, h .2, h .3, h .4, replicate 16 0, asked (h .5));
+          }
+
+      pub begun-need : {budget : ℕ} {r : Found} {after : List ℕ}
+          → GoPost L S M name first null cont ends C kinds budget room width R′ (level x) (level s) (level lo) (level (hi + 1 - lo)) 1 before r after
+          → Post budget r after
+      begun-need {budget} post =
+          record {
+            all = λ T P Q es cs a.
+                let d = need-said a in
+                let y : hi + 1 - lo ≡ suc hi - lo = omega arith in
+                let w = first-need (fixed a) (replicate 16 0) (replicate 16 0) (replicate 16 0) lo (suc hi - lo) (omega arith) (omega arith) (ap outcome (d .1)) in
+                ap (fill budget room width 0 0 before) (rw (← y) at w) ∙ post .all T P Q es cs (replicate 16 0) (asked a);
+          }

@@ -24,7 +24,7 @@ use Rattle.walk.proofs.Answered.{failed, needed, matched}
 use Rattle.listing.proofs.Events as events
 use Rattle.listing.proofs.Back.{BackTo}
 use Rattle.listing.proofs.Fill.{Filled, fill, rest, ahead}
-use Rattle.listing.proofs.Levels.{Levels, levels-back, levels-need}
+use Rattle.listing.proofs.Levels.{levels-back, levels-need}
 use Rattle.listing.proofs.Loop.{Fixed, At, at-rest, at-back, all-done, at-spent, at-next, at-fail, at-need, at-match, no-room, room-left, need-deep}
 use Rattle.listing.proofs.Whole.{outcome}
 use Rattle.search.specs.Search.{AttemptPre, AttemptPost, GoAsked, GoPre, GoPost}
@@ -35,27 +35,100 @@ pub tree-small : {L S : List ℕ} {T : Term} → GoodTree L S T → size T ≤ 2
 unfolding rows
 tree-small t = omega (arith, t .few, good-lengths t)
 
-module _ (L S M name first : List ℕ) (null : List Bool) (cont : List ℕ) (ends : List Bool) (C kinds : List ℕ) (budget room width : ℕ) (R₀ X₀ St₀ N₀ F₀ : List ℕ) (start : ℕ) (before : List ℕ) where
+-- what the search is given, in the order of its parameters: the tree, the packed pattern, the tables, the limits, and then
+-- the record and the levels as they stand, with the list that is to be filled
+pub record Input : Type 0 where
+  pub L : List ℕ
+  pub S : List ℕ
+  pub M : List ℕ
+  pub name : List ℕ
+  pub first : List ℕ
+  pub null : List Bool
+  pub cont : List ℕ
+  pub ends : List Bool
+  pub C : List ℕ
+  pub kinds : List ℕ
+  pub budget : ℕ
+  pub room : ℕ
+  pub width : ℕ
+  pub R : List ℕ
+  pub X : List ℕ
+  pub St : List ℕ
+  pub N : List ℕ
+  pub F : List ℕ
+  pub start : ℕ
+  pub before : List ℕ
+
+abbrev pub given :
+    (L S M name first : List ℕ) (null : List Bool) (cont : List ℕ) (ends : List Bool) (C kinds : List ℕ) (budget room width : ℕ)
+    (R X St N F : List ℕ) (start : ℕ) (before : List ℕ) → Input
+given L S M name first null cont ends C kinds budget room width R X St N F start before =
+    record {
+      L = L;
+      S = S;
+      M = M;
+      name = name;
+      first = first;
+      null = null;
+      cont = cont;
+      ends = ends;
+      C = C;
+      kinds = kinds;
+      budget = budget;
+      room = room;
+      width = width;
+      R = R;
+      X = X;
+      St = St;
+      N = N;
+      F = F;
+      start = start;
+      before = before;
+    }
+
+-- the lengths that the record and the levels' lists keep
+pub record Long (R X St N F : List ℕ) : Type 0 where
+  pub record-long : length R ≡ 32
+  pub variables-long : length X ≡ 16
+  pub starts-long : length St ≡ 16
+  pub nexts-long : length N ≡ 16
+  pub lefts-long : length F ≡ 16
+
+-- the last level has its place and a value left, and its values are small
+pub record Placed (N F : List ℕ) (depth : ℕ) : Type 0 where
+  pub some : 0 < depth
+  pub deep : depth ≤ 16
+  pub live : 0 < getD F (depth - 1) 0
+  pub small : getD N (depth - 1) 0 + getD F (depth - 1) 0 ≤ 2049
+
+module _ (i : Input) where
   abbrev Asked : Term → Pattern → List Kind → List Expression → List Constraint → List ℕ → Type 0
-  Asked T P Q es cs vals = GoAsked L S M name first null cont ends C kinds room width R₀ X₀ St₀ N₀ F₀ start before T P Q es cs vals
+  Asked T P Q es cs vals =
+      GoAsked (i .L) (i .S) (i .M) (i .name) (i .first) (i .null) (i .cont) (i .ends) (i .C) (i .kinds) (i .room) (i .width)
+      (i .R) (i .X) (i .St) (i .N) (i .F) (i .start) (i .before) T P Q es cs vals
 
   abbrev Post : Found → List ℕ → Type 0
-  Post r after = GoPost L S M name first null cont ends C kinds budget room width R₀ X₀ St₀ N₀ F₀ start before r after
+  Post r after =
+      GoPost (i .L) (i .S) (i .M) (i .name) (i .first) (i .null) (i .cont) (i .ends) (i .C) (i .kinds) (i .budget) (i .room) (i .width)
+      (i .R) (i .X) (i .St) (i .N) (i .F) (i .start) (i .before) r after
 
   abbrev Pre : Type 0
-  Pre = GoPre L S M name first null cont ends C kinds room width R₀ X₀ St₀ N₀ F₀ start before
+  Pre =
+      GoPre (i .L) (i .S) (i .M) (i .name) (i .first) (i .null) (i .cont) (i .ends) (i .C) (i .kinds) (i .room) (i .width)
+      (i .R) (i .X) (i .St) (i .N) (i .F) (i .start) (i .before)
 
   module _ {T : Term} {P : Pattern} {Q : List Kind} {es : List Expression} {cs : List Constraint} {vals₀ : List ℕ} (a : Asked T P Q es cs vals₀) where
     -- all that the search comes to, by its events
     abbrev total : Filled
-    total = fill budget room width 0 0 before (rest (Walked (a .search)) (count Q) vals₀ N₀ F₀ start)
+    total = fill (i .budget) (i .room) (i .width) 0 0 (i .before) (rest (Walked (a .search)) (count Q) vals₀ (i .N) (i .F) (i .start))
 
-    fixed : Fixed (Walked (a .search)) (count Q) (size T) width room before
+    fixed : Fixed (Walked (a .search)) (count Q) (size T) (i .width) (i .room) (i .before)
     fixed = is-fixed (a .search) (a .wide) (a .fits)
 
-    -- the loop goes on from here: events es are left
+    -- the loop goes on from here with the events that are left
     abbrev Stand : List ℕ → List events.Event → List ℕ → List ℕ → List ℕ → ℕ → ℕ → ℕ → Type 0
-    Stand out left vals N F depth cnt tries = At (Walked (a .search)) (count Q) (size T) width budget room before total left out vals N F depth cnt tries
+    Stand out left vals N F depth cnt tries =
+        At (Walked (a .search)) (count Q) (size T) (i .width) (i .budget) (i .room) (i .before) total left out vals N F depth cnt tries
 
     level-small : {vals X St N F R : List ℕ} {depth : ℕ} → Leveled (a .search) vals X St N F R depth → (k : ℕ) → k < depth → getD N k 0 + getD F k 0 ≤ size T
     level-small lv k l =
@@ -64,200 +137,214 @@ module _ (L S M name first : List ℕ) (null : List Bool) (cont : List ℕ) (end
 
   -- at the loop's head
   pub record Going (out R X St N F : List ℕ) (depth cnt tries : ℕ) : Type 0 where
-    pub record-long : length R ≡ 32
-    pub variables-long : length X ≡ 16
-    pub starts-long : length St ≡ 16
-    pub nexts-long : length N ≡ 16
-    pub lefts-long : length F ≡ 16
-    pub charged : tries ≤ budget
+    pub long : Long R X St N F
+    pub charged : tries ≤ i .budget
     pub each : {T : Term} {P : Pattern} {Q : List Kind} {es : List Expression} {cs : List Constraint} {vals₀ : List ℕ} (a : Asked T P Q es cs vals₀)
         → (vals : List ℕ) × Stand a out (rest (Walked (a .search)) (count Q) vals N F depth) vals N F depth cnt tries × Leveled (a .search) vals X St N F R depth
 
-  pub going-start : Pre → Going before R₀ X₀ St₀ N₀ F₀ start 0 0
+  -- at a level that has a value left
+  pub record Ready (out R X St N F : List ℕ) (depth cnt tries : ℕ) : Type 0 where
+    pub going : Going out R X St N F depth cnt tries
+    pub some : 0 < depth
+    pub live : 0 < getD F (depth - 1) 0
+
+  -- a try was made: the answer o, and the record R
+  pub record Tried (out R X St N F : List ℕ) (depth cnt tries : ℕ) (o : Out) : Type 0 where
+    pub long : Long R X St N F
+    pub charged : tries ≤ i .budget
+    pub each : {T : Term} {P : Pattern} {Q : List Kind} {es : List Expression} {cs : List Constraint} {vals₀ : List ℕ} (a : Asked T P Q es cs vals₀)
+        → (vals : List ℕ) × Stand a out (ahead (Walked (a .search)) (count Q) vals N F depth) vals N F depth cnt tries
+        × Answers R o (walk (Allowed cs) (allowed? cs) P T (take depth vals)) × Leveled (a .search) vals X St N F R depth
+
+module _ {i : Input} where
+  pub going-start : Pre i → Going i (i .before) (i .R) (i .X) (i .St) (i .N) (i .F) (i .start) 0 0
   going-start p =
       record {
-        record-long = p .record-long;
-        variables-long = p .variables-long;
-        starts-long = p .starts-long;
-        nexts-long = p .nexts-long;
-        lefts-long = p .lefts-long;
+        long = record {
+          record-long = p .record-long;
+          variables-long = p .variables-long;
+          starts-long = p .starts-long;
+          nexts-long = p .nexts-long;
+          lefts-long = p .lefts-long;
+        };
         charged = omega arith;
         each = λ {T} {P} {Q} {es} {cs} {vals₀} a. (
           vals₀,
-          at-rest (fixed a) vals₀ N₀ F₀ start refl
-              (record { deep = a .deep; vals-long = a .vals-long; nexts-long = p .nexts-long; lefts-long = p .lefts-long; small = level-small a (a .levels) }),
+          at-rest (fixed i a) vals₀ (i .N) (i .F) (i .start) refl
+              (record { deep = a .deep; vals-long = a .vals-long; nexts-long = p .nexts-long; lefts-long = p .lefts-long; small = level-small i a (a .levels) }),
           a .levels,
         );
       }
 
-  module _ {out R X St N F : List ℕ} {depth cnt tries : ℕ} (g : Going out R X St N F depth cnt tries) where
-    pub going-depth : Pre → depth ≤ 16
+  module _ {out R X St N F : List ℕ} {depth cnt tries : ℕ} (g : Going i out R X St N F depth cnt tries) where
+    pub going-depth : Pre i → depth ≤ 16
     going-depth p =
         let a = p .some .6 in
         let h = g .each a in
         omega (arith, h .1 .deep, few (p .some .2), a .search .judging .few)
 
-    pub going-back : {d : ℕ} → BackTo F depth d → Going out R X St N F d cnt tries
+    pub going-back : {d : ℕ} → BackTo F depth d → Going i out R X St N F d cnt tries
     going-back b =
         record {
-          record-long = g .record-long;
-          variables-long = g .variables-long;
-          starts-long = g .starts-long;
-          nexts-long = g .nexts-long;
-          lefts-long = g .lefts-long;
+          long = g .long;
           charged = g .charged;
           each = λ {T} {P} {Q} {es} {cs} {vals₀} a.
               let h = g .each a in
-              (h .0, at-back (fixed a) (h .1) _ b, levels-back (Allowed cs) (allowed? cs) (a .search .pattern .numbered) T (b .low) (h .2));
+              (h .0, at-back (fixed i a) (h .1) _ b, levels-back (Allowed cs) (allowed? cs) (a .search .pattern .numbered) T (b .low) (h .2));
         }
 
-    pub going-end : depth ≡ 0 → Post (record { ending = 0; records = cnt; tries = tries }) out
-    going-end e = record { all = λ T P Q es cs vals a. all-done (fixed a) (g .each a .1) e }
+    pub going-end : depth ≡ 0 → Post i (record { ending = 0; records = cnt; tries = tries }) out
+    going-end e = record { all = λ T P Q es cs vals a. all-done (fixed i a) (g .each a .1) e }
 
-    pub going-spent : 0 < depth → 0 < getD F (depth - 1) 0 → tries ≡ budget → Post (record { ending = 2; records = cnt; tries = tries }) out
-    going-spent z live e = record { all = λ T P Q es cs vals a. at-spent (fixed a) (g .each a .1) z live e }
+    pub going-ready : {d : ℕ} → BackTo F depth d → (d ≡ 0 → ⊥) → Ready i out R X St N F d cnt tries
+    going-ready {d} b n =
+        let z : 0 < d = omega arith in
+        record { going = going-back b; some = z; live = b .live z }
 
-  -- a try was made: the answer o, and the record R
-  pub record Tried (out R X St N F : List ℕ) (depth cnt tries : ℕ) (o : Out) : Type 0 where
-    pub record-long : length R ≡ 32
-    pub variables-long : length X ≡ 16
-    pub starts-long : length St ≡ 16
-    pub nexts-long : length N ≡ 16
-    pub lefts-long : length F ≡ 16
-    pub charged : tries ≤ budget
-    pub each : {T : Term} {P : Pattern} {Q : List Kind} {es : List Expression} {cs : List Constraint} {vals₀ : List ℕ} (a : Asked T P Q es cs vals₀)
-        → (vals : List ℕ) × Stand a out (ahead (Walked (a .search)) (count Q) vals N F depth) vals N F depth cnt tries
-        × Answers R o (walk (Allowed cs) (allowed? cs) P T (take depth vals)) × Leveled (a .search) vals X St N F R depth
+  module _ {out R X St N F : List ℕ} {depth cnt tries : ℕ} (r : Ready i out R X St N F depth cnt tries) where
+    abbrev g : Going i out R X St N F depth cnt tries
+    g = r .going
 
-  module _ {out R X St N F : List ℕ} {depth cnt tries : ℕ} (g : Going out R X St N F depth cnt tries) (z : 0 < depth) (live : 0 < getD F (depth - 1) 0) where
-    below : {T : Term} {P : Pattern} {Q : List Kind} {es : List Expression} {cs : List Constraint} {vals₀ : List ℕ} (a : Asked T P Q es cs vals₀) → Leveled (a .search) (g .each a .0) X St N F R (suc (depth - 1))
-    below {T} {P} {Q} {es} {cs} a =
-        let e : depth ≡ suc (depth - 1) = omega arith in
-        subst (λ (n : ℕ). Levels (Allowed cs) (allowed? cs) (a .search .pattern .numbered) T (g .each a .0) X St N F R n) e (g .each a .2)
+    pub going-spent : tries ≡ i .budget → Post i (record { ending = 2; records = cnt; tries = tries }) out
+    going-spent e = record { all = λ T P Q es cs vals a. at-spent (fixed i a) (g .each a .1) (r .some) (r .live) e }
 
-    pub attempt-asked : Pre → AttemptPre L S M name first null cont ends C kinds R (getD X (depth - 1) 0) (getD St (depth - 1) 0) (getD N (depth - 1) 0)
+    below : {T : Term} {P : Pattern} {Q : List Kind} {es : List Expression} {cs : List Constraint} {vals₀ : List ℕ} (a : Asked i T P Q es cs vals₀)
+        → Leveled (a .search) (g .each a .0) X St N F R (suc (depth - 1))
+    below a =
+        let e : depth ≡ suc (depth - 1) = omega (arith, r .some) in
+        subst (λ (n : ℕ). Leveled (a .search) (g .each a .0) X St N F R n) e (g .each a .2)
+
+    pub attempt-asked : Pre i
+        → AttemptPre (i .L) (i .S) (i .M) (i .name) (i .first) (i .null) (i .cont) (i .ends) (i .C) (i .kinds) R
+        (getD X (depth - 1) 0) (getD St (depth - 1) 0) (getD N (depth - 1) 0)
     attempt-asked p =
         let h = p .some in
         let a = h .6 in
-        let k = try-kind (a .search) (below a) live in
+        let k = try-kind (a .search) (below a) (r .live) in
         let t = a .search .judging .tree in
         record {
-          long = g .record-long;
-          small = omega (arith, level-small a (g .each a .2) (depth - 1) (omega arith), tree-small t);
+          long = g .long .record-long;
+          small = omega (arith, level-small i a (g .each a .2) (depth - 1) (omega (arith, r .some)), tree-small t);
           some = (h .0, h .1, h .2, h .3, h .4, k .0, a .search, k .1, k .2);
         }
 
-    pub going-values : Pre → (getD N (depth - 1) 0 + getD F (depth - 1) 0 ≤ 2049) × (depth ≤ 16)
-    going-values p =
+    pub placed : Pre i → Placed N F depth
+    placed p =
         let a = p .some .6 in
         let t = a .search .judging .tree in
-        (omega (arith, level-small a (g .each a .2) (depth - 1) (omega arith), tree-small t), going-depth g p)
-
-    pub going-try : {o : Out} {R′ N′ F′ : List ℕ} → Pre → (tries ≡ budget → ⊥) → N′ ≡ set N (depth - 1) (getD N (depth - 1) 0 + 1) → F′ ≡ set F (depth - 1) (getD F (depth - 1) 0 - 1)
-        → AttemptPost L S M name first null cont ends C kinds R (getD X (depth - 1) 0) (getD St (depth - 1) 0) (getD N (depth - 1) 0) o R′
-        → Tried out R′ X St N′ F′ depth cnt (tries + 1) o
-    going-try {o} {R′} {N′} {F′} p b en ef post =
         record {
-          record-long = post .long;
-          variables-long = g .variables-long;
-          starts-long = g .starts-long;
-          nexts-long = rw en (length-set N (depth - 1) (getD N (depth - 1) 0 + 1) ∙ g .nexts-long);
-          lefts-long = rw ef (length-set F (depth - 1) (getD F (depth - 1) 0 - 1) ∙ g .lefts-long);
+          some = r .some;
+          deep = going-depth g p;
+          live = r .live;
+          small = omega (arith, level-small i a (g .each a .2) (depth - 1) (omega (arith, r .some)), tree-small t);
+        }
+
+    -- the levels' lists once the last level's next value is taken
+    abbrev N′ : List ℕ
+    N′ = set N (depth - 1) (getD N (depth - 1) 0 + 1)
+
+    abbrev F′ : List ℕ
+    F′ = set F (depth - 1) (getD F (depth - 1) 0 - 1)
+
+    pub going-try : {o : Out} {R′ : List ℕ} → Pre i → (tries ≡ i .budget → ⊥)
+        → AttemptPost (i .L) (i .S) (i .M) (i .name) (i .first) (i .null) (i .cont) (i .ends) (i .C) (i .kinds) R
+        (getD X (depth - 1) 0) (getD St (depth - 1) 0) (getD N (depth - 1) 0) o R′
+        → Tried i out R′ X St N′ F′ depth cnt (tries + 1) o
+    going-try {o} {R′} p b post =
+        record {
+          long = record {
+            record-long = post .long;
+            variables-long = g .long .variables-long;
+            starts-long = g .long .starts-long;
+            nexts-long = length-set N (depth - 1) (getD N (depth - 1) 0 + 1) ∙ g .long .nexts-long;
+            lefts-long = length-set F (depth - 1) (getD F (depth - 1) 0 - 1) ∙ g .long .lefts-long;
+          };
           charged = omega (arith, g .charged);
           each = λ {T} {P} {Q} {es} {cs} {vals₀} a.
               let h = g .each a in
               let vals : List ℕ = set (h .0) (depth - 1) (getD N (depth - 1) 0) in
               let deep = going-depth g p in
-              let e : suc (depth - 1) ≡ depth = omega arith in
-              let t = try-answered (a .search) (below a) live (h .1 .vals-long) (omega (arith, g .nexts-long)) (omega (arith, g .lefts-long)) post in
-              let u : Answers R′ o (walk (Allowed cs) (allowed? cs) P T (take (suc (depth - 1)) vals)) × Levels (Allowed cs) (allowed? cs) (a .search .pattern .numbered) T vals X St N′ F′ R′ (suc (depth - 1)) = rw (en, ef) t in
-              let t′ : Answers R′ o (walk (Allowed cs) (allowed? cs) P T (take depth vals)) × Levels (Allowed cs) (allowed? cs) (a .search .pattern .numbered) T vals X St N′ F′ R′ depth =
-              subst (λ (n : ℕ). Answers R′ o (walk (Allowed cs) (allowed? cs) P T (take n vals)) × Levels (Allowed cs) (allowed? cs) (a .search .pattern .numbered) T vals X St N′ F′ R′ n) e u in
-              (vals, at-next (fixed a) (h .1) z live b vals N′ F′ refl en ef, t′ .0, t′ .1);
+              let e : suc (depth - 1) ≡ depth = omega (arith, r .some) in
+              let t = try-answered (a .search) (below a) (r .live) (h .1 .vals-long) (omega (arith, g .long .nexts-long)) (omega (arith, g .long .lefts-long)) post in
+              let t′ : Answers R′ o (walk (Allowed cs) (allowed? cs) P T (take depth vals)) × Leveled (a .search) vals X St N′ F′ R′ depth =
+              subst (λ (n : ℕ). Answers R′ o (walk (Allowed cs) (allowed? cs) P T (take n vals)) × Leveled (a .search) vals X St N′ F′ R′ n) e t in
+              (vals, at-next (fixed i a) (h .1) (r .some) (r .live) b vals N′ F′ refl refl refl, t′ .0, t′ .1);
         }
 
-  module _ {out R X St N F : List ℕ} {depth cnt tries : ℕ} {o : Out} (t : Tried out R X St N F depth cnt tries o) where
-    pub tried-fail : o ≡ answer.Fail → Going out R X St N F depth cnt tries
+  module _ {out R X St N F : List ℕ} {depth cnt tries : ℕ} {o : Out} (t : Tried i out R X St N F depth cnt tries o) where
+    pub tried-fail : o ≡ answer.Fail → Going i out R X St N F depth cnt tries
     tried-fail e =
         record {
-          record-long = t .record-long;
-          variables-long = t .variables-long;
-          starts-long = t .starts-long;
-          nexts-long = t .nexts-long;
-          lefts-long = t .lefts-long;
+          long = t .long;
           charged = t .charged;
-          each = λ a. let h = t .each a in (h .0, at-fail (fixed a) (h .1) (ap outcome (failed (rw e at (h .2)))), h .3);
+          each = λ a. let h = t .each a in (h .0, at-fail (fixed i a) (h .1) (ap outcome (failed (rw e at (h .2)))), h .3);
         }
 
     module _ {x s lo hi : ℕ} (e : o ≡ answer.Need x s lo hi) where
-      need-said : {T : Term} {P : Pattern} {Q : List Kind} {es : List Expression} {cs : List Constraint} {vals₀ : List ℕ} (a : Asked T P Q es cs vals₀)
+      need-said : {T : Term} {P : Pattern} {Q : List Kind} {es : List Expression} {cs : List Constraint} {vals₀ : List ℕ} (a : Asked i T P Q es cs vals₀)
           → (B : List Entry) × (walk (Allowed cs) (allowed? cs) P T (take depth (t .each a .0)) ≡ need B s lo hi) × (length B ≡ x) × (take (x + x) R ≡ numbers B)
       need-said a = needed (rw e at (t .each a .2))
 
-      need-small : {T : Term} {P : Pattern} {Q : List Kind} {es : List Expression} {cs : List Constraint} {vals₀ : List ℕ} (a : Asked T P Q es cs vals₀) → (lo ≤ hi) × (hi < 2048) × (depth < count Q)
+      need-small : {T : Term} {P : Pattern} {Q : List Kind} {es : List Expression} {cs : List Constraint} {vals₀ : List ℕ} (a : Asked i T P Q es cs vals₀)
+          → (lo ≤ hi) × (hi < 2048) × (depth < count Q)
       need-small {T} {cs = cs} a =
           let n = need-said a in
           let m = tame-need (Allowed cs) (allowed? cs) T _ (a .search .pattern .numbered) (n .1) in
-          (m .1, omega (arith, m .2, tree-small (a .search .judging .tree)), need-deep (fixed a) (t .each a .1) lo (suc hi - lo) (ap outcome (n .1)) .0)
+          (m .1, omega (arith, m .2, tree-small (a .search .judging .tree)), need-deep (fixed i a) (t .each a .1) lo (suc hi - lo) (ap outcome (n .1)) .0)
 
-      pub need-fits : Pre → (lo ≤ hi) × (hi < 2048) × (depth < 16)
+      pub need-fits : Pre i → (lo ≤ hi) × (hi < 2048) × (depth < 16)
       need-fits p =
           let a = p .some .6 in
           let n = need-small a in
           (n .0, n .1, omega (arith, n .2, few (p .some .2), a .search .judging .few))
 
-      pub tried-need : Pre → {n : ℕ} → n ≡ hi + 1 - lo → Going out R (set X depth x) (set St depth s) (set N depth lo) (set F depth n) (depth + 1) cnt tries
+      pub tried-need : Pre i → {n : ℕ} → n ≡ hi + 1 - lo → Going i out R (set X depth x) (set St depth s) (set N depth lo) (set F depth n) (depth + 1) cnt tries
       tried-need p {n} en =
           let q = need-fits p in
           record {
-            record-long = t .record-long;
-            variables-long = length-set X depth x ∙ t .variables-long;
-            starts-long = length-set St depth s ∙ t .starts-long;
-            nexts-long = length-set N depth lo ∙ t .nexts-long;
-            lefts-long = length-set F depth n ∙ t .lefts-long;
+            long = record {
+              record-long = t .long .record-long;
+              variables-long = length-set X depth x ∙ t .long .variables-long;
+              starts-long = length-set St depth s ∙ t .long .starts-long;
+              nexts-long = length-set N depth lo ∙ t .long .nexts-long;
+              lefts-long = length-set F depth n ∙ t .long .lefts-long;
+            };
             charged = t .charged;
             each = λ {T} {P} {Q} {es} {cs} {vals₀} a.
                 let h = t .each a in
                 let b = need-said a in
                 let y : n ≡ suc hi - lo = omega arith in
-                let m = levels-need (Allowed cs) (allowed? cs) (a .search .pattern .numbered) T (h .3) (omega (arith, h .1 .vals-long)) (omega (arith, t .variables-long)) (omega (arith, t .starts-long)) (omega (arith, t .nexts-long)) (omega (arith, t .lefts-long))
-                (b .1) (q .0) (rw (b .2) (b .3)) in
-                (h .0, rw y (at-need (fixed a) (h .1) lo (suc hi - lo) (ap outcome (b .1))), rw (y, add-one depth, ← (b .2)) m);
+                let m = levels-need (Allowed cs) (allowed? cs) (a .search .pattern .numbered) T (h .3) (omega (arith, h .1 .vals-long)) (omega (arith, t .long .variables-long))
+                (omega (arith, t .long .starts-long)) (omega (arith, t .long .nexts-long)) (omega (arith, t .long .lefts-long)) (b .1) (q .0) (rw (b .2) (b .3)) in
+                (h .0, rw y (at-need (fixed i a) (h .1) lo (suc hi - lo) (ap outcome (b .1))), rw (y, add-one depth, ← (b .2)) m);
           }
 
     module _ {n : ℕ} (e : o ≡ answer.Ok n) where
-      done-said : {T : Term} {P : Pattern} {Q : List Kind} {es : List Expression} {cs : List Constraint} {vals₀ : List ℕ} (a : Asked T P Q es cs vals₀)
+      done-said : {T : Term} {P : Pattern} {Q : List Kind} {es : List Expression} {cs : List Constraint} {vals₀ : List ℕ} (a : Asked i T P Q es cs vals₀)
           → (B : List Entry) × (walk (Allowed cs) (allowed? cs) P T (take depth (t .each a .0)) ≡ ok B []) × (take (length (numbers B)) R ≡ numbers B)
       done-said a = matched (rw e at (t .each a .2))
 
-      pub tried-full : cnt ≡ room → Post (record { ending = 1; records = cnt; tries = tries }) out
-      tried-full f = record { all = λ T P Q es cs vals a. let d = done-said a in no-room (fixed a) (t .each a .1) (numbers (d .0)) (ap outcome (d .1)) f }
+      pub tried-full : cnt ≡ i .room → Post i (record { ending = 1; records = cnt; tries = tries }) out
+      tried-full f = record { all = λ T P Q es cs vals a. let d = done-said a in no-room (fixed i a) (t .each a .1) (numbers (d .0)) (ap outcome (d .1)) f }
 
-      pub put-asked : Pre → (cnt ≡ room → ⊥) → (width ≤ 32) × (cnt * width + width ≤ length out)
+      pub put-asked : Pre i → (cnt ≡ i .room → ⊥) → (i .width ≤ 32) × (cnt * i .width + i .width ≤ length out)
       put-asked p f =
           let a = p .some .6 in
-          (omega (arith, a .wide, a .search .judging .few), room-left (fixed a) (t .each a .1) f)
+          (omega (arith, a .wide, a .search .judging .few), room-left (fixed i a) (t .each a .1) f)
 
-      pub tried-match : (cnt ≡ room → ⊥) → Going (paste out (cnt * width) R width) R X St N F depth (cnt + 1) tries
+      pub tried-match : (cnt ≡ i .room → ⊥) → Going i (paste out (cnt * i .width) R (i .width)) R X St N F depth (cnt + 1) tries
       tried-match f =
           record {
-            record-long = t .record-long;
-            variables-long = t .variables-long;
-            starts-long = t .starts-long;
-            nexts-long = t .nexts-long;
-            lefts-long = t .lefts-long;
+            long = t .long;
             charged = t .charged;
             each = λ a.
                 let h = t .each a in
                 let d = done-said a in
-                (h .0, at-match (fixed a) (h .1) (numbers (d .0)) R (ap outcome (d .1)) (d .2) f, h .3);
+                (h .0, at-match (fixed i a) (h .1) (numbers (d .0)) R (ap outcome (d .1)) (d .2) f, h .3);
           }
 
-    pub tried-long : Pre → length out ≡ length before
-    tried-long p = t .each (p .some .6) .1 .out-long
+    pub tried-counted : Pre i → cnt ≤ i .room
+    tried-counted p = t .each (p .some .6) .1 .counted
 
-  pub going-long : {out R X St N F : List ℕ} {depth cnt tries : ℕ} → Going out R X St N F depth cnt tries → Pre → length out ≡ length before
+  pub going-long : {out R X St N F : List ℕ} {depth cnt tries : ℕ} → Going i out R X St N F depth cnt tries → Pre i → length out ≡ length (i .before)
   going-long g p = g .each (p .some .6) .1 .out-long
-
-pub positive : {n : ℕ} → (n ≡ 0 → ⊥) → 0 < n
-positive h = omega arith
