@@ -1,15 +1,15 @@
 // Holds the proved matcher beside the plain one, on small problems made by chance, and prints how many answers were compared and
 // how many differ.
-mod attempts;
-mod candidates;
-mod features;
-mod lists;
 mod records;
 mod report;
-mod tally;
 
+use cuts::attempts;
+use cuts::lists;
 use plain::numbers::leading;
 use plain::numbers::plus;
+use tallying::candidates;
+use tallying::features;
+use tallying::tally;
 
 // So many problems are made; those with too many candidate records are left out.
 const PROBLEMS: usize = 3000;

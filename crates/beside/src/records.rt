@@ -1,5 +1,4 @@
 // The test and the instance maker beside the plain matcher, on every candidate record.
-use super::tally;
 use decide::matcher;
 use instance::Made;
 use plain::build;
@@ -9,6 +8,7 @@ use plain::numbers::less;
 use plain::numbers::plus;
 use plain::numbers::put;
 use plain::numbers::times;
+use tallying::tally;
 use test::Tested;
 
 // Room for the instance of a record, and for the rows' places in it.

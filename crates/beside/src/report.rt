@@ -1,7 +1,7 @@
 // Prints what was compared and what differs.
-use super::tally;
 use libc::STDOUT_FILENO;
 use plain::numbers::at;
+use tallying::tally;
 
 fn wider(number: usize) -> u64 {
     number as u64

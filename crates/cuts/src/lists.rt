@@ -1,12 +1,12 @@
 // The lister beside what is to be expected of it, with room and budget enough and with less.
 ghost use Prim.Native.Nat.{_≤_};
 ghost use lib.ListN.{length};
-use super::tally;
 use plain::numbers::at;
 use plain::numbers::less;
 use plain::numbers::plus;
 use plain::numbers::put;
 use plain::numbers::times;
+use tallying::tally;
 
 // What the list holds before each call. No record has this number, so that every write is seen.
 const BEFORE: usize = 4294967295;
@@ -15,7 +15,7 @@ const BEFORE: usize = 4294967295;
 const BEYOND: usize = 4;
 
 // What the lister has to answer.
-struct Expected {
+struct Answer {
     ending: usize,
     records: usize,
     tries: usize,
@@ -34,10 +34,10 @@ fn within(reached: &[u32], records: usize, budget: usize) -> usize {
 }
 
 // The first record without room ends the list, if the budget lasts until it is reached; else a try without budget does.
-fn expected(reached: &[u32], records: usize, tries: usize, room: usize, budget: usize) -> Expected {
+fn expected(reached: &[u32], records: usize, tries: usize, room: usize, budget: usize) -> Answer {
     if room < records {
         if at(reached, room) <= budget {
-            return Expected {
+            return Answer {
                 ending: 1,
                 records: room,
                 tries: at(reached, room),
@@ -45,13 +45,13 @@ fn expected(reached: &[u32], records: usize, tries: usize, room: usize, budget: 
         }
     }
     if budget < tries {
-        return Expected {
+        return Answer {
             ending: 2,
             records: within(reached, records, budget),
             tries: budget,
         };
     }
-    Expected {
+    Answer {
         ending: 0,
         records: records,
         tries: tries,
@@ -118,7 +118,7 @@ fn room_of(numbers: usize, room: usize) -> usize {
     room
 }
 
-fn same_answer(code: u32, ending: u32, records: usize, tries: u32, wanted: Expected) -> bool {
+fn same_answer(code: u32, ending: u32, records: usize, tries: u32, wanted: Answer) -> bool {
     if code != 0 {
         return false;
     }

@@ -1,6 +1,5 @@
 // Counts the tries of a problem by their definition, on all values that there could be: for each vector of second numbers, is
 // it a try? Vectors are gone through in order, a vector's beginnings before it.
-use super::tally;
 use decide::tries::is_try;
 use plain::numbers::at;
 use plain::numbers::less;
@@ -8,6 +7,7 @@ use plain::numbers::plus;
 use plain::numbers::put;
 use plain::numbers::times;
 use plain::places::kind_of;
+use tallying::tally;
 
 // The numbers of the sequence and context variables. How many there are.
 pub fn choices(kind: &[u32], name: &[u32], variables: usize, choice: &mut [u32]) -> usize {
