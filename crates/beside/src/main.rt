@@ -1,10 +1,7 @@
 // Holds the proved matcher beside the plain one, on small problems made by chance, and prints how many answers were compared and
 // how many differ.
-mod records;
 mod report;
 
-use cuts::attempts;
-use cuts::lists;
 use plain::numbers::leading;
 use plain::numbers::plus;
 use tallying::candidates;
@@ -12,7 +9,7 @@ use tallying::features;
 use tallying::tally;
 
 // So many problems are made; those with too many candidate records are left out.
-const PROBLEMS: usize = 3000;
+const PROBLEMS: usize = 2400;
 
 // Goes through the candidate records. How many of them are matchers' records, which found gets.
 fn go_through(
@@ -37,7 +34,7 @@ fn go_through(
     while i < candidates {
         candidates::record(size.len(), pairs, many, i, record);
         i += 1;
-        let yes = records::compare(
+        let yes = verdicts::compare(
             label,
             size,
             kind,
@@ -50,7 +47,7 @@ fn go_through(
             record,
             counts,
         );
-        records = records::keep(yes, record, found, records, counts);
+        records = verdicts::keep(yes, record, found, records, counts);
     }
     records
 }
@@ -76,7 +73,7 @@ fn cut_lists(
     if constraint.len() == 0 {
         return;
     }
-    lists::by_room(
+    cuts::by_room(
         label,
         size,
         kind,
@@ -93,7 +90,7 @@ fn cut_lists(
         out,
         counts,
     );
-    lists::by_both(
+    cuts::by_both(
         label,
         size,
         kind,
@@ -130,7 +127,7 @@ fn compare_lists(
     counts: &mut [u32],
 ) {
     let mut out = [0u32; 4200];
-    lists::enough(
+    cuts::enough(
         label,
         size,
         kind,
@@ -164,7 +161,7 @@ fn compare_lists(
         &mut out,
         counts,
     );
-    lists::by_budget(
+    cuts::by_budget(
         label,
         size,
         kind,
@@ -202,7 +199,7 @@ fn count_tries(
     let mut choice = [0u32; 4];
     let mut value = [0u32; 4];
     let choices = attempts::choices(kind, name, constraint.len() / 2, &mut choice);
-    let numbers = lists::shortest(choices, &value);
+    let numbers = cuts::shortest(choices, &value);
     attempts::count(
         label,
         size,
@@ -391,6 +388,61 @@ fn compare(
     compare_reading(seed, label, size, counts);
 }
 
+// The expression table and the constraint list. How many rows the table has.
+fn expressions_of(
+    seed: &mut [u32],
+    kinds: &[u32],
+    expression_kind: &mut [u32],
+    expression_name: &mut [u32],
+    expression_size: &mut [u32],
+    constraint: &mut [u32],
+) -> usize {
+    let mut top = [0u32; 4];
+    let rows = making::expressions::table(
+        seed,
+        expression_kind,
+        expression_name,
+        expression_size,
+        &mut top,
+    );
+    making::expressions::constraints(seed, kinds, &top, constraint);
+    rows
+}
+
+// Compares with so many rows of the table and so many numbers of the constraint list.
+fn compare_with(
+    seed: &mut [u32],
+    label: &[u32],
+    size: &[u32],
+    kind: &[u32],
+    name: &[u32],
+    pattern_size: &[u32],
+    expression_kind: &[u32],
+    expression_name: &[u32],
+    expression_size: &[u32],
+    rows: usize,
+    constraint: &[u32],
+    wanted: usize,
+    counts: &mut [u32],
+) {
+    let mut record = [0u32; 8];
+    let numbers = cuts::shortest(wanted, &record);
+    compare(
+        seed,
+        label,
+        size,
+        kind,
+        name,
+        pattern_size,
+        leading(expression_kind, rows),
+        leading(expression_name, rows),
+        leading(expression_size, rows),
+        leading(constraint, numbers),
+        &mut record[0..numbers],
+        counts,
+    );
+}
+
 // Makes the expressions and the constraints of a tree and a pattern, and compares.
 fn constrain(
     seed: &mut [u32],
@@ -405,30 +457,28 @@ fn constrain(
     let mut expression_kind = [0u32; 24];
     let mut expression_name = [0u32; 24];
     let mut expression_size = [0u32; 24];
-    let mut top = [0u32; 4];
     let mut constraint = [0u32; 8];
-    let mut record = [0u32; 8];
-    let rows = making::expressions::table(
+    let rows = expressions_of(
         seed,
+        kinds,
         &mut expression_kind,
         &mut expression_name,
         &mut expression_size,
-        &mut top,
+        &mut constraint,
     );
-    making::expressions::constraints(seed, kinds, &top, &mut constraint);
-    let numbers = lists::shortest(plus(kinds.len(), kinds.len()), &record);
-    compare(
+    compare_with(
         seed,
         label,
         size,
         kind,
         name,
         pattern_size,
-        leading(&expression_kind, rows),
-        leading(&expression_name, rows),
-        leading(&expression_size, rows),
-        leading(&constraint, numbers),
-        &mut record[0..numbers],
+        &expression_kind,
+        &expression_name,
+        &expression_size,
+        rows,
+        &constraint,
+        plus(kinds.len(), kinds.len()),
         counts,
     );
 }

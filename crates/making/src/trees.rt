@@ -67,8 +67,15 @@ fn double(label: &mut [u32], depth: &mut [u32], rows: usize) -> usize {
     less(plus(rows, rows), 1)
 }
 
-// Seldom only the root.
-fn or_one(seed: &mut [u32], rows: usize) -> usize {
+// Another label for a row, so that subterms of one shape may differ inside.
+fn alter(seed: &mut [u32], label: &mut [u32], rows: usize) {
+    let row = draw(seed, rows);
+    put(label, row, draw(seed, 2));
+}
+
+// With a row altered, and seldom only the root.
+fn varied(seed: &mut [u32], label: &mut [u32], rows: usize) -> usize {
+    alter(seed, label, rows);
     if draw(seed, 16) == 0 {
         return 1;
     }
@@ -81,7 +88,7 @@ pub fn tree(seed: &mut [u32], label: &mut [u32], size: &mut [u32]) -> usize {
     let wanted = between(seed, 2, label.len());
     rows_by_chance(seed, label, &mut depth, wanted);
     let doubled = double(label, &mut depth, wanted);
-    let rows = or_one(seed, doubled);
+    let rows = varied(seed, label, doubled);
     sizes(&depth, rows, size);
     rows
 }

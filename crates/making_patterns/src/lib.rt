@@ -15,8 +15,9 @@ use plain::places::terms;
 const VARIABLES: usize = 4;
 
 // What is under way: the tree's row that is next, the pattern's rows so far and how many are wanted, and whether the next row
-// is what fills a hole.
+// is what fills a hole. Half of the rows get the favourite kind where they can, and all where it is the individual variable.
 struct Way {
+    favourite: usize,
     row: usize,
     made: usize,
     wanted: usize,
@@ -74,9 +75,35 @@ fn leaf_by_chance(x: usize, way: Way) -> usize {
     2
 }
 
+// The favourite kind, or a symbol where it cannot stand: a sequence variable neither fills a hole nor is the root, a context
+// variable is not the last row, and the root is no individual variable.
+fn favourite_kind(way: Way) -> usize {
+    if way.favourite == 4 {
+        if is_last(way) {
+            return 1;
+        }
+        return 4;
+    }
+    if way.row == 0 {
+        return 0;
+    }
+    if way.favourite == 2 {
+        if way.filling {
+            return 1;
+        }
+    }
+    way.favourite
+}
+
 // What kind the next row gets; 5 is a symbol over one sequence variable.
 fn kind_by_chance(seed: &mut [u32], way: Way) -> usize {
     let x = draw(seed, 16);
+    if way.favourite == 1 {
+        return favourite_kind(way);
+    }
+    if draw(seed, 2) == 0 {
+        return favourite_kind(way);
+    }
     if x < 3 {
         return 0;
     }
@@ -130,6 +157,7 @@ fn write_row(
 
 fn went_on(way: Way, row: usize, rows: usize, filling: bool) -> Way {
     Way {
+        favourite: way.favourite,
         row: row,
         made: plus(way.made, rows),
         wanted: way.wanted,
@@ -312,6 +340,7 @@ pub fn pattern(
     let mut depths = [0u32; 16];
     let mut jump = [0u32; 16];
     let mut way = Way {
+        favourite: draw(seed, 5),
         row: 0,
         made: 0,
         wanted: between(seed, 3, kind.len()),

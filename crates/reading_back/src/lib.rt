@@ -1,5 +1,4 @@
 // Writes a tree as a document, has it read back and compares. The spellings of the labels 0, 1 and 2 are `a`, `ab` and `b`.
-ghost use Prim.Native.Nat.{_≤_};
 use making::chance::draw;
 use plain::numbers::at;
 use plain::numbers::less;

@@ -13,6 +13,9 @@ abbrev μ-loop : tie.MeasureT-loop
 μ-loop seed₀ label size kinds₀ kind₀ name₀ depth₀ depths₀ jump₀ way₀ i₀ seed kinds kind name depth depths jump way i =
     length kind - i
 
+draw-requires : tie.Need-draw-requires Inv-loop μ-loop
+draw-requires c κs = search needs
+
 between-requires : tie.Need-between-requires Inv-loop μ-loop
 between-requires c κs = search needs
 
@@ -61,6 +64,7 @@ pattern-spec =
     (tie.spec
     Inv-loop
     μ-loop
+    draw-requires
     between-requires
     loop-holds
     add-i
