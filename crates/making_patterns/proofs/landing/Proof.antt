@@ -1,0 +1,48 @@
+use Prim.Native.Nat.{_≤_, _-_}
+use lib.ListN.{length}
+use borrow.Author.Needs.{needs}
+use Rattle.making_patterns.proofs.landing.Statement.{statement}
+use Rattle.making_patterns.proofs.landing.Tie as tie
+
+abbrev Inv-loop : tie.InvT-loop
+Inv-loop jump place row₀ i₀ row i =
+    0 ≤ i
+
+abbrev μ-loop : tie.MeasureT-loop
+μ-loop jump place row₀ i₀ row i =
+    length jump - i
+
+loop-holds : tie.Need-loop-holds Inv-loop μ-loop
+loop-holds c = search needs
+
+at-requires : tie.Need-at-requires Inv-loop μ-loop
+at-requires c κs = search needs
+
+at-requires-2 : tie.Need-at-requires-2 Inv-loop μ-loop
+at-requires-2 c κs = search needs
+
+add-i : tie.Need-add-i Inv-loop μ-loop
+add-i c = search needs
+
+loop-less : tie.Need-loop-less Inv-loop μ-loop
+loop-less c = search needs
+
+loop-again : tie.Need-loop-again Inv-loop μ-loop
+loop-again c = search needs
+
+returns : tie.Need-returns Inv-loop μ-loop
+returns c = search needs
+
+pub landing-spec : {M : Type 1} → statement M
+landing-spec =
+    tie.close
+    (tie.spec
+    Inv-loop
+    μ-loop
+    loop-holds
+    at-requires
+    at-requires-2
+    add-i
+    loop-less
+    loop-again
+    returns)

@@ -1,0 +1,35 @@
+use Prim.Native.Nat.{_≤_, _-_}
+use borrow.Author.Needs.{needs}
+use Rattle.plain.proofs.numbers.times.Statement.{statement}
+use Rattle.plain.proofs.numbers.times.Tie as tie
+
+abbrev Inv-loop : tie.InvT-loop
+Inv-loop a b sum₀ i₀ sum i =
+    sum ≤ 4294967295
+
+abbrev μ-loop : tie.MeasureT-loop
+μ-loop a b sum₀ i₀ sum i =
+    b - i
+
+loop-holds : tie.Need-loop-holds Inv-loop μ-loop
+loop-holds c = search needs
+
+plus-requires : tie.Need-plus-requires Inv-loop μ-loop
+plus-requires c κs = search needs
+
+add-i : tie.Need-add-i Inv-loop μ-loop
+add-i c = search needs
+
+loop-less : tie.Need-loop-less Inv-loop μ-loop
+loop-less c = search needs
+
+loop-again : tie.Need-loop-again Inv-loop μ-loop
+loop-again c = search needs
+
+returns : tie.Need-returns Inv-loop μ-loop
+returns c = search needs
+
+pub times-spec : {M : Type 1} → statement M
+times-spec =
+    tie.close
+    (tie.spec Inv-loop μ-loop loop-holds plus-requires add-i loop-less loop-again returns)
