@@ -25,6 +25,12 @@ use Rattle.walk.specs.declared.Out.{Out}
 use Rattle.walk.specs.declared.Out.the-variants as out
 use Rattle.test.specs.Inside.{Copied, Walkable, WalkablePre, PlacedPost}
 
+-- what the walk is given: the pattern packed, and the list in front of zeros
+pub record Prepared (L S K N Z list : List ℕ) (variables : ℕ) (M found : List ℕ) : Type 0 where
+  pub pre : WalkablePre L S K N Z variables list
+  pub packed : Packed K N Z M
+  pub copied : Copied list found
+
 module _ {L S K N Z list : List ℕ} where
   pub list-short : {variables : ℕ} → WalkablePre L S K N Z variables list → length list ≤ 32
   list-short p =
@@ -36,8 +42,8 @@ module _ {L S K N Z list : List ℕ} where
   problem w v p c =
       record { K = K; N = N; Z = Z; tree = w .tree; pattern = w .pattern; packed = p; few = omega arith; room = omega (arith, w .pattern .bounded, c .long) }
 
-  pub walk-asked : {variables : ℕ} {M found : List ℕ} → WalkablePre L S K N Z variables list → Packed K N Z M → Copied list found → WalkPre L S M found variables
-  walk-asked h p c = let w = h .some in record { some = (w .0, w .1, w .2, problem (w .3) (w .4) p c) }
+  pub walk-asked : {variables : ℕ} {M found : List ℕ} → Prepared L S K N Z list variables M found → WalkPre L S M found variables
+  walk-asked h = let w = h .pre .some in record { some = (w .0, w .1, w .2, problem (w .3) (w .4) (h .packed) (h .copied)) }
 
   -- the choices that the walk was given are those of the record
   given-own : {T : Term} {P : Pattern} {Q : List Kind} {variables : ℕ} {found : List ℕ} → Walkable L S K N Z list T P Q → variables ≡ length Q → Copied list found → given Q found variables ≡ choices Q list
@@ -62,21 +68,25 @@ module _ {L S K N Z list : List ℕ} where
   many : {variables : ℕ} {T : Term} {P : Pattern} {Q : List Kind} → WalkablePre L S K N Z variables list → Walkable L S K N Z list T P Q → variables ≡ length Q
   many h w = h .some .4 ∙ same-variables (h .some .3) w
 
-  module _ {variables : ℕ} {M found after : List ℕ} (h : WalkablePre L S K N Z variables list) (p : Packed K N Z M) (c : Copied list found) where
+  module _ {variables : ℕ} {M found after : List ℕ} (h : Prepared L S K N Z list variables M found) where
+    walked-for : {T : Term} {P : Pattern} {Q : List Kind} {o : Out} → Walkable L S K N Z list T P Q → WalkPost L S M found variables o after
+        → Answers after o (meant.walk Any any? P T (choices Q list)) × (length after ≡ 32)
+    walked-for w post = walked w (many (h .pre) w) (h .packed) (h .copied) post
+
     pub placed-fail : {o : Out} → WalkPost L S M found variables o after → o ≡ out.Fail → PlacedPost L S K N Z list false
-    placed-fail post e = record { is = λ T P Q w. go w (rw e at (walked w (many h w) p c post .0)) refl }
+    placed-fail post e = record { is = λ T P Q w. go w (rw e at (walked-for w post .0)) refl }
       where
         go : {T : Term} {P : Pattern} {Q : List Kind} {r : Res} → Walkable L S K N Z list T P Q → Answers after out.Fail r → meant.walk Any any? P T (choices Q list) ≡ r → Says false (IsRecord Any Q P T list)
         go w fails q = not-ok fail w q (λ B z. let y : _≡_ {A = ℕ} 0 1 = cc in omega arith)
 
     pub placed-need : {o : Out} (x t lo hi : ℕ) → WalkPost L S M found variables o after → o ≡ out.Need x t lo hi → PlacedPost L S K N Z list false
-    placed-need x t lo hi post e = record { is = λ T P Q w. go w (rw e at (walked w (many h w) p c post .0)) refl }
+    placed-need x t lo hi post e = record { is = λ T P Q w. go w (rw e at (walked-for w post .0)) refl }
       where
         go : {T : Term} {P : Pattern} {Q : List Kind} {r : Res} → Walkable L S K N Z list T P Q → Answers after (out.Need x t lo hi) r → meant.walk Any any? P T (choices Q list) ≡ r → Says false (IsRecord Any Q P T list)
         go w (needs {B = B} m n) q = not-ok (need B t lo hi) w q (λ C z. let y : _≡_ {A = ℕ} 0 1 = cc in omega arith)
 
     pub placed-ok : {o : Out} {r : Bool} (n : ℕ) → WalkPost L S M found variables o after → o ≡ out.Ok n → Says r (Copied list after) → PlacedPost L S K N Z list r
-    placed-ok {r = r} n post e s = record { is = λ T P Q w. let a = walked w (many h w) p c post in go w (rw e at (a .0)) (a .1) refl }
+    placed-ok {r = r} n post e s = record { is = λ T P Q w. let a = walked-for w post in go w (rw e at (a .0)) (a .1) refl }
       where
         go : {T : Term} {P : Pattern} {Q : List Kind} {a : Res} → Walkable L S K N Z list T P Q → Answers after (out.Ok n) a → length after ≡ 32 → meant.walk Any any? P T (choices Q list) ≡ a
             → Says r (IsRecord Any Q P T list)
@@ -94,4 +104,4 @@ module _ {L S K N Z list : List ℕ} where
             )
 
     pub walked-long : {o : Out} → WalkPost L S M found variables o after → length after ≡ 32
-    walked-long post = walked (h .some .3) (h .some .4) p c post .1
+    walked-long post = walked-for (h .pre .some .3) post .1

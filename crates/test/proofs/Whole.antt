@@ -20,6 +20,7 @@ use Rattle.meaning.proofs.Round.{round}
 use Rattle.meaning.proofs.Answers.{says-yes, says-no, said-no}
 use Rattle.tree.specs.Good.{GoodTree}
 use Rattle.pattern.specs.Good.{GoodPattern}
+use Rattle.pattern.specs.Known.{KindsAre}
 use Rattle.record.specs.Pairs.{RecordPre, RecordPost}
 use Rattle.record.proofs.Each.{read-look}
 use Rattle.record.proofs.Whole.{tree-at}
@@ -29,7 +30,7 @@ use Rattle.constraint.proofs.Allowed.{allowed?}
 use Rattle.problem.specs.Problem.{Lists, Poses, Codes}
 use Rattle.problem.specs.Answer.{Answered}
 use Rattle.problem.specs.declared.Problem.{Problem}
-use Rattle.problem.proofs.Posed.{codes-low, codes-high, the, known}
+use Rattle.problem.proofs.Posed.{Posed, codes-low, codes-high, the, known}
 use Rattle.test.specs.Tested.{Fifteen, Settled}
 use Rattle.test.specs.Inside.{Walkable, WalkablePre, PlacedPost, Constrained, ConstrainedPre, AllObey, ObeyedPost}
 use Rattle.test.specs.declared.Tested.the-variants.{Refused, Yes, No}
@@ -85,55 +86,67 @@ module _ (l : Lists) {r : Problem} (a : Answered l r) where
             numbered = λ h. let y : _≡_ {A = ℕ} 15 0 = cc in omega arith;
           }
 
-      module _ (t : b ≡ true) where
-        walkable : {T : Term} {P : Pattern} {Q : List Kind} {es : List Expression} {cs : List Constraint} → Poses l T P Q es cs → Walkable (l .label) (l .size) (l .kind) (l .name) (l .patternSize) list T P Q
-        walkable w = record { tree = w .tree; pattern = w .rest .pattern; good = fits-for (w .tree) (w .rest .pattern) .0 t }
+-- lists that are accepted, and a record that fits them
+pub record Fitted (l : Lists) (r : Problem) (list : List ℕ) : Type 0 where
+  pub answered : Answered l r
+  pub passed : r .code ≡ 0
+  pub fits : RecordPost (l .size) (r .kinds) (r .variables) list true
 
-        accepted : Codes l (Fifteen l list) 0
-        accepted =
-            let w = the a z .poses in
-            codes-high l (Fifteen l list) 0 (the a z) (inr ((the a z .T, the a z .P, the a z .Q, w .tree, w .rest .pattern, walkable w .good), refl))
+module _ {l : Lists} {r : Problem} {list : List ℕ} (fitted : Fitted l r list) where
+  posed-for : Posed l
+  posed-for = the (fitted .answered) (fitted .passed)
 
-        pub placed-asked : WalkablePre (l .label) (l .size) (l .kind) (l .name) (l .patternSize) (r .variables) list
-        placed-asked = record { some = (the a z .T, the a z .P, the a z .Q, walkable (the a z .poses), known a z (the a z .poses .rest .pattern) .many) }
+  kinds-for : {P : Pattern} {Q : List Kind} → GoodPattern (l .kind) (l .name) (l .patternSize) P Q → KindsAre Q (r .variables) (r .kinds)
+  kinds-for g = known (fitted .answered) (fitted .passed) g
 
-        constrained : {T : Term} {P : Pattern} {Q : List Kind} {es : List Expression} {cs : List Constraint} → Poses l T P Q es cs
-            → Constrained (l .label) (l .size) (l .expressionKind) (l .expressionName) (l .expressionSize) (l .constraint) (r .kinds) list T Q es cs
-        constrained w =
-            let k = known a z (w .rest .pattern) in
-            record { tree = w .tree; few = k .few; known = k .are; table = w .rest .table; given = w .rest .constraints; good = walkable w .good }
+  walkable : {T : Term} {P : Pattern} {Q : List Kind} {es : List Expression} {cs : List Constraint} → Poses l T P Q es cs → Walkable (l .label) (l .size) (l .kind) (l .name) (l .patternSize) list T P Q
+  walkable w = record { tree = w .tree; pattern = w .rest .pattern; good = fits-for l (fitted .answered) (fitted .passed) list (fitted .fits) (w .tree) (w .rest .pattern) .0 refl }
 
-        pub obeyed-asked : ConstrainedPre (l .label) (l .size) (l .expressionKind) (l .expressionName) (l .expressionSize) (l .constraint) (r .kinds) (r .variables) list
-        obeyed-asked = record { some = (the a z .T, the a z .Q, the a z .es, the a z .cs, constrained (the a z .poses), known a z (the a z .poses .rest .pattern) .many) }
+  accepted : Codes l (Fifteen l list) 0
+  accepted =
+      let w = posed-for .poses in
+      codes-high l (Fifteen l list) 0 posed-for (inr ((posed-for .T, posed-for .P, posed-for .Q, w .tree, w .rest .pattern, walkable w .good), refl))
 
-        module _ {p : Bool} (placed : PlacedPost (l .label) (l .size) (l .kind) (l .name) (l .patternSize) list p) where
-          pub test-elsewhere : p ≡ false → Settled l list No
-          test-elsewhere e =
-              record {
-                code = accepted;
-                yes-or-no = λ h T P Q es cs w.
-                    let g = walkable w in
-                    says-no (λ i. said-no (placed .is T P Q g) e (without (g .pattern .numbered) (g .good) cs i));
-                numbered = λ h. let y : _≡_ {A = ℕ} 0 1 = cc in omega arith;
-              }
+  pub placed-asked : WalkablePre (l .label) (l .size) (l .kind) (l .name) (l .patternSize) (r .variables) list
+  placed-asked = record { some = (posed-for .T, posed-for .P, posed-for .Q, walkable (posed-for .poses), kinds-for (posed-for .poses .rest .pattern) .many) }
 
-          module _ (there : p ≡ true) {o : Bool} (obeyed : ObeyedPost (l .label) (l .size) (l .expressionKind) (l .expressionName) (l .expressionSize) (l .constraint) (r .kinds) list o) where
-            pub test-yes : o ≡ true → Settled l list Yes
-            test-yes e =
-                record {
-                  code = accepted;
-                  yes-or-no = λ h T P Q es cs w.
-                      let g = walkable w in
-                      says-yes (with-constraints (g .pattern .numbered) (g .good) cs (placed .is T P Q g .0 there) (obeyed .is T Q es cs (constrained w) .0 e));
-                  numbered = λ h. let y : _≡_ {A = ℕ} 0 1 = cc in omega arith;
-                }
+  constrained : {T : Term} {P : Pattern} {Q : List Kind} {es : List Expression} {cs : List Constraint} → Poses l T P Q es cs
+      → Constrained (l .label) (l .size) (l .expressionKind) (l .expressionName) (l .expressionSize) (l .constraint) (r .kinds) list T Q es cs
+  constrained w =
+      let k = kinds-for (w .rest .pattern) in
+      record { tree = w .tree; few = k .few; known = k .are; table = w .rest .table; given = w .rest .constraints; good = walkable w .good }
 
-            pub test-no : o ≡ false → Settled l list No
-            test-no e =
-                record {
-                  code = accepted;
-                  yes-or-no = λ h T P Q es cs w.
-                      let g = walkable w in
-                      says-no (λ i. said-no (obeyed .is T Q es cs (constrained w)) e (obeying (g .pattern .numbered) (g .good) cs i));
-                  numbered = λ h. let y : _≡_ {A = ℕ} 0 1 = cc in omega arith;
-                }
+  pub obeyed-asked : ConstrainedPre (l .label) (l .size) (l .expressionKind) (l .expressionName) (l .expressionSize) (l .constraint) (r .kinds) (r .variables) list
+  obeyed-asked = record { some = (posed-for .T, posed-for .Q, posed-for .es, posed-for .cs, constrained (posed-for .poses), kinds-for (posed-for .poses .rest .pattern) .many) }
+
+  module _ {p : Bool} (placed : PlacedPost (l .label) (l .size) (l .kind) (l .name) (l .patternSize) list p) where
+    pub test-elsewhere : p ≡ false → Settled l list No
+    test-elsewhere e =
+        record {
+          code = accepted;
+          yes-or-no = λ h T P Q es cs w.
+              let g = walkable w in
+              says-no (λ i. said-no (placed .is T P Q g) e (without (g .pattern .numbered) (g .good) cs i));
+          numbered = λ h. let y : _≡_ {A = ℕ} 0 1 = cc in omega arith;
+        }
+
+    module _ (there : p ≡ true) {o : Bool} (obeyed : ObeyedPost (l .label) (l .size) (l .expressionKind) (l .expressionName) (l .expressionSize) (l .constraint) (r .kinds) list o) where
+      pub test-yes : o ≡ true → Settled l list Yes
+      test-yes e =
+          record {
+            code = accepted;
+            yes-or-no = λ h T P Q es cs w.
+                let g = walkable w in
+                says-yes (with-constraints (g .pattern .numbered) (g .good) cs (placed .is T P Q g .0 there) (obeyed .is T Q es cs (constrained w) .0 e));
+            numbered = λ h. let y : _≡_ {A = ℕ} 0 1 = cc in omega arith;
+          }
+
+      pub test-no : o ≡ false → Settled l list No
+      test-no e =
+          record {
+            code = accepted;
+            yes-or-no = λ h T P Q es cs w.
+                let g = walkable w in
+                says-no (λ i. said-no (obeyed .is T Q es cs (constrained w)) e (obeying (g .pattern .numbered) (g .good) cs i));
+            numbered = λ h. let y : _≡_ {A = ℕ} 0 1 = cc in omega arith;
+          }

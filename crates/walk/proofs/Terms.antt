@@ -74,14 +74,21 @@ when-then : {A : Type 0} (d : Dec A) (B : List Entry) (cs : List ℕ) (f : List 
 when-then (yes a) B cs f = refl
 when-then (no b) B cs f = refl
 
-module _ {L S M R : List ℕ} {limit p t n k x : ℕ} (ek : k ≡ getD M (3 * p) 0) (ex : x ≡ getD M (3 * p + 1) 0) where
+-- the walk of the term at the pattern row p, which has the kind k and the name x
+pub record AtRow (L S M R : List ℕ) (limit p t n k x : ℕ) : Type 0 where
+  pub pre : TermPre L S M R limit p t n
+  pub kind : k ≡ getD M (3 * p) 0
+  pub name : x ≡ getD M (3 * p + 1) 0
+
+module _ {L S M R : List ℕ} {limit p t n k x : ℕ} (row : AtRow L S M R limit p t n k x) where
   view : {K N Z : List ℕ} {Q : List Kind} {q : Pattern} {T : Term} {B : List Entry} {cs : List ℕ} → TermAsked L S M R limit p t n K N Z Q q T B cs → TermView K N Z Q p k x n q
-  view a = term-view (a .packed) (a .pattern) (a .good) ek ex
+  view a = term-view (a .packed) (a .pattern) (a .good) (row .kind) (row .name)
 
   -- at an individual variable
   module _ (one : k ≡ 1) where
-    pub term-individual-pre : TermPre L S M R limit p t n → IndividualPre L S R x t n
-    term-individual-pre h =
+    pub term-individual-pre : IndividualPre L S R x t n
+    term-individual-pre =
+        let h = row .pre in
         let a = h .asked in
         record { variable = (limit, record { some = (h .Q, h .B, h .cs, a .state, as-individual one (view a) .1) }); tree = (h .T .label, h .T .args, a .tree) }
 
@@ -113,18 +120,19 @@ module _ {L S M R : List ℕ} {limit p t n k x : ℕ} (ek : k ≡ getD M (3 * p)
 
   -- at a context variable
   module _ (four : k ≡ 4) where
-    pub term-context-pre : TermPre L S M R limit p t n → ContextPre L S R limit x t n
-    term-context-pre h =
+    pub term-context-pre : ContextPre L S R limit x t n
+    term-context-pre =
+        let h = row .pre in
         let a = h .asked in
         record { variable = record { some = (h .Q, h .B, h .cs, a .state, as-context four (view a) .comes) }; tree = (h .T .label, h .T .args, a .tree) }
 
     -- the row below is within the pattern, and its size is less
-    pub term-under : TermPre L S M R limit p t n → (p + 1 < length M) × (getD M (3 * (p + 1) + 2) 0 < getD M (3 * p + 2) 0)
-    term-under h =
-        let a = h .asked in
+    pub term-under : (p + 1 < length M) × (getD M (3 * (p + 1) + 2) 0 < getD M (3 * p + 2) 0)
+    term-under =
+        let a = row .pre .asked in
         let w = as-context four (view a) in
         let s = term-seen (a .packed) (w .here) in
-        (omega (arith, s .room), omega (arith, s .size, term-row h .size, w .size))
+        (omega (arith, s .room), omega (arith, s .size, term-row (row .pre) .size, w .size))
 
     module _ {o : Step} {R₁ : List ℕ} (post : ContextPost L S R limit x t n o R₁) where
       pub term-context-fails : o ≡ step.Fail → TermPost L S M R limit p t n out.Fail R₁
@@ -168,8 +176,9 @@ module _ {L S M R : List ℕ} {limit p t n k x : ℕ} (ek : k ≡ getD M (3 * p)
               c .goes (λ d B′ cs′. walkT Any any? (w .inner) (cut T d .at) (t + d) B′ cs′),
             )
 
-        pub term-under-pre : TermPre L S M R limit p t n → TermPre L S M R₁ limit (p + 1) h m
-        term-under-pre c =
+        pub term-under-pre : TermPre L S M R₁ limit (p + 1) h m
+        term-under-pre =
+            let c = row .pre in
             let b = below (c .asked) (as-context four (view (c .asked))) in
             record { K = c .K; N = c .N; Z = c .Z; Q = c .Q; q = as-context four (view (c .asked)) .inner; T = cut (c .T) (b .0) .at; B = b .1; cs = b .2; asked = b .3 }
 
@@ -187,13 +196,16 @@ module _ {L S M R : List ℕ} {limit p t n k x : ℕ} (ek : k ≡ getD M (3 * p)
 
   -- at a symbol or a function variable: the head, then the arguments
   module _ (one : k ≢ 1) (four : k ≢ 4) where
-    pub term-head-pre : TermPre L S M R limit p t n → HeadPre L R k x t n
-    term-head-pre h = record { row = term-tree h .labelled; variable = λ f. go f (h .q) (view (h .asked)) }
+    pub term-head-pre : HeadPre L R k x t n
+    term-head-pre = record { row = term-tree (row .pre) .labelled; variable = λ f. go f (row .pre .q) (view (row .pre .asked)) }
       where
-        go : k ≢ 0 → (q : Pattern) → TermView (h .K) (h .N) (h .Z) (h .Q) p k x n q → (S : List ℕ) × (limit : ℕ) × VariablePre L S R limit n aFunction x
+        go : let h = row .pre in
+            k ≢ 0 → (q : Pattern) → TermView (h .K) (h .N) (h .Z) (h .Q) p k x n q → (S : List ℕ) × (limit : ℕ) × VariablePre L S R limit n aFunction x
         go f q (v-symbol e i g) = absurd (f e)
         go f q (v-individual e c) = absurd (one e)
-        go f q (v-function e c i g) = (S, limit, record { some = (h .Q, h .B, h .cs, h .asked .state, c) })
+        go f q (v-function e c i g) =
+            let h = row .pre in
+            (S, limit, record { some = (h .Q, h .B, h .cs, h .asked .state, c) })
         go f q (v-context e c z i g) = absurd (four e)
 
     module _ {o : Bound} {R₁ : List ℕ} (post : HeadPost L R k x t n o R₁) where
@@ -261,8 +273,9 @@ module _ {L S M R : List ℕ} {limit p t n k x : ℕ} (ek : k ≡ getD M (3 * p)
               e .2,
             )
 
-        pub term-inside-pre : TermPre L S M R limit p t n → ListPre L S M R₁ limit (p + 1) pe (t + 1) te m
-        term-inside-pre c =
+        pub term-inside-pre : ListPre L S M R₁ limit (p + 1) pe (t + 1) te m
+        term-inside-pre =
+            let c = row .pre in
             let w = headed (c .asked) (view (c .asked)) in
             let b = inside (c .asked) w in
             record { K = c .K; N = c .N; Z = c .Z; Q = c .Q; ps = w .ps; us = c .T .args; B = b .0; cs = b .1; asked = b .2 }

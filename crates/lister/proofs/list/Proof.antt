@@ -8,6 +8,13 @@ use borrow.Author.Needs.{needs}
 use Rattle.lister.proofs.list.Statement.{statement}
 use Rattle.lister.proofs.list.Tie as tie
 
+-- from the packed pattern to the expressions' tables, and from these to the test of the code
+abbrev tabled : tie.After-pack → tie.After-tables-of
+tabled k = k .before .before .before .before .before .before .before
+
+abbrev accepted : tie.After-tables-of → tie.Else1
+accepted t = t .before .before
+
 check-requires : tie.Need-check-requires
 check-requires c κs = search needs
 
@@ -21,10 +28,14 @@ slice-aggregate-pack : tie.Need-slice-aggregate-pack
 slice-aggregate-pack c = search needs
 
 pack-requires : tie.Need-pack-requires
-pack-requires c κs = pack-asked (the (c .before .before .before .before .before .before .before .before .before .check .ensures) (c .before .before .before .before .before .before .before .before .if1 .left) .poses .rest .pattern) refl
+pack-requires c κs =
+    let z = accepted (c .before .before .before .before .before .before) in
+    pack-asked (the (z .before .check .ensures) (z .if1 .left) .poses .rest .pattern) refl
 
 add-width : tie.Need-add-width
-add-width c = omega (arith, few-variables _ (c .before .before .before .before .before .before .before .before .before .before .before .check .ensures) 0 [] (c .before .before .before .before .before .before .before .before .before .before .if1 .left))
+add-width c =
+    let z = accepted (tabled (c .before)) in
+    omega (arith, few-variables _ (z .before .check .ensures) 0 [] (z .if1 .left))
 
 room-for-requires : tie.Need-room-for-requires
 room-for-requires c κs = search needs
@@ -33,13 +44,24 @@ slice-aggregate-begin : tie.Need-slice-aggregate-begin
 slice-aggregate-begin c = search needs
 
 begin-requires : tie.Need-begin-requires
-begin-requires c κs = begin-asked _ (c .before .before .before .before .before .before .before .before .before .before .before .before .before .before .before .before .before .before .before .before .check .ensures) 0 _ (c .before .before .before .before .before .before .before .before .before .before .before .before .before .before .before .before .before .before .before .if1 .left) (c .before .before .before .before .before .before .before .before .before .before .before .before .before .before .before .before .before .tables-of .ensures) (c .before .before .before .before .before .before .before .before .before .before .pack .ensures) refl (c .before .before .before .before .before .before .before .before .room-for .ensures)
+begin-requires c κs =
+    let w = c .before .before .before .before .before .before .before .before in
+    let k = w .before .before in
+    let t = tabled k in
+    let z = accepted t in
+    begin-asked _ (z .before .check .ensures) 0 _ (z .if1 .left) (t .tables-of .ensures) (k .pack .ensures) refl (w .room-for .ensures)
 
 same-length : tie.Need-same-length
 same-length c = search needs
 
 returns-2 : tie.Need-returns-2
-returns-2 c = list-done _ (c .before .before .before .before .before .before .before .before .before .before .before .before .before .before .before .before .before .before .before .before .before .before .before .check .ensures) _ _ (c .before .before .before .before .before .before .before .before .before .before .before .before .before .before .before .before .before .before .before .before .before .before .if1 .left) (c .before .before .before .before .before .before .before .before .before .before .before .before .before .before .before .before .before .before .before .before .tables-of .ensures) (c .before .before .before .before .before .before .before .before .before .before .before .before .before .pack .ensures) refl (c .before .before .before .before .before .before .before .before .before .before .before .room-for .ensures) (c .before .before .begin .ensures)
+returns-2 c =
+    let w = c .before .before .before .before .before .before .before .before .before .before .before in
+    let k = w .before .before in
+    let t = tabled k in
+    let z = accepted t in
+    list-done _ (z .before .check .ensures) _ _ (z .if1 .left) (t .tables-of .ensures) (k .pack .ensures) refl (w .room-for .ensures)
+    (c .before .before .begin .ensures)
 
 pub list-spec : {M : Type 1} → statement M
 list-spec =
