@@ -14,6 +14,32 @@ use Rattle.instance.specs.Pieces.{IndividualPre, IndividualPost, Sequenc
 use Rattle.instance.specs.Cycle.{TermPre, TermPost, ArgumentsPre, ArgumentsPost}
 use Rattle.instance.proofs.Glue.{written-both, written-head, written-none, same-room, part-room, hole-room, term-row, is-individual, is-context, is-headed, is-nil, is-sequence, is-cons}
 
+-- a term that is a context variable x
+pub record AtContext (L S K N Z W OL OS : List ℕ) (p t x : ℕ) : Type 0 where
+  pub pre : TermPre L S K N Z W OL OS p t
+  pub kind : getD K p 0 ≡ 4
+  pub name : x ≡ getD N p 0
+
+-- a term with a symbol or a function variable as its head, and its arguments up to the row e
+pub record AtHead (L S K N Z W OL OS : List ℕ) (p t e : ℕ) : Type 0 where
+  pub pre : TermPre L S K N Z W OL OS p t
+  pub not-individual : getD K p 0 ≢ 1
+  pub not-context : getD K p 0 ≢ 4
+  pub next : e ≡ p + getD Z p 0
+
+-- arguments of which a sequence variable x is the first
+pub record AtSequence (L S K N Z W OL OS : List ℕ) (p e t x : ℕ) : Type 0 where
+  pub pre : ArgumentsPre L S K N Z W OL OS p e t
+  pub more : p ≢ e
+  pub kind : getD K p 0 ≡ 2
+  pub name : x ≡ getD N p 0
+
+-- arguments of which a term is the first
+pub record AtTerm (L S K N Z W OL OS : List ℕ) (p e t : ℕ) : Type 0 where
+  pub pre : ArgumentsPre L S K N Z W OL OS p e t
+  pub more : p ≢ e
+  pub kind : getD K p 0 ≢ 2
+
 module _ {L S K N Z W OL OS : List ℕ} {p t : ℕ} where
   -- an individual variable
   module _ (k : getD K p 0 ≡ 1) where
@@ -34,66 +60,68 @@ module _ {L S K N Z W OL OS : List ℕ} {p t : ℕ} where
         }
 
   -- a context variable: the row of its hole, what fills the hole, and what stands around
-  module _ (k : getD K p 0 ≡ 4) where
-    pub filling-pre : TermPre L S K N Z W OL OS p t → length OL < 18446744073709551616 → FillingPre W (getD N p 0) t
+  module _ {x : ℕ} (place : AtContext L S K N Z W OL OS p t x) where
+    pub filling-pre : length OL < 18446744073709551616 → FillingPre W x t
     unfolding apply
-    filling-pre h m =
-        let s = h .some in
-        let i = is-context (s .4) k in
+    filling-pre m =
+        let s = place .pre .some in
+        let i = is-context (s .4) (place .kind) in
         let r = rw (i .1) at (s .5) in
-        record { some = (L, S, s .0, s .1, s .3, i .2, omega (arith, r .labelled, hole-room (asContext (at (meant W (s .0) (s .1)) (getD N p 0))) (apply (meant W (s .0) (s .1)) (i .0)))) }
+        let l = hole-room (asContext (at (meant W (s .0) (s .1)) (getD N p 0))) (apply (meant W (s .0) (s .1)) (i .0)) in
+        rw (place .name) (record { some = (L, S, s .0, s .1, s .3, i .2, omega (arith, r .labelled, l)) })
 
-    pub under-falls : TermPre L S K N Z W OL OS p t → (getD Z p 0 ≡ suc (getD Z (p + 1) 0)) × (p < length K)
-    under-falls h = (is-context (h .some .4) k .3, term-row (h .some .4) .0)
+    pub under-falls : (getD Z p 0 ≡ suc (getD Z (p + 1) 0)) × (p < length K)
+    under-falls = (is-context (place .pre .some .4) (place .kind) .3, term-row (place .pre .some .4) .0)
 
-    module _ {f : ℕ} (o : FillingPost W (getD N p 0) t f) where
-      pub under-pre : TermPre L S K N Z W OL OS p t → TermPre L S K N Z W OL OS (p + 1) f
+    module _ {f : ℕ} (o : FillingPost W x t f) where
+      pub under-pre : TermPre L S K N Z W OL OS (p + 1) f
       unfolding apply
-      under-pre h =
-          let s = h .some in
-          let i = is-context (s .4) k in
+      under-pre =
+          let s = place .pre .some in
+          let i = is-context (s .4) (place .kind) in
           let r = rw (i .1) at (s .5) in
-          let z = o .is L S (s .0) (s .1) (s .3) (i .2) in
+          let z = (rw (place .name) at o) .is L S (s .0) (s .1) (s .3) (i .2) in
           let l = hole-room (asContext (at (meant W (s .0) (s .1)) (getD N p 0))) (apply (meant W (s .0) (s .1)) (i .0)) in
           record { some = (s .0, s .1, i .0, s .3, i .4, part-room r (omega arith) (omega arith)) }
 
       module _ {e : ℕ} {NL NS : List ℕ} (u : TermPost L S K N Z W OL OS (p + 1) f e NL NS) where
-        pub context-pre : TermPre L S K N Z W OL OS p t → length NL ≡ length OL → length NS ≡ length OS → ContextPre L S W NL NS (getD N p 0) t f e
+        pub context-pre : length NL ≡ length OL → length NS ≡ length OS → ContextPre L S W NL NS x t f e
         unfolding apply
-        context-pre h a b =
-            let s = h .some in
-            let i = is-context (s .4) k in
+        context-pre a b =
+            let s = place .pre .some in
+            let i = is-context (s .4) (place .kind) in
             let r = rw (i .1) at (s .5) in
-            record {
-              some = (s .0, s .1, apply (meant W (s .0) (s .1)) (i .0), s .3, i .2, o .is L S (s .0) (s .1) (s .3) (i .2), u .is (s .0) (s .1) (i .0) (s .3) (i .4) .0, same-room a b r);
-            }
+            let z = (rw (place .name) at o) .is L S (s .0) (s .1) (s .3) (i .2) in
+            let y = u .is (s .0) (s .1) (i .0) (s .3) (i .4) .0 in
+            rw (place .name) (record { some = (s .0, s .1, apply (meant W (s .0) (s .1)) (i .0), s .3, i .2, z, y, same-room a b r) })
 
-        pub context-post : {r : ℕ} {ML MS : List ℕ} → ContextPost L S W NL NS (getD N p 0) t f e r ML MS → TermPost L S K N Z W OL OS p t r ML MS
+        pub context-post : {r : ℕ} {ML MS : List ℕ} → ContextPost L S W NL NS x t f e r ML MS → TermPost L S K N Z W OL OS p t r ML MS
         unfolding apply
         context-post {r} {ML} {MS} h =
             record {
               is = λ Q R q g a.
-                  let i = is-context a k in
-                  let x = u .is Q R (i .0) g (i .4) in
-                  rw (i .1) (h .is Q R (apply (meant W Q R) (i .0)) OL OS g (i .2) (o .is L S Q R g (i .2)) (x .0) (x .1));
+                  let i = is-context a (place .kind) in
+                  let y = u .is Q R (i .0) g (i .4) in
+                  let z = (rw (place .name) at o) .is L S Q R g (i .2) in
+                  rw (i .1) ((rw (place .name) at h) .is Q R (apply (meant W Q R) (i .0)) OL OS g (i .2) z (y .0) (y .1));
             }
 
   -- a symbol or a function variable: its arguments, and then its row
-  module _ (m : getD K p 0 ≡ 1 → ⊥) (n : getD K p 0 ≡ 4 → ⊥) where
-    pub below-pre : TermPre L S K N Z W OL OS p t → ArgumentsPre L S K N Z W OL OS (p + 1) (p + getD Z p 0) (t + 1)
-    below-pre h =
-        let s = h .some in
-        let i = is-headed (meant W (s .0) (s .1)) (s .4) m n in
+  module _ {last : ℕ} (place : AtHead L S K N Z W OL OS p t last) where
+    pub below-pre : ArgumentsPre L S K N Z W OL OS (p + 1) last (t + 1)
+    below-pre =
+        let s = place .pre .some in
+        let i = is-headed (meant W (s .0) (s .1)) (s .4) (place .not-individual) (place .not-context) in
         let r = rw (i .is) at (s .5) in
-        record { some = (s .0, s .1, i .arguments, s .3, i .placed, part-room r (omega arith) (omega arith)) }
+        rw (place .next) (record { some = (s .0, s .1, i .arguments, s .3, i .placed, part-room r (omega arith) (omega arith)) })
 
-    module _ {e : ℕ} {NL NS : List ℕ} (u : ArgumentsPost L S K N Z W OL OS (p + 1) (p + getD Z p 0) (t + 1) e NL NS) where
-      pub head-pre : TermPre L S K N Z W OL OS p t → length NL ≡ length OL → length NS ≡ length OS → HeadPre L K N W NL NS p t e
-      head-pre h a b =
-          let s = h .some in
-          let i = is-headed (meant W (s .0) (s .1)) (s .4) m n in
+    module _ {e : ℕ} {NL NS : List ℕ} (u : ArgumentsPost L S K N Z W OL OS (p + 1) last (t + 1) e NL NS) where
+      pub head-pre : length NL ≡ length OL → length NS ≡ length OS → HeadPre L K N W NL NS p t e
+      head-pre a b =
+          let s = place .pre .some in
+          let i = is-headed (meant W (s .0) (s .1)) (s .4) (place .not-individual) (place .not-context) in
           let r = rw (i .is) at (s .5) in
-          let x = u .is (s .0) (s .1) (i .arguments) (s .3) (i .placed) .0 in
+          let x = (rw (place .next) at u) .is (s .0) (s .1) (i .arguments) (s .3) (i .placed) .0 in
           let w = term-row (s .4) in
           record {
             inKind = w .0;
@@ -107,8 +135,8 @@ module _ {L S K N Z W OL OS : List ℕ} {p t : ℕ} where
       head-post {ML} {MS} h =
           record {
             is = λ Q R q g a.
-                let i = is-headed (meant W Q R) a m n in
-                let x = u .is Q R (i .arguments) g (i .placed) in
+                let i = is-headed (meant W Q R) a (place .not-individual) (place .not-context) in
+                let x = (rw (place .next) at u) .is Q R (i .arguments) g (i .placed) in
                 let z : e - t ≡ suc (rows (applyAll (meant W Q R) (i .arguments))) = omega (arith, x .0) in
                 rw (i .is) (omega (arith, x .0), written-head (i .label) (applyAll (meant W Q R) (i .arguments)) (x .1) (h .labelled S Q R (i .label) g (i .head)) (rw z at (h .sized)));
           }
@@ -125,25 +153,25 @@ module _ {L S K N Z W OL OS : List ℕ} {p e t : ℕ} where
       }
 
   -- a sequence variable first
-  module _ (n : p ≢ e) (k : getD K p 0 ≡ 2) where
-    pub sequence-pre : ArgumentsPre L S K N Z W OL OS p e t → SequencePre L S W OL OS (getD N p 0) t
+  module _ {x : ℕ} (place : AtSequence L S K N Z W OL OS p e t x) where
+    pub sequence-pre : SequencePre L S W OL OS x t
     unfolding applyAll
-    sequence-pre h =
-        let s = h .some in
-        let i = is-sequence (s .4) n k in
+    sequence-pre =
+        let s = place .pre .some in
+        let i = is-sequence (s .4) (place .more) (place .kind) in
         let r = rw (i .1) at (s .5) in
         let z = rows-of (asForest (at (meant W (s .0) (s .1)) (getD N p 0))) (applyAll (meant W (s .0) (s .1)) (i .0)) in
-        record { some = (s .0, s .1, s .3, i .2, part-room r (omega arith) (omega arith)) }
+        rw (place .name) (record { some = (s .0, s .1, s .3, i .2, part-room r (omega arith) (omega arith)) })
 
-    module _ {f : ℕ} {NL NS : List ℕ} (u : SequencePost L S W OL OS (getD N p 0) t f NL NS) where
-      pub behind-pre : ArgumentsPre L S K N Z W OL OS p e t → length NL ≡ length OL → length NS ≡ length OS → ArgumentsPre L S K N Z W NL NS (p + 1) e f
+    module _ {f : ℕ} {NL NS : List ℕ} (u : SequencePost L S W OL OS x t f NL NS) where
+      pub behind-pre : length NL ≡ length OL → length NS ≡ length OS → ArgumentsPre L S K N Z W NL NS (p + 1) e f
       unfolding applyAll
-      behind-pre h a b =
-          let s = h .some in
-          let i = is-sequence (s .4) n k in
+      behind-pre a b =
+          let s = place .pre .some in
+          let i = is-sequence (s .4) (place .more) (place .kind) in
           let r = rw (i .1) at (s .5) in
           let z = rows-of (asForest (at (meant W (s .0) (s .1)) (getD N p 0))) (applyAll (meant W (s .0) (s .1)) (i .0)) in
-          let x = u .is (s .0) (s .1) (s .3) (i .2) .0 in
+          let y = (rw (place .name) at u) .is (s .0) (s .1) (s .3) (i .2) .0 in
           record { some = (s .0, s .1, i .0, s .3, i .3, part-room (same-room a b r) (omega arith) (omega arith)) }
 
       pub behind-post : {r : ℕ} {ML MS : List ℕ} → ArgumentsPost L S K N Z W NL NS (p + 1) e f r ML MS → ArgumentsPost L S K N Z W OL OS p e t r ML MS
@@ -151,32 +179,32 @@ module _ {L S K N Z W OL OS : List ℕ} {p e t : ℕ} where
       behind-post {r} {ML} {MS} h =
           record {
             is = λ Q R ps g a.
-                let i = is-sequence a n k in
+                let i = is-sequence a (place .more) (place .kind) in
                 let v = asForest (at (meant W Q R) (getD N p 0)) in
-                let x = u .is Q R g (i .2) in
+                let w = (rw (place .name) at u) .is Q R g (i .2) in
                 let y = h .is Q R (i .0) g (i .3) in
-                rw (i .1) (omega (arith, x .0, y .0, rows-of v (applyAll (meant W Q R) (i .0))), written-both v (applyAll (meant W Q R) (i .0)) (x .1) (x .0) (y .1));
+                rw (i .1) (omega (arith, w .0, y .0, rows-of v (applyAll (meant W Q R) (i .0))), written-both v (applyAll (meant W Q R) (i .0)) (w .1) (w .0) (y .1));
           }
 
   -- a term first
-  module _ (n : p ≢ e) (k : getD K p 0 ≡ 2 → ⊥) where
-    pub first-pre : ArgumentsPre L S K N Z W OL OS p e t → TermPre L S K N Z W OL OS p t
+  module _ (place : AtTerm L S K N Z W OL OS p e t) where
+    pub first-pre : TermPre L S K N Z W OL OS p t
     unfolding applyAll rows
-    first-pre h =
-        let s = h .some in
-        let i = is-cons (s .4) n k in
+    first-pre =
+        let s = place .pre .some in
+        let i = is-cons (s .4) (place .more) (place .kind) in
         let r = rw (i .2) at (s .5) in
         record { some = (s .0, s .1, i .0, s .3, i .3, part-room r (omega arith) (omega arith)) }
 
-    pub first-falls : ArgumentsPre L S K N Z W OL OS p e t → (p + getD Z p 0 ≤ e) × (1 ≤ getD Z p 0)
-    first-falls h = let i = is-cons (h .some .4) n k in (i .4, term-row (i .3) .3)
+    pub first-falls : (p + getD Z p 0 ≤ e) × (1 ≤ getD Z p 0)
+    first-falls = let i = is-cons (place .pre .some .4) (place .more) (place .kind) in (i .4, term-row (i .3) .3)
 
     module _ {f : ℕ} {NL NS : List ℕ} (u : TermPost L S K N Z W OL OS p t f NL NS) where
-      pub rest-pre : ArgumentsPre L S K N Z W OL OS p e t → length NL ≡ length OL → length NS ≡ length OS → ArgumentsPre L S K N Z W NL NS (p + getD Z p 0) e f
+      pub rest-pre : length NL ≡ length OL → length NS ≡ length OS → ArgumentsPre L S K N Z W NL NS (p + getD Z p 0) e f
       unfolding applyAll rows
-      rest-pre h a b =
-          let s = h .some in
-          let i = is-cons (s .4) n k in
+      rest-pre a b =
+          let s = place .pre .some in
+          let i = is-cons (s .4) (place .more) (place .kind) in
           let r = rw (i .2) at (s .5) in
           let x = u .is (s .0) (s .1) (i .0) (s .3) (i .3) .0 in
           record { some = (s .0, s .1, i .1, s .3, i .5, part-room (same-room a b r) (omega arith) (omega arith)) }
@@ -186,7 +214,7 @@ module _ {L S K N Z W OL OS : List ℕ} {p e t : ℕ} where
       rest-post {r} {ML} {MS} h =
           record {
             is = λ Q R ps g a.
-                let i = is-cons a n k in
+                let i = is-cons a (place .more) (place .kind) in
                 let T = apply (meant W Q R) (i .0) in
                 let x = u .is Q R (i .0) g (i .3) in
                 let y = h .is Q R (i .1) g (i .5) in
