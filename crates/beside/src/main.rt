@@ -1,7 +1,5 @@
 // Holds the proved matcher beside the plain one, on small problems made by chance, and prints how many answers were compared and
 // how many differ.
-mod report;
-
 use plain::numbers::leading;
 use plain::numbers::plus;
 use tallying::candidates;
@@ -11,8 +9,8 @@ use tallying::tally;
 // So many problems are made; those with too many candidate records are left out.
 const PROBLEMS: usize = 2400;
 
-// Goes through the candidate records. How many of them are matchers' records, which found gets.
-fn go_through(
+// The test and the instance maker beside the verdicts on the candidate records.
+fn compare_records(
     label: &[u32],
     size: &[u32],
     kind: &[u32],
@@ -25,55 +23,11 @@ fn go_through(
     pairs: &[u32],
     many: &[u32],
     candidates: usize,
+    verdict: &[u32],
     record: &mut [u32],
-    found: &mut [u32],
-    counts: &mut [u32],
-) -> usize {
-    let mut records = 0;
-    let mut i = 0;
-    while i < candidates {
-        candidates::record(size.len(), pairs, many, i, record);
-        i += 1;
-        let yes = verdicts::compare(
-            label,
-            size,
-            kind,
-            name,
-            pattern_size,
-            expression_kind,
-            expression_name,
-            expression_size,
-            constraint,
-            record,
-            counts,
-        );
-        records = verdicts::keep(yes, record, found, records, counts);
-    }
-    records
-}
-
-// The lister with less room, alone and with less budget. Without variables there is always room.
-fn cut_lists(
-    label: &[u32],
-    size: &[u32],
-    kind: &[u32],
-    name: &[u32],
-    pattern_size: &[u32],
-    expression_kind: &[u32],
-    expression_name: &[u32],
-    expression_size: &[u32],
-    constraint: &[u32],
-    found: &[u32],
-    reached: &[u32],
-    records: usize,
-    tries: usize,
-    out: &mut [u32],
     counts: &mut [u32],
 ) {
-    if constraint.len() == 0 {
-        return;
-    }
-    cuts::by_room(
+    verdicts::compare(
         label,
         size,
         kind,
@@ -83,140 +37,26 @@ fn cut_lists(
         expression_name,
         expression_size,
         constraint,
-        found,
-        reached,
-        records,
-        tries,
-        out,
+        pairs,
+        many,
+        candidates,
+        verdict,
+        record,
         counts,
     );
-    cuts::by_both(
+    rebuilding::compare(
         label,
         size,
         kind,
         name,
         pattern_size,
-        expression_kind,
-        expression_name,
-        expression_size,
-        constraint,
-        found,
-        reached,
-        records,
-        tries,
-        out,
+        pairs,
+        many,
+        candidates,
+        verdict,
+        record,
         counts,
     );
-}
-
-// The lister with all its rooms and budgets.
-fn compare_lists(
-    label: &[u32],
-    size: &[u32],
-    kind: &[u32],
-    name: &[u32],
-    pattern_size: &[u32],
-    expression_kind: &[u32],
-    expression_name: &[u32],
-    expression_size: &[u32],
-    constraint: &[u32],
-    found: &[u32],
-    reached: &[u32],
-    records: usize,
-    tries: usize,
-    counts: &mut [u32],
-) {
-    let mut out = [0u32; 4200];
-    cuts::enough(
-        label,
-        size,
-        kind,
-        name,
-        pattern_size,
-        expression_kind,
-        expression_name,
-        expression_size,
-        constraint,
-        found,
-        reached,
-        records,
-        tries,
-        &mut out,
-        counts,
-    );
-    cut_lists(
-        label,
-        size,
-        kind,
-        name,
-        pattern_size,
-        expression_kind,
-        expression_name,
-        expression_size,
-        constraint,
-        found,
-        reached,
-        records,
-        tries,
-        &mut out,
-        counts,
-    );
-    cuts::by_budget(
-        label,
-        size,
-        kind,
-        name,
-        pattern_size,
-        expression_kind,
-        expression_name,
-        expression_size,
-        constraint,
-        found,
-        reached,
-        records,
-        tries,
-        &mut out,
-        counts,
-    );
-}
-
-// A vector of values has as many numbers as there are choices.
-fn count_tries(
-    label: &[u32],
-    size: &[u32],
-    kind: &[u32],
-    name: &[u32],
-    pattern_size: &[u32],
-    expression_kind: &[u32],
-    expression_name: &[u32],
-    expression_size: &[u32],
-    constraint: &[u32],
-    found: &[u32],
-    records: usize,
-    reached: &mut [u32],
-    counts: &mut [u32],
-) -> usize {
-    let mut choice = [0u32; 4];
-    let mut value = [0u32; 4];
-    let choices = attempts::choices(kind, name, constraint.len() / 2, &mut choice);
-    let numbers = cuts::shortest(choices, &value);
-    attempts::count(
-        label,
-        size,
-        kind,
-        name,
-        pattern_size,
-        expression_kind,
-        expression_name,
-        expression_size,
-        constraint,
-        &choice,
-        found,
-        records,
-        reached,
-        &mut value[0..numbers],
-        counts,
-    )
 }
 
 fn count_found(records: usize, tries: usize, counts: &mut [u32]) {
@@ -225,7 +65,7 @@ fn count_found(records: usize, tries: usize, counts: &mut [u32]) {
 }
 
 // The lister beside the records that were found.
-fn compare_found(
+pub fn compare_found(
     label: &[u32],
     size: &[u32],
     kind: &[u32],
@@ -240,7 +80,7 @@ fn compare_found(
     counts: &mut [u32],
 ) {
     let mut reached = [0u32; 1024];
-    let tries = count_tries(
+    let tries = finding::tries(
         label,
         size,
         kind,
@@ -255,7 +95,7 @@ fn compare_found(
         &mut reached,
         counts,
     );
-    compare_lists(
+    comparing::compare(
         label,
         size,
         kind,
@@ -272,6 +112,69 @@ fn compare_found(
         counts,
     );
     count_found(records, tries, counts);
+}
+
+// The test, the instance maker and the lister beside what was found.
+fn compare_answers(
+    label: &[u32],
+    size: &[u32],
+    kind: &[u32],
+    name: &[u32],
+    pattern_size: &[u32],
+    expression_kind: &[u32],
+    expression_name: &[u32],
+    expression_size: &[u32],
+    constraint: &[u32],
+    pairs: &[u32],
+    many: &[u32],
+    candidates: usize,
+    verdict: &[u32],
+    found: &[u32],
+    records: usize,
+    record: &mut [u32],
+    counts: &mut [u32],
+) {
+    compare_records(
+        label,
+        size,
+        kind,
+        name,
+        pattern_size,
+        expression_kind,
+        expression_name,
+        expression_size,
+        constraint,
+        pairs,
+        many,
+        candidates,
+        verdict,
+        record,
+        counts,
+    );
+    compare_found(
+        label,
+        size,
+        kind,
+        name,
+        pattern_size,
+        expression_kind,
+        expression_name,
+        expression_size,
+        constraint,
+        found,
+        records,
+        counts,
+    );
+    features::count(
+        kind,
+        name,
+        expression_kind,
+        expression_name,
+        expression_size,
+        constraint,
+        records,
+        counts,
+    );
 }
 
 // Compares all but the reader on one problem.
@@ -291,8 +194,9 @@ fn compare_matchers(
     record: &mut [u32],
     counts: &mut [u32],
 ) {
+    let mut verdict = [0u32; 4000];
     let mut found = [0u32; 4096];
-    let records = go_through(
+    let records = finding::records(
         label,
         size,
         kind,
@@ -306,10 +210,11 @@ fn compare_matchers(
         many,
         candidates,
         record,
+        &mut verdict,
         &mut found,
         counts,
     );
-    compare_found(
+    compare_answers(
         label,
         size,
         kind,
@@ -319,18 +224,13 @@ fn compare_matchers(
         expression_name,
         expression_size,
         constraint,
+        pairs,
+        many,
+        candidates,
+        &verdict,
         &found,
         records,
-        counts,
-    );
-    features::count(
-        kind,
-        name,
-        expression_kind,
-        expression_name,
-        expression_size,
-        constraint,
-        records,
+        record,
         counts,
     );
 }
@@ -558,5 +458,5 @@ fn main() {
         problem(&mut seed, &mut counts);
         i += 1;
     }
-    report::print(&counts);
+    reporting::print(&counts);
 }

@@ -1,7 +1,6 @@
 // All numbers here are small. A place outside a list reads as 0 and is not written, and a sum stops at the largest, so that
 // nothing faults on any lists.
 ghost use Prim.Native.Nat.{_≤_};
-ghost use lib.ListN.{length};
 
 pub const LARGEST: usize = 4294967295;
 

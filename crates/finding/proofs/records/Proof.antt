@@ -2,15 +2,15 @@ use Prim.Native.Nat.{_-_}
 use lib.ListN.{length}
 use mathlib.Core.Path.{_≡_}
 use borrow.Author.Needs.{needs}
-use Rattle.beside.proofs.go_through.Statement.{statement}
-use Rattle.beside.proofs.go_through.Tie as tie
+use Rattle.finding.proofs.records.Statement.{statement}
+use Rattle.finding.proofs.records.Tie as tie
 
 abbrev Inv-loop : tie.InvT-loop
-Inv-loop label size kind name pattern-size expression-kind expression-name expression-size constraint pairs many candidates record₀ found₀ counts₀ records₀ i₀ «record» found counts records i =
-    (length «record» ≡ length record₀) × (length found ≡ length found₀) × (length counts ≡ length counts₀)
+Inv-loop label size kind name pattern-size expression-kind expression-name expression-size constraint pairs many candidates record₀ verdict₀ found₀ counts₀ records₀ i₀ «record» verdict found counts records i =
+    (length «record» ≡ length record₀) × (length verdict ≡ length verdict₀) × (length found ≡ length found₀) × (length counts ≡ length counts₀)
 
 abbrev μ-loop : tie.MeasureT-loop
-μ-loop label size kind name pattern-size expression-kind expression-name expression-size constraint pairs many candidates record₀ found₀ counts₀ records₀ i₀ «record» found counts records i =
+μ-loop label size kind name pattern-size expression-kind expression-name expression-size constraint pairs many candidates record₀ verdict₀ found₀ counts₀ records₀ i₀ «record» verdict found counts records i =
     candidates - i
 
 loop-holds : tie.Need-loop-holds Inv-loop μ-loop
@@ -22,8 +22,11 @@ record-requires c κs = search needs
 add-i : tie.Need-add-i Inv-loop μ-loop
 add-i c = search needs
 
-compare-requires : tie.Need-compare-requires Inv-loop μ-loop
-compare-requires c κs = search needs
+verdict-of-requires : tie.Need-verdict-of-requires Inv-loop μ-loop
+verdict-of-requires c κs = search needs
+
+put-requires : tie.Need-put-requires Inv-loop μ-loop
+put-requires c κs = search needs
 
 keep-requires : tie.Need-keep-requires Inv-loop μ-loop
 keep-requires c κs = search needs
@@ -43,11 +46,14 @@ same-length-2 c = search needs
 same-length-3 : tie.Need-same-length-3 Inv-loop μ-loop
 same-length-3 c = search needs
 
+same-length-4 : tie.Need-same-length-4 Inv-loop μ-loop
+same-length-4 c = search needs
+
 returns : tie.Need-returns Inv-loop μ-loop
 returns c = search needs
 
-pub go-through-spec : {M : Type 1} → statement M
-go-through-spec =
+pub records-spec : {M : Type 1} → statement M
+records-spec =
     tie.close
     (tie.spec
     Inv-loop
@@ -55,11 +61,13 @@ go-through-spec =
     loop-holds
     record-requires
     add-i
-    compare-requires
+    verdict-of-requires
+    put-requires
     keep-requires
     loop-less
     loop-again
     same-length
     same-length-2
     same-length-3
+    same-length-4
     returns)

@@ -1,7 +1,7 @@
 use Prim.Native.Nat.{_≤_, _-_}
 use borrow.Author.Needs.{needs}
-use Rattle.verdicts.proofs.same_lists.Statement.{statement}
-use Rattle.verdicts.proofs.same_lists.Tie as tie
+use Rattle.rebuilding.proofs.same_lists.Statement.{statement}
+use Rattle.rebuilding.proofs.same_lists.Tie as tie
 
 abbrev Inv-loop : tie.InvT-loop
 Inv-loop a b count i₀ i =

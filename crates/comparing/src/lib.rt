@@ -1,0 +1,128 @@
+// The lister beside the records that were found, with all its rooms and budgets.
+// The lister with less room, alone and with less budget. Without variables there is always room.
+fn cut_lists(
+    label: &[u32],
+    size: &[u32],
+    kind: &[u32],
+    name: &[u32],
+    pattern_size: &[u32],
+    expression_kind: &[u32],
+    expression_name: &[u32],
+    expression_size: &[u32],
+    constraint: &[u32],
+    found: &[u32],
+    reached: &[u32],
+    records: usize,
+    tries: usize,
+    out: &mut [u32],
+    counts: &mut [u32],
+) {
+    if constraint.len() == 0 {
+        return;
+    }
+    cuts::by_room(
+        label,
+        size,
+        kind,
+        name,
+        pattern_size,
+        expression_kind,
+        expression_name,
+        expression_size,
+        constraint,
+        found,
+        reached,
+        records,
+        tries,
+        out,
+        counts,
+    );
+    cuts::by_both(
+        label,
+        size,
+        kind,
+        name,
+        pattern_size,
+        expression_kind,
+        expression_name,
+        expression_size,
+        constraint,
+        found,
+        reached,
+        records,
+        tries,
+        out,
+        counts,
+    );
+}
+
+// The lister with all its rooms and budgets.
+pub fn compare(
+    label: &[u32],
+    size: &[u32],
+    kind: &[u32],
+    name: &[u32],
+    pattern_size: &[u32],
+    expression_kind: &[u32],
+    expression_name: &[u32],
+    expression_size: &[u32],
+    constraint: &[u32],
+    found: &[u32],
+    reached: &[u32],
+    records: usize,
+    tries: usize,
+    counts: &mut [u32],
+) {
+    let mut out = [0u32; 4200];
+    cuts::enough(
+        label,
+        size,
+        kind,
+        name,
+        pattern_size,
+        expression_kind,
+        expression_name,
+        expression_size,
+        constraint,
+        found,
+        reached,
+        records,
+        tries,
+        &mut out,
+        counts,
+    );
+    cut_lists(
+        label,
+        size,
+        kind,
+        name,
+        pattern_size,
+        expression_kind,
+        expression_name,
+        expression_size,
+        constraint,
+        found,
+        reached,
+        records,
+        tries,
+        &mut out,
+        counts,
+    );
+    cuts::by_budget(
+        label,
+        size,
+        kind,
+        name,
+        pattern_size,
+        expression_kind,
+        expression_name,
+        expression_size,
+        constraint,
+        found,
+        reached,
+        records,
+        tries,
+        &mut out,
+        counts,
+    );
+}
