@@ -1,11 +1,10 @@
 -- A list that ends complete is the same with more room or budget.
 use Prim.Native.Nat.{ℕ, zero, suc, _≤_}
-use mathlib.Core.Path.{_≡_, refl, ap, _∙_, sym}
+use mathlib.Core.Path.{_≡_, refl, ap}
 use mathlib.Core.List.{List, [], _∷_}
 use native.Mathlib.Omega.{arith}
 use native.Mathlib.Nat.{mul-le-mul-right}
 use lib.Ieee.Nearest.{div-mono}
-use Rattle.listing.specs.Answer.{Result}
 use Rattle.listing.proofs.Back.{fitting}
 use Rattle.listing.proofs.Events.{Event, tried, matched}
 use Rattle.listing.proofs.Run.{run, one-try, one-match}

@@ -1,6 +1,6 @@
 -- A reading is recalled, goes on, and is kept; and what it says of the constraint.
-use Prim.Native.Nat.{ℕ, zero, suc, _+_, _-_, _*_, _≤_, _<_}
-use mathlib.Core.Path.{_≡_, refl, sym}
+use Prim.Native.Nat.{ℕ, zero, suc, _+_, _-_, _*_, _≤_}
+use mathlib.Core.Path.{_≡_}
 use mathlib.Core.Logic.{_≢_}
 use mathlib.Core.Bool.{Bool, true, false}
 use mathlib.Core.List.{List}
@@ -9,11 +9,11 @@ use lib.ListN.{getD}
 use native.Mathlib.Omega.{arith}
 use Rattle.meaning.specs.Forest.{Forest, none, some, terms}
 use Rattle.meaning.proofs.Laws.{dropT}
-use Rattle.constraint.specs.Reading.{HeadsPre, MorePre, ReadTo, ReadOn, ForbiddenPost}
+use Rattle.constraint.specs.Reading.{MorePre, ReadTo, ReadOn, ForbiddenPost}
 use Rattle.constraint.proofs.Readings.{Begun, no-head, all-heads}
 use Rattle.constraint.proofs.Judging.{obeys-free, obeys-forbidden, obeys-read, heads-after, heads-asked}
 use Rattle.problem.proofs.Judged.{asked-within, judge-asks, judged-by}
-use Rattle.memory.specs.Memory.{Kept, Remembers, kept, RecallPost, GrownPre, GrownPost, GrowPre, GrowPost}
+use Rattle.memory.specs.Memory.{kept, RecallPost, GrownPre, GrownPost, GrowPre, GrowPost}
 use Rattle.memory.proofs.Numbers.{remembers}
 
 -- RECALLED

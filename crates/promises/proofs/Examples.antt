@@ -15,7 +15,7 @@ use Rattle.expression.specs.Expression as E
 use Rattle.expression.specs.Good.{GoodTable}
 use Rattle.constraint.specs.Obeys.{Constraint, free, bound}
 use Rattle.constraint.specs.Good.{GoodConstraints, all-given, none-given, one-given}
-use Rattle.problem.specs.Problem.{Lists, Poses}
+use Rattle.problem.specs.Problem.{Poses}
 use Rattle.promises.specs.Table.{queryOnTree, twoSequences, inChoice, sameSequence, inRepetition, sameContext, noTermLeft, functionOverIndividual, ground}
 
 no-label : Below 65536 []

@@ -2,11 +2,6 @@ use Rattle.memory.proofs.Growing.{more-there, grown-read}
 use borrow.Author.Needs.{needs}
 use Rattle.memory.proofs.grown.Statement.{statement}
 use Rattle.memory.proofs.grown.Tie as tie
-use Rattle.memory.proofs.grown.Reads as reads
-use Rattle.memory.proofs.grown.Lts as lts
-use Rattle.constraint.proofs.read_on.Reads as read-on-reads
-use Rattle.memory.proofs.keep.Reads as keep-reads
-use Rattle.memory.proofs.recall.Reads as recall-reads
 
 -- src/lib.rt:99:9
 recall-requires : tie.Need-recall-requires

@@ -1,16 +1,9 @@
-use mathlib.Core.Path.{refl}
 use native.Mathlib.Omega.{arith}
 use Rattle.problem.proofs.Judged.{asked-within}
 use Rattle.memory.proofs.Growing.{grow-free, grow-forbidden, grow-read, grow-asked}
 use borrow.Author.Needs.{needs}
 use Rattle.memory.proofs.judge.Statement.{statement}
 use Rattle.memory.proofs.judge.Tie as tie
-use Rattle.memory.proofs.judge.Reads as reads
-use Rattle.memory.proofs.judge.Lts as lts
-use Rattle.constraint.proofs.forbidden.Reads as forbidden-reads
-use Rattle.memory.proofs.grown.Reads as grown-reads
-use Rattle.memory.proofs.row_of.Reads as row-of-reads
-use Rattle.problem.proofs.judge.Reads as judge-reads
 
 -- src/lib.rt:137:28
 add-start : tie.Need-add-start

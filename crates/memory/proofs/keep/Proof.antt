@@ -2,9 +2,6 @@ use mathlib.Core.Path.{refl}
 use borrow.Author.Needs.{needs}
 use Rattle.memory.proofs.keep.Statement.{statement}
 use Rattle.memory.proofs.keep.Tie as tie
-use Rattle.memory.proofs.keep.Reads as reads
-use Rattle.memory.proofs.keep.Lts as lts
-use Rattle.memory.proofs.number.Reads as number-reads
 
 -- src/lib.rt:71:14
 mul-at : tie.Need-mul-at

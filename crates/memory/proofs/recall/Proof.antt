@@ -3,9 +3,6 @@ use Rattle.memory.proofs.Growing.{recalled, begun}
 use borrow.Author.Needs.{needs}
 use Rattle.memory.proofs.recall.Statement.{statement}
 use Rattle.memory.proofs.recall.Tie as tie
-use Rattle.memory.proofs.recall.Reads as reads
-use Rattle.memory.proofs.recall.Lts as lts
-use Rattle.letters.proofs.begin.Reads as begin-reads
 
 -- src/lib.rt:34:14
 mul-at : tie.Need-mul-at
