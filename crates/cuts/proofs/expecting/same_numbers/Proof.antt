@@ -1,21 +1,24 @@
 use Prim.Native.Nat.{_≤_, _-_}
 use borrow.Author.Needs.{needs}
-use Rattle.cuts.proofs.within.Statement.{statement}
-use Rattle.cuts.proofs.within.Tie as tie
+use Rattle.cuts.proofs.expecting.same_numbers.Statement.{statement}
+use Rattle.cuts.proofs.expecting.same_numbers.Tie as tie
 
 abbrev Inv-loop : tie.InvT-loop
-Inv-loop reached records budget i₀ i =
+Inv-loop out found written to i₀ i =
     0 ≤ i
 
 abbrev μ-loop : tie.MeasureT-loop
-μ-loop reached records budget i₀ i =
-    records - i
+μ-loop out found written to i₀ i =
+    to - i
 
 loop-holds : tie.Need-loop-holds Inv-loop μ-loop
 loop-holds c = search needs
 
 at-requires : tie.Need-at-requires Inv-loop μ-loop
 at-requires c κs = search needs
+
+at-requires-2 : tie.Need-at-requires-2 Inv-loop μ-loop
+at-requires-2 c κs = search needs
 
 returns : tie.Need-returns Inv-loop μ-loop
 returns c = search needs
@@ -32,7 +35,17 @@ loop-again c = search needs
 returns-2 : tie.Need-returns-2 Inv-loop μ-loop
 returns-2 c = search needs
 
-pub within-spec : {M : Type 1} → statement M
-within-spec =
+pub same-numbers-spec : {M : Type 1} → statement M
+same-numbers-spec =
     tie.close
-    (tie.spec Inv-loop μ-loop loop-holds at-requires returns add-i loop-less loop-again returns-2)
+    (tie.spec
+    Inv-loop
+    μ-loop
+    loop-holds
+    at-requires
+    at-requires-2
+    returns
+    add-i
+    loop-less
+    loop-again
+    returns-2)

@@ -2,8 +2,8 @@ use Prim.Native.Nat.{_-_}
 use lib.ListN.{length}
 use mathlib.Core.Path.{_≡_}
 use borrow.Author.Needs.{needs}
-use Rattle.cuts.proofs.clear.Statement.{statement}
-use Rattle.cuts.proofs.clear.Tie as tie
+use Rattle.cuts.proofs.expecting.clear.Statement.{statement}
+use Rattle.cuts.proofs.expecting.clear.Tie as tie
 
 abbrev Inv-loop : tie.InvT-loop
 Inv-loop out₀ to i₀ out i =
