@@ -24,7 +24,7 @@ fn room_for(n: usize, width: usize) -> usize
 fn begin(
     label: &[u32],
     size: &[u32],
-    pattern: &[u32],
+    pattern: &[u32; 768],
     name: &[u32; 64],
     first: &[u64; 64],
     null: &[bool; 64],
@@ -41,17 +41,22 @@ fn begin(
     ensures { λ r. ⌜ BeginPost (now (label .entry)) (now (size .entry)) (now (pattern .entry)) (now (name .entry)) (now (first .entry)) (now (null .entry)) (now (cont .entry)) (now (ends .entry)) (now (constraint .entry)) (now (kinds .entry)) budget room width (now (out .entry)) r (now (out .exit)) ⌝ }
 {
     let mut record = [0u32; 32];
-    match walk::walk(label, size, pattern, &mut record, 0) {
+    let mut at = [0usize; 512];
+    match walk::begin(label, size, pattern, &mut record, &mut at) {
         walk::Out::Fail => Found {
             ending: 0,
             records: 0,
             tries: 0,
         },
-        walk::Out::Need(x, s, lo, hi) => {
+        walk::Out::Need(p, x, s, lo, hi) => {
+            let mut places = [0usize; 16];
+            let mut rows = [0usize; 16];
             let mut variables = [0usize; 16];
             let mut starts = [0usize; 16];
             let mut nexts = [0usize; 16];
             let mut lefts = [0usize; 16];
+            places[0] = p;
+            rows[0] = s;
             variables[0] = x;
             starts[0] = s;
             nexts[0] = lo;
@@ -71,8 +76,11 @@ fn begin(
                 room,
                 width,
                 record,
+                &mut at,
+                places,
                 variables,
                 starts,
+                rows,
                 nexts,
                 lefts,
                 1,

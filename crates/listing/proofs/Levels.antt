@@ -1,4 +1,4 @@
--- The levels of the search: each has asked for a variable and goes through its values, and the record holds the choices made.
+-- The levels of the search: each has asked for a variable and goes through its values.
 use Prim.Native.Nat.{ℕ, suc, _+_, _-_, _<_, _≤_}
 use mathlib.Core.Path.{_≡_, refl, ap, _∙_, sym}
 use mathlib.Core.List.{List, [], _∷_, _++_}
@@ -9,14 +9,14 @@ use native.Mathlib.Decide.{decLt}
 use Rattle.meaning.specs.Forest.{Term}
 use Rattle.meaning.specs.Pattern.{Pattern, Kind, anIndividual, aSequence, aFunction, aContext, old, look, Numbered}
 use Rattle.meaning.specs.Value.{Value, kinds}
-use Rattle.meaning.specs.Record.{Entry, values, numbers}
+use Rattle.meaning.specs.Record.{Entry, values}
 use Rattle.meaning.specs.Reached.{Begins}
 use Rattle.meaning.proofs.Walk.{need, walk}
 use Rattle.meaning.proofs.Lists.{look-old}
 use Rattle.meaning.proofs.Steps.{kinds-length, values-length}
 use Rattle.meaning.proofs.Asked.{asked-reached, asked-picked}
 use Rattle.meaning.proofs.Tame.{weight, count, asked-next, picked-many}
-use Rattle.listing.proofs.Given.{Chosen, given, given-cut, count-less, given-same, given-next}
+use Rattle.listing.proofs.Given.{Chosen, count-less}
 
 chosen : (k : Kind) → weight k ≡ 1 → Chosen k
 chosen anIndividual h = absurd (omega arith)
@@ -55,24 +55,17 @@ module _ (Allowed : ℕ → Value → Type 0) (allowed? : (x : ℕ) (v : Value) 
     pub level-count : length cs ≡ count (take x Q)
     level-count = ap length (asked-picked Allowed allowed? T g (v .asked)) ∙ picked-many (v .bound) ∙ ap count kinds-are
 
-    -- where the record has the numbers of the variables before it, it gives these choices
-    pub level-given : (R : List ℕ) → x ≤ length Q → x + x ≤ length R → take (x + x) R ≡ numbers (v .bound) → given Q R x ≡ cs
-    level-given R h l e =
-        sym (given-cut Q R x h l) ∙ rw (e, ← kinds-are) (sym (asked-picked Allowed allowed? T g (v .asked)))
-
     pub level-within : x < length Q
     level-within = look-old Q x (level-kind .0) (level-kind .1)
 
-  -- the levels below depth, the record giving the choices of the last
-  pub record Levels (vals variables starts nexts lefts R : List ℕ) (depth : ℕ) : Type 0 where
-    pub room : length Q + length Q ≤ length R
+  -- the levels below depth
+  pub record Levels (vals variables starts nexts lefts : List ℕ) (depth : ℕ) : Type 0 where
     pub long : depth ≤ length vals
     pub each : (k : ℕ) → k < depth → Level (take k vals) (getD variables k 0) (getD starts k 0) (getD nexts k 0) (getD lefts k 0)
-    pub made : (k : ℕ) → k < depth → given Q R (getD variables k 0) ≡ take k vals
 
-  module _ {vals variables starts nexts lefts R : List ℕ} where
+  module _ {vals variables starts nexts lefts : List ℕ} where
     -- deeper levels look further to the right
-    variables-rise : {depth : ℕ} → Levels vals variables starts nexts lefts R depth → (j k : ℕ) → j ≤ k → k < depth → getD variables j 0 ≤ getD variables k 0
+    pub variables-rise : {depth : ℕ} → Levels vals variables starts nexts lefts depth → (j k : ℕ) → j ≤ k → k < depth → getD variables j 0 ≤ getD variables k 0
     variables-rise v j k h l = go (decLt (getD variables k 0) (getD variables j 0)) (decLt j k)
       where
         a : length (take j vals) ≡ count (take (getD variables j 0) Q)
@@ -87,29 +80,16 @@ module _ (Allowed : ℕ → Value → Type 0) (allowed? : (x : ℕ) (v : Value) 
             absurd (omega (arith, a, b, count-less Q (getD variables k 0) (getD variables j 0) (omega arith), length-take-le j vals (omega (arith, v .long)), length-take-le k vals (omega (arith, v .long))))
         go (yes y) (no d) = let e : j ≡ k = omega arith in rw e (omega arith)
 
-    pub levels-back : {depth d : ℕ} → d ≤ depth → Levels vals variables starts nexts lefts R depth → Levels vals variables starts nexts lefts R d
-    levels-back h v = record { room = v .room; long = omega (arith, v .long); each = λ k l. v .each k (omega arith); made = λ k l. v .made k (omega arith) }
-
-    -- another record with the same choices
-    pub levels-kept : {depth : ℕ} {S : List ℕ} → length S ≡ length R → ((y : ℕ) (k : Kind) → look Q y ≡ old k → Chosen k → getD S (y + y + 1) 0 ≡ getD R (y + y + 1) 0)
-        → Levels vals variables starts nexts lefts R depth → Levels vals variables starts nexts lefts S depth
-    levels-kept {S = S} e h v =
-        record {
-          room = rw e (v .room);
-          long = v .long;
-          each = v .each;
-          made = λ k l. given-same Q R S (getD variables k 0) (omega (arith, v .room, level-within (v .each k l))) e (λ y j m o c. h y j o c) ∙ v .made k l;
-        }
+    pub levels-back : {depth d : ℕ} → d ≤ depth → Levels vals variables starts nexts lefts depth → Levels vals variables starts nexts lefts d
+    levels-back h v = record { long = omega (arith, v .long); each = λ k l. v .each k (omega arith) }
 
     -- the last level takes its next value
-    pub levels-next : {d : ℕ} → Levels vals variables starts nexts lefts R (suc d) → 0 < getD lefts d 0 → d < length nexts → d < length lefts
-        → Levels (set vals d (getD nexts d 0)) variables starts (set nexts d (getD nexts d 0 + 1)) (set lefts d (getD lefts d 0 - 1)) R (suc d)
+    pub levels-next : {d : ℕ} → Levels vals variables starts nexts lefts (suc d) → 0 < getD lefts d 0 → d < length nexts → d < length lefts
+        → Levels (set vals d (getD nexts d 0)) variables starts (set nexts d (getD nexts d 0 + 1)) (set lefts d (getD lefts d 0 - 1)) (suc d)
     levels-next {d} v live hn hl =
         record {
-          room = v .room;
           long = rw (length-set vals d (getD nexts d 0)) (v .long);
           each = λ k l. each k l (decLt k d);
-          made = λ k l. v .made k l ∙ sym (same k l);
         }
       where
         same : (k : ℕ) → k < suc d → take k (set vals d (getD nexts d 0)) ≡ take k vals
@@ -126,32 +106,13 @@ module _ (Allowed : ℕ → Value → Type 0) (allowed? : (x : ℕ) (v : Value) 
             rw (e, take-set-le d vals d (getD nexts d 0) (omega arith), getD-set-same nexts d (getD nexts d 0 + 1) 0 hn, getD-set-same lefts d (getD lefts d 0 - 1) 0 hl)
             (record { bound = w .bound; lo = w .lo; hi = w .hi; asked = w .asked; its = w .its; low = omega (arith, w .low); high = omega (arith, w .high) })
 
-    -- the value goes into the record
-    pub levels-set : {d : ℕ} (c : ℕ) → Levels vals variables starts nexts lefts R (suc d) → Levels vals variables starts nexts lefts (set R (getD variables d 0 + getD variables d 0 + 1) c) (suc d)
-    levels-set {d} c v =
-        record {
-          room = rw (length-set R (getD variables d 0 + getD variables d 0 + 1) c) (v .room);
-          long = v .long;
-          each = v .each;
-          made = λ k l.
-              given-same Q R _ (getD variables k 0) (omega (arith, v .room, level-within (v .each k l))) (length-set R (getD variables d 0 + getD variables d 0 + 1) c)
-              (λ y j m o h. getD-set-other R _ (y + y + 1) c 0 (λ e. omega (arith, variables-rise v k d (omega arith) (omega arith)))) ∙ v .made k l;
-        }
-
-    pub levels-given : {d : ℕ} (c : ℕ) → Levels vals variables starts nexts lefts R (suc d)
-        → given Q (set R (getD variables d 0 + getD variables d 0 + 1) c) (suc (getD variables d 0)) ≡ take d vals ++ (c ∷ [])
-    levels-given {d} c v =
-        let w = v .each d (omega arith) in
-        let k = level-kind w in
-        given-next Q R (getD variables d 0) c (k .0) (k .1) (k .2) (omega (arith, v .room, level-within w)) ∙ ap (λ (l : List ℕ). l ++ (c ∷ [])) (v .made d (omega arith))
-
     -- one level more
-    pub levels-need : {depth : ℕ} {B : List Entry} {t lo hi : ℕ} → Levels vals variables starts nexts lefts R depth → depth < length vals
+    pub levels-need : {depth : ℕ} {B : List Entry} {t lo hi : ℕ} → Levels vals variables starts nexts lefts depth → depth < length vals
         → depth < length variables → depth < length starts → depth < length nexts → depth < length lefts
-        → walk Allowed allowed? P T (take depth vals) ≡ need B t lo hi → lo ≤ hi → take (length B + length B) R ≡ numbers B
-        → Levels vals (set variables depth (length B)) (set starts depth t) (set nexts depth lo) (set lefts depth (suc hi - lo)) R (suc depth)
-    levels-need {depth} {B} {t} {lo} {hi} v hc hv hs hn hl e h r =
-        record { room = v .room; long = hc; each = λ k l. each k l (decLt k depth); made = λ k l. made k l (decLt k depth) }
+        → walk Allowed allowed? P T (take depth vals) ≡ need B t lo hi → lo ≤ hi
+        → Levels vals (set variables depth (length B)) (set starts depth t) (set nexts depth lo) (set lefts depth (suc hi - lo)) (suc depth)
+    levels-need {depth} {B} {t} {lo} {hi} v hc hv hs hn hl e h =
+        record { long = hc; each = λ k l. each k l (decLt k depth) }
       where
         top : Level (take depth vals) (length B) t lo (suc hi - lo)
         top = record { bound = B; lo = lo; hi = hi; asked = e; its = values-length B; low = omega arith; high = omega arith }
@@ -164,10 +125,3 @@ module _ (Allowed : ℕ → Value → Type 0) (allowed? : (x : ℕ) (v : Value) 
         each k l (no d) =
             let o : k ≡ depth = omega arith in
             rw (o, getD-set-same variables depth (length B) 0 hv, getD-set-same starts depth t 0 hs, getD-set-same nexts depth lo 0 hn, getD-set-same lefts depth (suc hi - lo) 0 hl) top
-
-        made : (k : ℕ) → k < suc depth → Dec (k < depth) → given Q R (getD (set variables depth (length B)) k 0) ≡ take k vals
-        made k l (yes d) = let z : k ≡ depth → ⊥ = λ o. omega arith in rw (getD-set-other variables depth k (length B) 0 z) (v .made k d)
-        made k l (no d) =
-            let o : k ≡ depth = omega arith in
-            let w = level-within top in
-            rw (o, getD-set-same variables depth (length B) 0 hv) (level-given top R (omega arith) (omega (arith, v .room)) r)

@@ -14,3 +14,4 @@ pub mod Round
 pub mod OneKinds
 pub mod OneCode
 pub mod Next
+pub mod Resume

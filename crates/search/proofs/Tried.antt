@@ -1,63 +1,49 @@
--- One try: judged, written into the record, and walked with.
-use Prim.Native.Nat.{ℕ, _+_, _<_}
+-- One try: judged, and walked with.
+use Prim.Native.Nat.{ℕ, _+_, _*_}
 use mathlib.Core.Path.{_≡_, refl, _∙_}
+use mathlib.Core.Logic.{_≢_}
 use mathlib.Core.Bool.{Bool, true, false}
 use mathlib.Core.List.{List}
-use lib.ListN.{length, set, length-set}
+use lib.ListN.{getD}
 use native.Mathlib.Omega.{arith}
-use native.Mathlib.Numerals.{add-one}
-use Rattle.meaning.specs.Forest.{Term}
-use Rattle.meaning.specs.Pattern.{Pattern, Kind, old, look}
-use Rattle.meaning.proofs.Lists.{look-old}
 use Rattle.meaning.proofs.Answers.{said-no}
-use Rattle.expression.specs.Expression.{Expression}
-use Rattle.constraint.specs.Obeys.{Constraint}
 use Rattle.problem.specs.Judge.{JudgePre, JudgePost}
-use Rattle.walk.specs.Walked.{WalkPre, WalkPost, Problem}
+use Rattle.walk.specs.Taken.{TakePre, TakePost}
 use Rattle.walk.specs.declared.Out.{Out}
 use Rattle.walk.specs.declared.Out.the-variants as out
-use Rattle.search.specs.Search.{Search, AttemptPre, AttemptPost}
+use Rattle.walk.proofs.Marks.{unchanged-same}
+use Rattle.search.specs.Search.{FurtherPre, FurtherPost, AttemptPre, AttemptPost}
 
-module _ {L S M name first : List ℕ} {null : List Bool} {cont : List ℕ} {ends : List Bool} {C kinds R : List ℕ} {x s v : ℕ} (p : AttemptPre L S M name first null cont ends C kinds R x s v) where
+module _ {L S M name first : List ℕ} {null : List Bool} {cont : List ℕ} {ends : List Bool} {C kinds R A : List ℕ} {p x s u v : ℕ}
+    (pre : AttemptPre L S M name first null cont ends C kinds R A p x s u v) where
   pub try-judged : JudgePre L S name first null cont ends C kinds x s v
-  try-judged = let h = p .some in record { some = (h .0, h .2, h .3, h .4, h .5, h .6 .judging, h .7, h .8) }
+  try-judged = let h = pre .some in record { some = (h .0, h .2, h .3, h .4, h .5, h .9 .judging, h .10, h .11) }
 
-  pub try-within : (x < 16) × (x + x + 1 < length R)
-  try-within =
-      let h = p .some in
-      let l = look-old (h .2) x (h .5) (h .7) in
-      (omega (arith, h .6 .judging .few), omega (arith, h .6 .judging .few, p .long))
-
-  pub try-fails : {r : Bool} → JudgePost L S name first null cont ends C kinds x s v r → r ≡ false → AttemptPost L S M name first null cont ends C kinds R x s v out.Fail R
+  pub try-fails : {r : Bool} → JudgePost L S name first null cont ends C kinds x s v r → r ≡ false → AttemptPost L S M name first null cont ends C kinds R A p x s u v out.Fail R A
   try-fails post e =
       record {
-        long = p .long;
-        is = λ T P Q es cs k w l f. (λ n. (refl, refl), λ a. absurd (said-no (post .is T Q es cs k (w .judging) l f) e a));
+        is = λ T P Q es cs k f lo hi w l g a. (λ n. refl, λ b. absurd (said-no (post .is T Q es cs k (w .judging) l g) e b), unchanged-same, unchanged-same);
       }
 
-  problem : {T : Term} {P : Pattern} {Q : List Kind} {es : List Expression} {cs : List Constraint} {k : Kind} → Search L S M name first null cont ends C kinds T P Q es cs → look Q x ≡ old k
-      → Problem L S M (set R (x + x + 1) v) (x + 1) T P Q
-  problem {Q = Q} {k = k} w l =
+  pub try-asked : TakePre L S M R A p x s u v
+  try-asked = let h = pre .some in record { some = (h .9 .K, h .9 .N, h .9 .Z, h .2, h .6, h .7, h .8, h .12) }
+
+  pub try-walked : {r : Bool} {o : Out} {R′ A′ : List ℕ} → JudgePost L S name first null cont ends C kinds x s v r → r ≡ true → TakePost L S M R A p x s u v o R′ A′
+      → AttemptPost L S M name first null cont ends C kinds R A p x s u v o R′ A′
+  try-walked post e walk =
       record {
-        K = w .K;
-        N = w .N;
-        Z = w .Z;
-        tree = w .judging .tree;
-        pattern = w .pattern;
-        packed = w .packed;
-        few = omega (arith, look-old Q x k l);
-        room = omega (arith, length-set R (x + x + 1) v, p .long, w .judging .few);
+        is = λ T P Q es cs k f lo hi w l g a.
+            let y = walk .is (w .K) (w .N) (w .Z) Q f lo hi a in
+            (λ n. absurd (n (post .is T Q es cs k (w .judging) l g .0 e)), λ b. (y .0, y .1), y .2, y .3);
       }
 
-  pub try-asked : WalkPre L S M (set R (x + x + 1) v) (x + 1)
-  try-asked = let h = p .some in record { some = (h .0, h .1, h .2, problem (h .6) (h .7)) }
+-- the row of the next value
+module _ {S M : List ℕ} {p u left : ℕ} where
+  pub further-last : left ≡ 0 → FurtherPost S M p u left u
+  further-last e = record { terms = λ h. absurd (omega arith); hole = λ h. absurd (omega arith) }
 
-  pub try-walked : {r : Bool} {o : Out} {R′ : List ℕ} → JudgePost L S name first null cont ends C kinds x s v r → r ≡ true → WalkPost L S M (set R (x + x + 1) v) (x + 1) o R′
-      → AttemptPost L S M name first null cont ends C kinds R x s v o R′
-  try-walked {o = o} {R′ = R′} post e walk =
-      record {
-        long =
-            let h = p .some in
-            walk .is (h .0) (h .1) (h .2) (problem (h .6) (h .7)) .1 .long ∙ length-set R (x + x + 1) v ∙ p .long;
-        is = λ T P Q es cs k w l f. (λ n. absurd (n (post .is T Q es cs k (w .judging) l f .0 e)), λ a. rw (← (add-one x)) (walk .is T P Q (problem w l)));
-      }
+  pub further-terms : {k r : ℕ} → k ≡ getD M (3 * p) 0 → k ≡ 2 → r ≡ u + getD S u 0 → FurtherPost S M p u left r
+  further-terms ek two er = record { terms = λ h g. er; hole = λ h n. absurd (n (omega arith)) }
+
+  pub further-hole : {k : ℕ} → k ≡ getD M (3 * p) 0 → k ≢ 2 → FurtherPost S M p u left (u + 1)
+  further-hole ek two = record { terms = λ h g. absurd (two (ek ∙ g)); hole = λ h n. refl }

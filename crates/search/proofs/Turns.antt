@@ -1,8 +1,8 @@
 -- The search's loop: what holds at each turn, for every problem that the lists mean.
 use Prim.Native.Nat.{ℕ, suc, _+_, _-_, _*_, _<_, _≤_}
-use mathlib.Core.Path.{_≡_, refl, ap, _∙_, subst}
+use mathlib.Core.Path.{_≡_, refl, ap, _∙_, sym, subst}
 use mathlib.Core.Bool.{Bool}
-use mathlib.Core.List.{List, []}
+use mathlib.Core.List.{List, [], _++_}
 use lib.ListN.{length, getD, take, set, length-set}
 use lib.Seq.{paste}
 use native.Mathlib.Omega.{arith}
@@ -10,14 +10,16 @@ use native.Mathlib.Numerals.{add-one}
 use Rattle.meaning.specs.Forest.{Term, size, rows}
 use Rattle.meaning.specs.Pattern.{Pattern, Kind}
 use Rattle.meaning.specs.Record.{Entry, numbers}
-use Rattle.meaning.proofs.Walk.{need, ok, walk}
+use Rattle.meaning.proofs.Walk.{need, ok, walkT, walk}
+use Rattle.meaning.proofs.Next.{Any, any?}
 use Rattle.meaning.proofs.Tame.{count, tame-need}
 use Rattle.tree.specs.Good.{GoodTree}
 use Rattle.tree.proofs.Unique.{good-lengths}
 use Rattle.expression.specs.Expression.{Expression}
 use Rattle.constraint.specs.Obeys.{Constraint, Allowed}
 use Rattle.constraint.proofs.Allowed.{allowed?}
-use Rattle.walk.specs.Walked.{Answers}
+use Rattle.walk.specs.Cycle.{Needs}
+use Rattle.walk.specs.Taken.{Answers}
 use Rattle.walk.specs.declared.Out.{Out}
 use Rattle.walk.specs.declared.Out.the-variants as answer
 use Rattle.walk.proofs.Answered.{failed, needed, matched}
@@ -27,9 +29,10 @@ use Rattle.listing.proofs.Fill.{Filled, fill, rest, ahead}
 use Rattle.listing.proofs.Levels.{levels-back, levels-need}
 use Rattle.listing.proofs.Loop.{Fixed, At, at-rest, at-back, all-done, at-spent, at-next, at-fail, at-need, at-match, no-room, room-left, need-deep}
 use Rattle.listing.proofs.Whole.{outcome}
-use Rattle.search.specs.Search.{AttemptPre, AttemptPost, GoAsked, GoPre, GoPost}
+use Rattle.search.specs.Search.{FurtherPre, FurtherPost, AttemptPre, AttemptPost, GoAsked, GoPre, GoPost}
 use Rattle.search.specs.declared.Found.{Found}
-use Rattle.search.proofs.Going.{few, Walked, is-fixed, Leveled, try-kind, try-answered}
+use Rattle.search.proofs.Going.{few, Walked, is-fixed, Leveled, Paused, try-kind, try-taken, try-answered, further-asked}
+use Rattle.search.proofs.Pauses.{pauses-back, pauses-need}
 
 pub tree-small : {L S : List ℕ} {T : Term} → GoodTree L S T → size T ≤ 2048
 unfolding rows
@@ -52,8 +55,11 @@ pub record Input : Type 0 where
   pub room : ℕ
   pub width : ℕ
   pub R : List ℕ
+  pub A : List ℕ
+  pub G : List ℕ
   pub X : List ℕ
   pub St : List ℕ
+  pub U : List ℕ
   pub N : List ℕ
   pub F : List ℕ
   pub start : ℕ
@@ -61,8 +67,8 @@ pub record Input : Type 0 where
 
 abbrev pub given :
     (L S M name first : List ℕ) (null : List Bool) (cont : List ℕ) (ends : List Bool) (C kinds : List ℕ) (budget room width : ℕ)
-    (R X St N F : List ℕ) (start : ℕ) (before : List ℕ) → Input
-given L S M name first null cont ends C kinds budget room width R X St N F start before =
+    (R A G X St U N F : List ℕ) (start : ℕ) (before : List ℕ) → Input
+given L S M name first null cont ends C kinds budget room width R A G X St U N F start before =
     record {
       L = L;
       S = S;
@@ -78,8 +84,11 @@ given L S M name first null cont ends C kinds budget room width R X St N F start
       room = room;
       width = width;
       R = R;
+      A = A;
+      G = G;
       X = X;
       St = St;
+      U = U;
       N = N;
       F = F;
       start = start;
@@ -87,10 +96,12 @@ given L S M name first null cont ends C kinds budget room width R X St N F start
     }
 
 -- the lengths that the record and the levels' lists keep
-pub record Long (R X St N F : List ℕ) : Type 0 where
+pub record Long (R G X St U N F : List ℕ) : Type 0 where
   pub record-long : length R ≡ 32
+  pub places-long : length G ≡ 16
   pub variables-long : length X ≡ 16
   pub starts-long : length St ≡ 16
+  pub rows-long : length U ≡ 16
   pub nexts-long : length N ≡ 16
   pub lefts-long : length F ≡ 16
 
@@ -105,17 +116,17 @@ module _ (i : Input) where
   abbrev Asked : Term → Pattern → List Kind → List Expression → List Constraint → List ℕ → Type 0
   Asked T P Q es cs vals =
       GoAsked (i .L) (i .S) (i .M) (i .name) (i .first) (i .null) (i .cont) (i .ends) (i .C) (i .kinds) (i .room) (i .width)
-      (i .R) (i .X) (i .St) (i .N) (i .F) (i .start) (i .before) T P Q es cs vals
+      (i .R) (i .A) (i .G) (i .X) (i .St) (i .U) (i .N) (i .F) (i .start) (i .before) T P Q es cs vals
 
   abbrev Post : Found → List ℕ → Type 0
   Post r after =
       GoPost (i .L) (i .S) (i .M) (i .name) (i .first) (i .null) (i .cont) (i .ends) (i .C) (i .kinds) (i .budget) (i .room) (i .width)
-      (i .R) (i .X) (i .St) (i .N) (i .F) (i .start) (i .before) r after
+      (i .R) (i .A) (i .G) (i .X) (i .St) (i .U) (i .N) (i .F) (i .start) (i .before) r after
 
   abbrev Pre : Type 0
   Pre =
       GoPre (i .L) (i .S) (i .M) (i .name) (i .first) (i .null) (i .cont) (i .ends) (i .C) (i .kinds) (i .room) (i .width)
-      (i .R) (i .X) (i .St) (i .N) (i .F) (i .start) (i .before)
+      (i .R) (i .A) (i .G) (i .X) (i .St) (i .U) (i .N) (i .F) (i .start) (i .before)
 
   module _ {T : Term} {P : Pattern} {Q : List Kind} {es : List Expression} {cs : List Constraint} {vals₀ : List ℕ} (a : Asked T P Q es cs vals₀) where
     -- all that the search comes to, by its events
@@ -130,40 +141,45 @@ module _ (i : Input) where
     Stand out left vals N F depth cnt tries =
         At (Walked (a .search)) (count Q) (size T) (i .width) (i .budget) (i .room) (i .before) total left out vals N F depth cnt tries
 
-    level-small : {vals X St N F R : List ℕ} {depth : ℕ} → Leveled (a .search) vals X St N F R depth → (k : ℕ) → k < depth → getD N k 0 + getD F k 0 ≤ size T
+    level-small : {vals X St N F : List ℕ} {depth : ℕ} → Leveled (a .search) vals X St N F depth → (k : ℕ) → k < depth → getD N k 0 + getD F k 0 ≤ size T
     level-small lv k l =
         let v = lv .each k l in
         omega (arith, v .high, tame-need (Allowed cs) (allowed? cs) T _ (a .search .pattern .numbered) (v .asked))
 
   -- at the loop's head
-  pub record Going (out R X St N F : List ℕ) (depth cnt tries : ℕ) : Type 0 where
-    pub long : Long R X St N F
+  pub record Going (out R A G X St U N F : List ℕ) (depth cnt tries : ℕ) : Type 0 where
+    pub long : Long R G X St U N F
     pub charged : tries ≤ i .budget
     pub each : {T : Term} {P : Pattern} {Q : List Kind} {es : List Expression} {cs : List Constraint} {vals₀ : List ℕ} (a : Asked T P Q es cs vals₀)
-        → (vals : List ℕ) × Stand a out (rest (Walked (a .search)) (count Q) vals N F depth) vals N F depth cnt tries × Leveled (a .search) vals X St N F R depth
+        → (vals : List ℕ) × Stand a out (rest (Walked (a .search)) (count Q) vals N F depth) vals N F depth cnt tries × Leveled (a .search) vals X St N F depth
+        × Paused (a .search) R A vals G X St U N F depth
 
   -- at a level that has a value left
-  pub record Ready (out R X St N F : List ℕ) (depth cnt tries : ℕ) : Type 0 where
-    pub going : Going out R X St N F depth cnt tries
+  pub record Ready (out R A G X St U N F : List ℕ) (depth cnt tries : ℕ) : Type 0 where
+    pub going : Going out R A G X St U N F depth cnt tries
     pub some : 0 < depth
     pub live : 0 < getD F (depth - 1) 0
 
   -- a try was made: the answer o, and the record R
-  pub record Tried (out R X St N F : List ℕ) (depth cnt tries : ℕ) (o : Out) : Type 0 where
-    pub long : Long R X St N F
+  pub record Tried (out R A G X St U N F : List ℕ) (depth cnt tries : ℕ) (o : Out) : Type 0 where
+    pub long : Long R G X St U N F
     pub charged : tries ≤ i .budget
     pub each : {T : Term} {P : Pattern} {Q : List Kind} {es : List Expression} {cs : List Constraint} {vals₀ : List ℕ} (a : Asked T P Q es cs vals₀)
         → (vals : List ℕ) × Stand a out (ahead (Walked (a .search)) (count Q) vals N F depth) vals N F depth cnt tries
-        × Answers R o (walk (Allowed cs) (allowed? cs) P T (take depth vals)) × Leveled (a .search) vals X St N F R depth
+        × Answers R o (walk (Allowed cs) (allowed? cs) P T (take depth vals)) × Leveled (a .search) vals X St N F depth × Paused (a .search) R A vals G X St U N F depth
+        × ((p x s lo hi : ℕ) → o ≡ answer.Need p x s lo hi → (getD G (depth - 1) 0 + 1 ≤ p)
+        × Needs (i .L) (i .S) R A (a .search .K) (a .search .N) (a .search .Z) Q [] (λ ds. walkT Any any? P T 0 [] (take depth vals ++ ds)) p x s lo hi)
 
 module _ {i : Input} where
-  pub going-start : Pre i → Going i (i .before) (i .R) (i .X) (i .St) (i .N) (i .F) (i .start) 0 0
+  pub going-start : Pre i → Going i (i .before) (i .R) (i .A) (i .G) (i .X) (i .St) (i .U) (i .N) (i .F) (i .start) 0 0
   going-start p =
       record {
         long = record {
           record-long = p .record-long;
+          places-long = p .places-long;
           variables-long = p .variables-long;
           starts-long = p .starts-long;
+          rows-long = p .rows-long;
           nexts-long = p .nexts-long;
           lefts-long = p .lefts-long;
         };
@@ -173,60 +189,69 @@ module _ {i : Input} where
           at-rest (fixed i a) vals₀ (i .N) (i .F) (i .start) refl
               (record { deep = a .deep; vals-long = a .vals-long; nexts-long = p .nexts-long; lefts-long = p .lefts-long; small = level-small i a (a .levels) }),
           a .levels,
+          a .pauses,
         );
       }
 
-  module _ {out R X St N F : List ℕ} {depth cnt tries : ℕ} (g : Going i out R X St N F depth cnt tries) where
+  module _ {out R A G X St U N F : List ℕ} {depth cnt tries : ℕ} (g : Going i out R A G X St U N F depth cnt tries) where
     pub going-depth : Pre i → depth ≤ 16
     going-depth p =
         let a = p .some .6 in
         let h = g .each a in
         omega (arith, h .1 .deep, few (p .some .2), a .search .judging .few)
 
-    pub going-back : {d : ℕ} → BackTo F depth d → Going i out R X St N F d cnt tries
+    pub going-back : {d : ℕ} → BackTo F depth d → Going i out R A G X St U N F d cnt tries
     going-back b =
         record {
           long = g .long;
           charged = g .charged;
           each = λ {T} {P} {Q} {es} {cs} {vals₀} a.
               let h = g .each a in
-              (h .0, at-back (fixed i a) (h .1) _ b, levels-back (Allowed cs) (allowed? cs) (a .search .pattern .numbered) T (b .low) (h .2));
+              (h .0, at-back (fixed i a) (h .1) _ b, levels-back (Allowed cs) (allowed? cs) (a .search .pattern .numbered) T (b .low) (h .2), pauses-back (b .low) (h .3));
         }
 
     pub going-end : depth ≡ 0 → Post i (record { ending = 0; records = cnt; tries = tries }) out
     going-end e = record { all = λ T P Q es cs vals a. all-done (fixed i a) (g .each a .1) e }
 
-    pub going-ready : {d : ℕ} → BackTo F depth d → (d ≡ 0 → ⊥) → Ready i out R X St N F d cnt tries
+    pub going-ready : {d : ℕ} → BackTo F depth d → (d ≡ 0 → ⊥) → Ready i out R A G X St U N F d cnt tries
     going-ready {d} b n =
         let z : 0 < d = omega arith in
         record { going = going-back b; some = z; live = b .live z }
 
-  module _ {out R X St N F : List ℕ} {depth cnt tries : ℕ} (r : Ready i out R X St N F depth cnt tries) where
-    abbrev g : Going i out R X St N F depth cnt tries
+  module _ {out R A G X St U N F : List ℕ} {depth cnt tries : ℕ} (r : Ready i out R A G X St U N F depth cnt tries) where
+    abbrev g : Going i out R A G X St U N F depth cnt tries
     g = r .going
 
     pub going-spent : tries ≡ i .budget → Post i (record { ending = 2; records = cnt; tries = tries }) out
     going-spent e = record { all = λ T P Q es cs vals a. at-spent (fixed i a) (g .each a .1) (r .some) (r .live) e }
 
     below : {T : Term} {P : Pattern} {Q : List Kind} {es : List Expression} {cs : List Constraint} {vals₀ : List ℕ} (a : Asked i T P Q es cs vals₀)
-        → Leveled (a .search) (g .each a .0) X St N F R (suc (depth - 1))
+        → Leveled (a .search) (g .each a .0) X St N F (suc (depth - 1)) × Paused (a .search) R A (g .each a .0) G X St U N F (suc (depth - 1))
     below a =
-        let e : depth ≡ suc (depth - 1) = omega (arith, r .some) in
-        subst (λ (n : ℕ). Leveled (a .search) (g .each a .0) X St N F R n) e (g .each a .2)
+        let e : depth ≡ suc (depth - 1) = omega (arith, r .some) in (
+          subst (λ (n : ℕ). Leveled (a .search) (g .each a .0) X St N F n) e (g .each a .2),
+          subst (λ (n : ℕ). Paused (a .search) R A (g .each a .0) G X St U N F n) e (g .each a .3),
+        )
 
     pub attempt-asked : Pre i
-        → AttemptPre (i .L) (i .S) (i .M) (i .name) (i .first) (i .null) (i .cont) (i .ends) (i .C) (i .kinds) R
-        (getD X (depth - 1) 0) (getD St (depth - 1) 0) (getD N (depth - 1) 0)
+        → AttemptPre (i .L) (i .S) (i .M) (i .name) (i .first) (i .null) (i .cont) (i .ends) (i .C) (i .kinds) R A
+        (getD G (depth - 1) 0) (getD X (depth - 1) 0) (getD St (depth - 1) 0) (getD U (depth - 1) 0) (getD N (depth - 1) 0)
     attempt-asked p =
         let h = p .some in
         let a = h .6 in
-        let k = try-kind (a .search) (below a) (r .live) in
-        let t = a .search .judging .tree in
+        let b = below a in
+        let k = try-kind (a .search) (b .0) (b .1) (r .live) in
+        let t = try-taken (a .search) (b .0) (b .1) (r .live) (g .long .record-long) in
         record {
           long = g .long .record-long;
-          small = omega (arith, level-small i a (g .each a .2) (depth - 1) (omega (arith, r .some)), tree-small t);
-          some = (h .0, h .1, h .2, h .3, h .4, k .0, a .search, k .1, k .2);
+          some = (h .0, h .1, h .2, h .3, h .4, k .0, t .0, t .1, t .2, a .search, k .1, k .2, t .3);
         }
+
+    pub further-pre : Pre i → FurtherPre (i .S) (i .M) (getD G (depth - 1) 0) (getD U (depth - 1) 0) (getD F (depth - 1) 0 - 1)
+    further-pre p =
+        let a = p .some .6 in
+        let b = below a in
+        further-asked (a .search) (b .0) (b .1) (r .live)
 
     pub placed : Pre i → Placed N F depth
     placed p =
@@ -246,16 +271,19 @@ module _ {i : Input} where
     abbrev F′ : List ℕ
     F′ = set F (depth - 1) (getD F (depth - 1) 0 - 1)
 
-    pub going-try : {o : Out} {R′ : List ℕ} → Pre i → (tries ≡ i .budget → ⊥)
-        → AttemptPost (i .L) (i .S) (i .M) (i .name) (i .first) (i .null) (i .cont) (i .ends) (i .C) (i .kinds) R
-        (getD X (depth - 1) 0) (getD St (depth - 1) 0) (getD N (depth - 1) 0) o R′
-        → Tried i out R′ X St N′ F′ depth cnt (tries + 1) o
-    going-try {o} {R′} p b post =
+    pub going-try : {o : Out} {R′ A′ : List ℕ} {u : ℕ} → Pre i → (tries ≡ i .budget → ⊥)
+        → FurtherPost (i .S) (i .M) (getD G (depth - 1) 0) (getD U (depth - 1) 0) (getD F (depth - 1) 0 - 1) u
+        → AttemptPost (i .L) (i .S) (i .M) (i .name) (i .first) (i .null) (i .cont) (i .ends) (i .C) (i .kinds) R A
+        (getD G (depth - 1) 0) (getD X (depth - 1) 0) (getD St (depth - 1) 0) (getD U (depth - 1) 0) (getD N (depth - 1) 0) o R′ A′
+        → Tried i out R′ A′ G X St (set U (depth - 1) u) N′ F′ depth cnt (tries + 1) o
+    going-try {o} {R′} {A′} {u} p b further post =
         record {
           long = record {
-            record-long = post .long;
+            record-long = kept ∙ g .long .record-long;
+            places-long = g .long .places-long;
             variables-long = g .long .variables-long;
             starts-long = g .long .starts-long;
+            rows-long = length-set U (depth - 1) u ∙ g .long .rows-long;
             nexts-long = length-set N (depth - 1) (getD N (depth - 1) 0 + 1) ∙ g .long .nexts-long;
             lefts-long = length-set F (depth - 1) (getD F (depth - 1) 0 - 1) ∙ g .long .lefts-long;
           };
@@ -263,24 +291,40 @@ module _ {i : Input} where
           each = λ {T} {P} {Q} {es} {cs} {vals₀} a.
               let h = g .each a in
               let vals : List ℕ = set (h .0) (depth - 1) (getD N (depth - 1) 0) in
-              let deep = going-depth g p in
               let e : suc (depth - 1) ≡ depth = omega (arith, r .some) in
-              let t = try-answered (a .search) (below a) (r .live) (h .1 .vals-long) (omega (arith, g .long .nexts-long)) (omega (arith, g .long .lefts-long)) post in
-              let t′ : Answers R′ o (walk (Allowed cs) (allowed? cs) P T (take depth vals)) × Leveled (a .search) vals X St N′ F′ R′ depth =
-              subst (λ (n : ℕ). Answers R′ o (walk (Allowed cs) (allowed? cs) P T (take n vals)) × Leveled (a .search) vals X St N′ F′ R′ n) e t in
-              (vals, at-next (fixed i a) (h .1) (r .some) (r .live) b vals N′ F′ refl refl refl, t′ .0, t′ .1);
+              let deep = going-depth g p in
+              let l = below a in
+              let t = try-answered (a .search) (l .0) (l .1) (r .live) (g .long .record-long) (omega (arith, g .long .rows-long)) (omega (arith, g .long .nexts-long)) (omega (arith, g .long .lefts-long)) further post in
+              let t′ : Answered a vals depth = subst (λ (n : ℕ). Answered a vals n) e t in
+              (vals, at-next (fixed i a) (h .1) (r .some) (r .live) b vals N′ F′ refl refl refl, t′ .0, t′ .1, t′ .2, t′ .3);
         }
+      where
+        -- what a try comes to, with depth levels
+        Answered : {T : Term} {P : Pattern} {Q : List Kind} {es : List Expression} {cs : List Constraint} {vals₀ : List ℕ} (a : Asked i T P Q es cs vals₀) → List ℕ → ℕ → Type 0
+        Answered {T} {P} {Q} {es} {cs} a vals n =
+            Answers R′ o (walk (Allowed cs) (allowed? cs) P T (take n vals)) × Leveled (a .search) vals X St N′ F′ n × Paused (a .search) R′ A′ vals G X St (set U (depth - 1) u) N′ F′ n
+            × ((p x s lo hi : ℕ) → o ≡ answer.Need p x s lo hi → (getD G (depth - 1) 0 + 1 ≤ p)
+            × Needs (i .L) (i .S) R′ A′ (a .search .K) (a .search .N) (a .search .Z) Q [] (λ ds. walkT Any any? P T 0 [] (take n vals ++ ds)) p x s lo hi)
 
-  module _ {out R X St N F : List ℕ} {depth cnt tries : ℕ} {o : Out} (t : Tried i out R X St N F depth cnt tries o) where
-    pub tried-fail : o ≡ answer.Fail → Going i out R X St N F depth cnt tries
+        kept : length R′ ≡ length R
+        kept =
+            let h = p .some in
+            let a = h .6 in
+            let b = below a in
+            let k = try-kind (a .search) (b .0) (b .1) (r .live) in
+            let t = try-taken (a .search) (b .0) (b .1) (r .live) (g .long .record-long) in
+            post .is (h .0) (h .1) (h .2) (h .3) (h .4) (k .0) (t .0) (t .1) (t .2) (a .search) (k .1) (k .2) (t .3) .2 .long
+
+  module _ {out R A G X St U N F : List ℕ} {depth cnt tries : ℕ} {o : Out} (t : Tried i out R A G X St U N F depth cnt tries o) where
+    pub tried-fail : o ≡ answer.Fail → Going i out R A G X St U N F depth cnt tries
     tried-fail e =
         record {
           long = t .long;
           charged = t .charged;
-          each = λ a. let h = t .each a in (h .0, at-fail (fixed i a) (h .1) (ap outcome (failed (rw e at (h .2)))), h .3);
+          each = λ a. let h = t .each a in (h .0, at-fail (fixed i a) (h .1) (ap outcome (failed (rw e at (h .2)))), h .3, h .4);
         }
 
-    module _ {x s lo hi : ℕ} (e : o ≡ answer.Need x s lo hi) where
+    module _ {p₁ x s lo hi : ℕ} (e : o ≡ answer.Need p₁ x s lo hi) where
       need-said : {T : Term} {P : Pattern} {Q : List Kind} {es : List Expression} {cs : List Constraint} {vals₀ : List ℕ} (a : Asked i T P Q es cs vals₀)
           → (B : List Entry) × (walk (Allowed cs) (allowed? cs) P T (take depth (t .each a .0)) ≡ need B s lo hi) × (length B ≡ x) × (take (x + x) R ≡ numbers B)
       need-said a = needed (rw e at (t .each a .2))
@@ -298,14 +342,17 @@ module _ {i : Input} where
           let n = need-small a in
           (n .0, n .1, omega (arith, n .2, few (p .some .2), a .search .judging .few))
 
-      pub tried-need : Pre i → {n : ℕ} → n ≡ hi + 1 - lo → Going i out R (set X depth x) (set St depth s) (set N depth lo) (set F depth n) (depth + 1) cnt tries
-      tried-need p {n} en =
+      pub tried-need : Pre i → 0 < depth → {n : ℕ} → n ≡ hi + 1 - lo
+          → Going i out R A (set G depth p₁) (set X depth x) (set St depth s) (set U depth s) (set N depth lo) (set F depth n) (depth + 1) cnt tries
+      tried-need p some {n} en =
           let q = need-fits p in
           record {
             long = record {
               record-long = t .long .record-long;
+              places-long = length-set G depth p₁ ∙ t .long .places-long;
               variables-long = length-set X depth x ∙ t .long .variables-long;
               starts-long = length-set St depth s ∙ t .long .starts-long;
+              rows-long = length-set U depth s ∙ t .long .rows-long;
               nexts-long = length-set N depth lo ∙ t .long .nexts-long;
               lefts-long = length-set F depth n ∙ t .long .lefts-long;
             };
@@ -315,9 +362,20 @@ module _ {i : Input} where
                 let b = need-said a in
                 let y : n ≡ suc hi - lo = omega arith in
                 let m = levels-need (Allowed cs) (allowed? cs) (a .search .pattern .numbered) T (h .3) (omega (arith, h .1 .vals-long)) (omega (arith, t .long .variables-long))
-                (omega (arith, t .long .starts-long)) (omega (arith, t .long .nexts-long)) (omega (arith, t .long .lefts-long)) (b .1) (q .0) (rw (b .2) (b .3)) in
-                (h .0, rw y (at-need (fixed i a) (h .1) lo (suc hi - lo) (ap outcome (b .1))), rw (y, add-one depth, ← (b .2)) m);
+                (omega (arith, t .long .starts-long)) (omega (arith, t .long .nexts-long)) (omega (arith, t .long .lefts-long)) (b .1) (q .0) in
+                let f = h .5 p₁ x s lo hi e in
+                let z : suc (depth - 1) ≡ depth = omega arith in
+                let c : Paused (a .search) R A (h .0) (set G depth p₁) (set X depth x) (set St depth s) (set U depth s) (set N depth lo) (set F depth (suc hi - lo)) (suc depth) =
+                subst (More a (h .0)) z
+                (pauses-need (subst (λ (k : ℕ). Paused (a .search) R A (h .0) G X St U N F k) (sym z) (h .4)) (omega (arith, t .long .places-long)) (omega (arith, t .long .variables-long))
+                (omega (arith, t .long .starts-long)) (omega (arith, t .long .rows-long)) (omega (arith, t .long .nexts-long)) (omega (arith, t .long .lefts-long)) (f .0) (q .0)
+                (subst (λ (k : ℕ). Needs (i .L) (i .S) R A (a .search .K) (a .search .N) (a .search .Z) Q [] (λ ds. walkT Any any? P T 0 [] (take k (h .0) ++ ds)) p₁ x s lo hi) (sym z) (f .1)))
+                in
+                (h .0, rw y (at-need (fixed i a) (h .1) lo (suc hi - lo) (ap outcome (b .1))), rw (y, add-one depth, ← (b .2)) m, rw (y, add-one depth) c);
           }
+        where
+          More : {T : Term} {P : Pattern} {Q : List Kind} {es : List Expression} {cs : List Constraint} {vals₀ : List ℕ} (a : Asked i T P Q es cs vals₀) → List ℕ → ℕ → Type 0
+          More a vals k = Paused (a .search) R A vals (set G k p₁) (set X k x) (set St k s) (set U k s) (set N k lo) (set F k (suc hi - lo)) (suc k)
 
     module _ {n : ℕ} (e : o ≡ answer.Ok n) where
       done-said : {T : Term} {P : Pattern} {Q : List Kind} {es : List Expression} {cs : List Constraint} {vals₀ : List ℕ} (a : Asked i T P Q es cs vals₀)
@@ -332,7 +390,7 @@ module _ {i : Input} where
           let a = p .some .6 in
           (omega (arith, a .wide, a .search .judging .few), room-left (fixed i a) (t .each a .1) f)
 
-      pub tried-match : (cnt ≡ i .room → ⊥) → Going i (paste out (cnt * i .width) R (i .width)) R X St N F depth (cnt + 1) tries
+      pub tried-match : (cnt ≡ i .room → ⊥) → Going i (paste out (cnt * i .width) R (i .width)) R A G X St U N F depth (cnt + 1) tries
       tried-match f =
           record {
             long = t .long;
@@ -340,11 +398,11 @@ module _ {i : Input} where
             each = λ a.
                 let h = t .each a in
                 let d = done-said a in
-                (h .0, at-match (fixed i a) (h .1) (numbers (d .0)) R (ap outcome (d .1)) (d .2) f, h .3);
+                (h .0, at-match (fixed i a) (h .1) (numbers (d .0)) R (ap outcome (d .1)) (d .2) f, h .3, h .4);
           }
 
     pub tried-counted : Pre i → cnt ≤ i .room
     tried-counted p = t .each (p .some .6) .1 .counted
 
-  pub going-long : {out R X St N F : List ℕ} {depth cnt tries : ℕ} → Going i out R X St N F depth cnt tries → Pre i → length out ≡ length (i .before)
+  pub going-long : {out R A G X St U N F : List ℕ} {depth cnt tries : ℕ} → Going i out R A G X St U N F depth cnt tries → Pre i → length out ≡ length (i .before)
   going-long g p = g .each (p .some .6) .1 .out-long

@@ -1,14 +1,15 @@
 -- Not needed to believe the promise: what the search's private functions ask and answer.
-use Prim.Native.Nat.{ℕ, suc, _+_, _*_, _<_, _≤_}
+use Prim.Native.Nat.{ℕ, suc, _+_, _-_, _*_, _<_, _≤_}
 use mathlib.Core.Path.{_≡_}
+use mathlib.Core.Logic.{_≢_}
 use mathlib.Core.Bool.{Bool}
-use mathlib.Core.List.{List}
-use lib.ListN.{length, set}
+use mathlib.Core.List.{List, [], _∷_, _++_}
+use lib.ListN.{length, getD, take}
 use Rattle.meaning.specs.Forest.{none, Term, _◂_}
 use Rattle.meaning.specs.Pattern.{Pattern, Kind, old, look}
 use Rattle.meaning.specs.Read.{valueAt}
 use Rattle.meaning.specs.GoodRecord.{Fits}
-use Rattle.meaning.proofs.Walk as meant
+use Rattle.meaning.proofs.Walk.{Res, walkT}
 use Rattle.meaning.proofs.Next.{Any, any?}
 use Rattle.meaning.proofs.Tame.{count}
 use Rattle.pattern.specs.Good.{GoodPattern}
@@ -17,8 +18,10 @@ use Rattle.constraint.specs.Obeys.{Constraint, Allowed}
 use Rattle.constraint.proofs.Allowed.{allowed?}
 use Rattle.problem.specs.Judge.{Judging}
 use Rattle.walk.specs.Packed.{Packed}
-use Rattle.variable.specs.State.{Kept}
-use Rattle.walk.specs.Walked.{given, Answers}
+use Rattle.walk.specs.Above.{Marks, Unchanged}
+use Rattle.walk.specs.Cycle.{Needs, Agree}
+use Rattle.walk.specs.Onward.{Lands}
+use Rattle.walk.specs.Taken.{TakeAsked}
 use Rattle.walk.specs.declared.Out.{Out}
 use Rattle.walk.specs.declared.Out.the-variants as out
 use Rattle.listing.proofs.Fill.{fill, rest}
@@ -35,43 +38,72 @@ pub record Search (L S M name first : List ℕ) (null : List Bool) (cont : List 
   pub pattern : GoodPattern K N Z P Q
   pub packed : Packed K N Z M
 
--- one try: the value v of the variable x, which starts at the row s
-pub record AttemptPre (L S M name first : List ℕ) (null : List Bool) (cont : List ℕ) (ends : List Bool) (C kinds R : List ℕ) (x s v : ℕ) : Type 0 where
-  pub long : length R ≡ 32
-  pub small : v < 4294967296
-  pub some : (T : Term) × (P : Pattern) × (Q : List Kind) × (es : List Expression) × (cs : List Constraint) × (k : Kind)
-      × Search L S M name first null cont ends C kinds T P Q es cs × (look Q x ≡ old k) × Fits k (T ◂ none) s v
+-- the row of a level's next value, where left values are left
+pub record FurtherPre (S M : List ℕ) (p u left : ℕ) : Type 0 where
+  pub room : 3 * p + 2 < length M
+  pub small : u < 4294967296
+  pub inside : 0 < left → getD M (3 * p) 0 ≡ 2 → u < length S
 
--- where the value is not allowed it fails and nothing is written; else it is written and walked with
-pub record AttemptPost (L S M name first : List ℕ) (null : List Bool) (cont : List ℕ) (ends : List Bool) (C kinds R : List ℕ) (x s v : ℕ) (o : Out) (R′ : List ℕ) : Type 0 where
-  pub long : length R′ ≡ 32
-  pub is : (T : Term) (P : Pattern) (Q : List Kind) (es : List Expression) (cs : List Constraint) (k : Kind) → Search L S M name first null cont ends C kinds T P Q es cs → look Q x ≡ old k → Fits k (T ◂ none) s v
-      → ((Allowed cs x (valueAt k (T ◂ none) s v) → ⊥) → (o ≡ out.Fail) × (R′ ≡ R))
-      × (Allowed cs x (valueAt k (T ◂ none) s v) → Answers R′ o (meant.walk Any any? P T (given Q (set R (x + x + 1) v) (suc x))) × Kept Q 0 (set R (x + x + 1) v) R′)
+pub record FurtherPost (S M : List ℕ) (p u left r : ℕ) : Type 0 where
+  pub terms : 0 < left → getD M (3 * p) 0 ≡ 2 → r ≡ u + getD S u 0
+  pub hole : 0 < left → getD M (3 * p) 0 ≢ 2 → r ≡ u + 1
+
+-- one try: the value v of the variable x at the pattern row p, which starts at the row s; f is the walk that asked for it
+pub record AttemptPre (L S M name first : List ℕ) (null : List Bool) (cont : List ℕ) (ends : List Bool) (C kinds R A : List ℕ) (p x s u v : ℕ) : Type 0 where
+  pub long : length R ≡ 32
+  pub some : (T : Term) × (P : Pattern) × (Q : List Kind) × (es : List Expression) × (cs : List Constraint) × (k : Kind) × (f : List ℕ → Res) × (lo : ℕ) × (hi : ℕ)
+      × (w : Search L S M name first null cont ends C kinds T P Q es cs) × (look Q x ≡ old k) × Fits k (T ◂ none) s v × TakeAsked L S M R A p x s u v (w .K) (w .N) (w .Z) Q f lo hi
+
+-- where the value is not allowed it fails; else the walk goes on with it. What stands before the variable is kept.
+pub record AttemptPost (L S M name first : List ℕ) (null : List Bool) (cont : List ℕ) (ends : List Bool) (C kinds R A : List ℕ) (p x s u v : ℕ) (o : Out) (R′ A′ : List ℕ) : Type 0 where
+  pub is : (T : Term) (P : Pattern) (Q : List Kind) (es : List Expression) (cs : List Constraint) (k : Kind) (f : List ℕ → Res) (lo hi : ℕ)
+      (w : Search L S M name first null cont ends C kinds T P Q es cs) → look Q x ≡ old k → Fits k (T ◂ none) s v → TakeAsked L S M R A p x s u v (w .K) (w .N) (w .Z) Q f lo hi
+      → ((Allowed cs x (valueAt k (T ◂ none) s v) → ⊥) → o ≡ out.Fail)
+      × (Allowed cs x (valueAt k (T ◂ none) s v) → (m : ℕ) × Agree L S R′ A′ (w .K) (w .N) (w .Z) Q (p + 1) m [] (λ ds. f (v ∷ ds)) o)
+      × Unchanged x R R′ × Unchanged (p + 1) A A′
+
+-- a level: the walk f asked for the variable x, and goes on at the row u with the next value v; left values are left
+pub record Pause (L S R A K N Z : List ℕ) (Q : List Kind) (f : List ℕ → Res) (p x s u v left : ℕ) : Type 0 where
+  pub lo : ℕ
+  pub hi : ℕ
+  pub needs : Needs L S R A K N Z Q [] f p x s lo hi
+  pub low : lo ≤ v
+  pub high : v + left ≡ suc hi
+  pub lands : 0 < left → Lands L S s u (v - lo) (needs .stop)
+
+-- the levels below depth, each after the choices of those before it, deeper ones further right in the pattern
+pub record Pauses (L S R A K N Z : List ℕ) (Q : List Kind) (P : Pattern) (T : Term) (vals places variables starts rows nexts lefts : List ℕ) (depth : ℕ) : Type 0 where
+  pub marks : Marks K A
+  pub each : (k : ℕ) → k < depth
+      → Pause L S R A K N Z Q (λ ds. walkT Any any? P T 0 [] (take k vals ++ ds)) (getD places k 0) (getD variables k 0) (getD starts k 0) (getD rows k 0) (getD nexts k 0) (getD lefts k 0)
+  pub rise : (j k : ℕ) → j < k → k < depth → getD places j 0 < getD places k 0
 
 -- levels that the search can go on from
-pub record GoAsked (L S M name first : List ℕ) (null : List Bool) (cont : List ℕ) (ends : List Bool) (C kinds : List ℕ) (room width : ℕ) (R variables starts nexts lefts : List ℕ) (depth : ℕ) (before : List ℕ)
+pub record GoAsked (L S M name first : List ℕ) (null : List Bool) (cont : List ℕ) (ends : List Bool) (C kinds : List ℕ) (room width : ℕ) (R A places variables starts rows nexts lefts : List ℕ) (depth : ℕ) (before : List ℕ)
     (T : Term) (P : Pattern) (Q : List Kind) (es : List Expression) (cs : List Constraint) (vals : List ℕ) : Type 0 where
   pub search : Search L S M name first null cont ends C kinds T P Q es cs
   pub wide : width ≡ length Q + length Q
   pub fits : room * width ≤ length before
   pub vals-long : length vals ≡ 16
   pub deep : depth ≤ count Q
-  pub levels : Levels (Allowed cs) (allowed? cs) (search .pattern .numbered) T vals variables starts nexts lefts R depth
+  pub levels : Levels (Allowed cs) (allowed? cs) (search .pattern .numbered) T vals variables starts nexts lefts depth
+  pub pauses : Pauses L S R A (search .K) (search .N) (search .Z) Q P T vals places variables starts rows nexts lefts depth
 
-pub record GoPre (L S M name first : List ℕ) (null : List Bool) (cont : List ℕ) (ends : List Bool) (C kinds : List ℕ) (room width : ℕ) (R variables starts nexts lefts : List ℕ) (depth : ℕ) (before : List ℕ) : Type 0 where
+pub record GoPre (L S M name first : List ℕ) (null : List Bool) (cont : List ℕ) (ends : List Bool) (C kinds : List ℕ) (room width : ℕ) (R A places variables starts rows nexts lefts : List ℕ) (depth : ℕ) (before : List ℕ) : Type 0 where
   pub record-long : length R ≡ 32
+  pub places-long : length places ≡ 16
   pub variables-long : length variables ≡ 16
   pub starts-long : length starts ≡ 16
+  pub rows-long : length rows ≡ 16
   pub nexts-long : length nexts ≡ 16
   pub lefts-long : length lefts ≡ 16
   pub some : (T : Term) × (P : Pattern) × (Q : List Kind) × (es : List Expression) × (cs : List Constraint) × (vals : List ℕ)
-      × GoAsked L S M name first null cont ends C kinds room width R variables starts nexts lefts depth before T P Q es cs vals
+      × GoAsked L S M name first null cont ends C kinds room width R A places variables starts rows nexts lefts depth before T P Q es cs vals
 
 -- the search has gone through all that the levels have left
-pub record GoPost (L S M name first : List ℕ) (null : List Bool) (cont : List ℕ) (ends : List Bool) (C kinds : List ℕ) (budget room width : ℕ) (R variables starts nexts lefts : List ℕ) (depth : ℕ) (before : List ℕ)
+pub record GoPost (L S M name first : List ℕ) (null : List Bool) (cont : List ℕ) (ends : List Bool) (C kinds : List ℕ) (budget room width : ℕ) (R A places variables starts rows nexts lefts : List ℕ) (depth : ℕ) (before : List ℕ)
     (r : Found) (after : List ℕ) : Type 0 where
   pub all : (T : Term) (P : Pattern) (Q : List Kind) (es : List Expression) (cs : List Constraint) (vals : List ℕ)
-      → (a : GoAsked L S M name first null cont ends C kinds room width R variables starts nexts lefts depth before T P Q es cs vals)
+      → (a : GoAsked L S M name first null cont ends C kinds room width R A places variables starts rows nexts lefts depth before T P Q es cs vals)
       → fill budget room width 0 0 before (rest (walked (Allowed cs) (allowed? cs) (a .search .pattern .numbered) T) (count Q) vals nexts lefts depth)
       ≡ record { ending = r .ending; records = r .records; tries = r .tries; out = after }

@@ -4,7 +4,7 @@ ghost use lib.ListN.{length};
 ghost use lib.Seq.{paste};
 ghost use Rattle.memory.specs.Memory.{Remembers};
 ghost use Rattle.listing.proofs.Back.{BackTo};
-ghost use Rattle.search.specs.Search.{AttemptPre, AttemptPost, GoPre, GoPost};
+ghost use Rattle.search.specs.Search.{FurtherPre, FurtherPost, AttemptPre, AttemptPost, GoPre, GoPost};
 
 // What the search comes to: the ending, how many records were written, and the tries.
 pub struct Found {
@@ -40,11 +40,26 @@ fn back(lefts: &[usize; 16], depth: usize) -> usize
     0
 }
 
-// One try: the variable x, which starts at the row s, takes the value v. The constraint is judged before the walk goes on.
+// The row of a level's next value: behind one term more of a sequence, or one row further for a context's hole. The last stays.
+fn further(size: &[u32], pattern: &[u32; 768], p: usize, u: usize, left: usize) -> usize
+    requires { ⌜ FurtherPre (now size) (now pattern) p u left ⌝ }
+    ensures { λ r. ⌜ FurtherPost (now (size .entry)) (now (pattern .entry)) p u left r ⌝ }
+{
+    if left == 0 {
+        return u;
+    }
+    if walk::kind(pattern, p) == 2 {
+        return tree::next(size, u);
+    }
+    u + 1
+}
+
+// One try: the variable x at the pattern row p, which starts at the row s, takes the value v. The constraint is judged before the
+// walk goes on, at the row u.
 fn attempt(
     label: &[u32],
     size: &[u32],
-    pattern: &[u32],
+    pattern: &[u32; 768],
     name: &[u32; 64],
     first: &[u64; 64],
     null: &[bool; 64],
@@ -53,14 +68,17 @@ fn attempt(
     constraint: &[u32],
     kinds: &[u32; 16],
     record: &mut [u32; 32],
+    at: &mut [usize; 512],
+    p: usize,
     x: usize,
     s: usize,
+    u: usize,
     v: usize,
     memory: &mut [usize; 80],
 ) -> walk::Out
-    requires { ⌜ AttemptPre (now label) (now size) (now pattern) (now name) (now first) (now null) (now cont) (now ends) (now constraint) (now kinds) (now «record») x s v
+    requires { ⌜ AttemptPre (now label) (now size) (now pattern) (now name) (now first) (now null) (now cont) (now ends) (now constraint) (now kinds) (now «record») (now at) p x s u v
         × Remembers (now label) (now size) (now name) (now first) (now null) (now cont) (now ends) (now constraint) (now memory) ⌝ }
-    ensures { λ r. ⌜ AttemptPost (now (label .entry)) (now (size .entry)) (now (pattern .entry)) (now (name .entry)) (now (first .entry)) (now (null .entry)) (now (cont .entry)) (now (ends .entry)) (now (constraint .entry)) (now (kinds .entry)) (now («record» .entry)) x s v r (now («record» .exit))
+    ensures { λ r. ⌜ AttemptPost (now (label .entry)) (now (size .entry)) (now (pattern .entry)) (now (name .entry)) (now (first .entry)) (now (null .entry)) (now (cont .entry)) (now (ends .entry)) (now (constraint .entry)) (now (kinds .entry)) (now («record» .entry)) (now (at .entry)) p x s u v r (now («record» .exit)) (now (at .exit))
         × Remembers (now (label .entry)) (now (size .entry)) (now (name .entry)) (now (first .entry)) (now (null .entry)) (now (cont .entry)) (now (ends .entry)) (now (constraint .entry)) (now (memory .exit)) ⌝ }
 {
     if !memory::judge(
@@ -80,15 +98,14 @@ fn attempt(
     ) {
         return walk::Out::Fail;
     }
-    record[x + x + 1] = v as u32;
-    walk::walk(label, size, pattern, record, x + 1)
+    walk::take(label, size, pattern, record, at, p, x, s, u, v)
 }
 
 // The search from levels that stand after some choices: the last level's next value is tried, and what the walk finds is noted.
 pub fn go(
     label: &[u32],
     size: &[u32],
-    pattern: &[u32],
+    pattern: &[u32; 768],
     name: &[u32; 64],
     first: &[u64; 64],
     null: &[bool; 64],
@@ -100,15 +117,18 @@ pub fn go(
     room: usize,
     width: usize,
     mut record: [u32; 32],
+    at: &mut [usize; 512],
+    mut places: [usize; 16],
     mut variables: [usize; 16],
     mut starts: [usize; 16],
+    mut rows: [usize; 16],
     mut nexts: [usize; 16],
     mut lefts: [usize; 16],
     start: usize,
     out: &mut [u32],
 ) -> Found
-    requires { ⌜ GoPre (now label) (now size) (now pattern) (now name) (now first) (now null) (now cont) (now ends) (now constraint) (now kinds) room width «record» variables starts nexts lefts start (now out) ⌝ }
-    ensures { λ r. ⌜ GoPost (now (label .entry)) (now (size .entry)) (now (pattern .entry)) (now (name .entry)) (now (first .entry)) (now (null .entry)) (now (cont .entry)) (now (ends .entry)) (now (constraint .entry)) (now (kinds .entry)) budget room width «record» variables starts nexts lefts start (now (out .entry)) r (now (out .exit)) ⌝ }
+    requires { ⌜ GoPre (now label) (now size) (now pattern) (now name) (now first) (now null) (now cont) (now ends) (now constraint) (now kinds) room width «record» (now at) places variables starts rows nexts lefts start (now out) ⌝ }
+    ensures { λ r. ⌜ GoPost (now (label .entry)) (now (size .entry)) (now (pattern .entry)) (now (name .entry)) (now (first .entry)) (now (null .entry)) (now (cont .entry)) (now (ends .entry)) (now (constraint .entry)) (now (kinds .entry)) budget room width «record» (now (at .entry)) places variables starts rows nexts lefts start (now (out .entry)) r (now (out .exit)) ⌝ }
 {
     let mut memory = [0usize; 80];
     let mut depth = start;
@@ -131,10 +151,13 @@ pub fn go(
             };
         }
         tries += 1;
-        let at = depth - 1;
-        let v = nexts[at];
-        nexts[at] = v + 1;
-        lefts[at] = lefts[at] - 1;
+        let last = depth - 1;
+        let v = nexts[last];
+        let u = rows[last];
+        let left = lefts[last] - 1;
+        nexts[last] = v + 1;
+        lefts[last] = left;
+        rows[last] = further(size, pattern, places[last], u, left);
         match attempt(
             label,
             size,
@@ -147,15 +170,20 @@ pub fn go(
             constraint,
             kinds,
             &mut record,
-            variables[at],
-            starts[at],
+            at,
+            places[last],
+            variables[last],
+            starts[last],
+            u,
             v,
             &mut memory,
         ) {
             walk::Out::Fail => {}
-            walk::Out::Need(x, s, lo, hi) => {
+            walk::Out::Need(p, x, s, lo, hi) => {
+                places[depth] = p;
                 variables[depth] = x;
                 starts[depth] = s;
+                rows[depth] = s;
                 nexts[depth] = lo;
                 lefts[depth] = hi + 1 - lo;
                 depth += 1;

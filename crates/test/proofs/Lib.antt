@@ -1,5 +1,6 @@
 pub mod Same
 pub mod Obeying
+pub mod Following
 pub mod Refound
 pub mod Whole
 pub mod Unique

@@ -3,6 +3,7 @@ ghost use Prim.Native.Nat.{_≤_};
 ghost use lib.ListN.{length};
 ghost use Rattle.meaning.specs.Says.{Says};
 ghost use Rattle.test.specs.Tested.{Settled};
+ghost use Rattle.test.specs.Followed.{LandingPre, LandingPost, FollowPre, FollowPost};
 ghost use Rattle.test.specs.Inside.{Copied, WalkablePre, PlacedPost, ConstrainedPre, ObeyedPost, AllPre, AllPost};
 
 // What the test of one record answers.
@@ -10,20 +11,6 @@ pub enum Tested {
     Refused(u32),
     Yes,
     No,
-}
-
-// The list in front of zeros, where the walk has room for its own numbers.
-fn copy(list: &[u32]) -> [u32; 32]
-    requires { ⌜ length (now list) ≤ 32 ⌝ }
-    ensures { λ r. ⌜ Copied (now (list .entry)) r ⌝ }
-{
-    let mut found = [0u32; 32];
-    let mut i = 0;
-    while i < list.len() {
-        found[i] = list[i];
-        i += 1;
-    }
-    found
 }
 
 // Whether the first numbers of found are those of the list.
@@ -41,6 +28,49 @@ fn equal(found: &[u32; 32], list: &[u32]) -> bool
     true
 }
 
+// The row at which the walk goes on where the variable at the pattern row p, which starts at the row t, has the value v.
+fn landing(size: &[u32], pattern: &[u32; 768], p: usize, t: usize, v: usize) -> usize
+    requires { ⌜ LandingPre (now size) (now pattern) p t v ⌝ }
+    ensures { λ r. ⌜ LandingPost (now (size .entry)) (now (pattern .entry)) p t v r ⌝ }
+{
+    if walk::kind(pattern, p) == 2 {
+        return tree::past(size, t, v);
+    }
+    v
+}
+
+// The walk with the choices of the list: a variable that is asked for takes the second number that the list has for it.
+fn follow(
+    label: &[u32],
+    size: &[u32],
+    pattern: &[u32; 768],
+    list: &[u32],
+    found: &mut [u32; 32],
+) -> bool
+    requires { ⌜ FollowPre (now label) (now size) (now pattern) (now list) (now found) ⌝ }
+    ensures { λ r. ⌜ FollowPost (now (label .entry)) (now (size .entry)) (now (pattern .entry)) (now (list .entry)) r (now (found .exit)) ⌝ }
+{
+    let mut at = [0usize; 512];
+    let mut o = walk::begin(label, size, pattern, found, &mut at);
+    loop {
+        match o {
+            walk::Out::Fail => return false,
+            walk::Out::Ok(_) => return true,
+            walk::Out::Need(p, x, t, lo, hi) => {
+                let v = tree::at(list, x + x + 1);
+                if v < lo {
+                    return false;
+                }
+                if hi < v {
+                    return false;
+                }
+                let u = landing(size, pattern, p, t, v);
+                o = walk::take(label, size, pattern, found, &mut at, p, x, t, u, v);
+            }
+        }
+    }
+}
+
 // Whether the record is that of a substitution that turns the pattern into the tree: the walk with its choices finds it again.
 fn placed(
     label: &[u32],
@@ -56,12 +86,11 @@ fn placed(
 {
     let mut packed = [0u32; 768];
     walk::pack(kind, name, pattern_size, &mut packed);
-    let mut found = copy(record);
-    match walk::walk(label, size, &packed, &mut found, variables) {
-        walk::Out::Ok(_) => equal(&found, record),
-        walk::Out::Need(_, _, _, _) => false,
-        walk::Out::Fail => false,
+    let mut found = [0u32; 32];
+    if follow(label, size, &packed, record, &mut found) {
+        return equal(&found, record);
     }
+    false
 }
 
 // Whether every variable's numbers obey its constraint, with the tables of the expressions.

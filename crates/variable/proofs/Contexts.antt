@@ -1,91 +1,27 @@
 -- The step at a context variable.
-use Prim.Native.Nat.{ℕ, _+_, _-_, _<_, _≤_}
+use Prim.Native.Nat.{ℕ, _+_, _-_, _<_}
 use mathlib.Core.Path.{_≡_, refl, ap, _∙_, sym, subst}
 use mathlib.Core.Logic.{_≢_}
 use mathlib.Core.List.{List}
-use lib.ListN.{length, getD, set}
+use lib.ListN.{length, getD}
 use native.Mathlib.Omega.{arith}
 use Rattle.meaning.specs.Forest.{Term, rows, Context, plug, holeRow}
 use Rattle.meaning.specs.Read.{Split, cut}
 use Rattle.meaning.specs.Pattern.{Kind, aContext, Comes}
 use Rattle.meaning.specs.Value.{Value, ofContext, kind}
 use Rattle.meaning.specs.Record.{Entry, second, span}
-use Rattle.meaning.proofs.Laws.{cut-plugs, cut-holds, plug-cut}
-use Rattle.tree.specs.Places.{TermAt, ContextAt}
+use Rattle.meaning.proofs.Laws.{cut-plugs, plug-cut}
+use Rattle.tree.specs.Places.{TermAt, ContextAt, Next}
 use Rattle.tree.proofs.Terms.{term-next}
-use Rattle.tree.proofs.Cuts.{cut-at}
 use Rattle.compare.specs.Appear.{Fits, misfit, fitting, FitsPre, FitsPost}
 use Rattle.compare.specs.declared.Found.{Found}
 use Rattle.compare.specs.declared.Found.the-variants as found
-use Rattle.variable.specs.State.{ValueAt, a-term, some-terms, a-label, a-context, State, Kept}
-use Rattle.variable.specs.Steps.{Chose, contextTo, InHole, ContextPre, ContextPost, FirstContextPre, FirstContextPost}
-use Rattle.variable.specs.declared.Step.{Step}
+use Rattle.variable.specs.State.{ValueAt, a-term, some-terms, a-label, a-context, State}
+use Rattle.variable.specs.Steps.{chose-need, contextTo, InHole, ContextPre, ContextPost}
 use Rattle.variable.specs.declared.Step.the-variants as step
-use Rattle.variable.proofs.States.{kept-same, in-room, Earlier, earlier}
-use Rattle.variable.proofs.Choices.{asked, too-low, too-high, chosen, chosen-kept, unlike-before, like-before}
+use Rattle.variable.proofs.States.{in-room, Earlier, earlier}
+use Rattle.variable.proofs.Choices.{unlike-before, like-before}
 
--- the first appearance
-module _ {S R : List ℕ} {limit t n : ℕ} where
-  pub first-context-room : FirstContextPre S R limit t n → (n + n + 1 < length R) × (t < 4294967296) × (t < length S) × (1 ≤ getD S t 0)
-  first-context-room p =
-      let s = p .some .1 .variable .some in
-      let h = term-next (p .some .1 .tree .2) in
-      (in-room (s .3) (s .4), omega (arith, s .3 .small, h .labelled), h .sized, h .positive)
-
-  module _ {e : ℕ} (ee : e ≡ t + getD S t 0) where
-    pub first-context-need : limit ≤ n → FirstContextPost S R limit t n (step.Need t (e - 1)) R
-    first-context-need h =
-        record {
-          is = λ L.
-              record {
-                is = λ Q T B cs H comes state. (
-                  asked state t (t + rows (T .args)) t (contextTo T) (InHole L S t T) h refl (omega (arith, H .row .size)),
-                  kept-same,
-                );
-              };
-        }
-
-    module _ {h : ℕ} (lim : n < limit) (eh : h ≡ getD R (n + n + 1) 0) where
-      pub first-context-low : h < t → FirstContextPost S R limit t n step.Fail R
-      first-context-low f =
-          record {
-            is = λ L.
-                record {
-                  is = λ Q T B cs H comes state. (
-                    too-low state t (t + rows (T .args)) t (contextTo T) (InHole L S t T) comes (λ a b P r. refl) lim eh f,
-                    kept-same,
-                  );
-                };
-          }
-
-      pub first-context-high : t ≤ h → e ≤ h → FirstContextPost S R limit t n step.Fail R
-      first-context-high f g =
-          record {
-            is = λ L.
-                record {
-                  is = λ Q T B cs H comes state. (
-                    too-high state t (t + rows (T .args)) t (contextTo T) (InHole L S t T) comes (λ a b P r. refl) lim eh f (omega (arith, H .row .size)),
-                    kept-same,
-                  );
-                };
-          }
-
-      pub first-context-go : {R′ : List ℕ} → t ≤ h → h < e → R′ ≡ set R (n + n) t → FirstContextPost S R limit t n (step.Go h (n + 1)) R′
-      first-context-go {R′} f g er = record { is = λ L. record { is = go L } }
-        where
-          go : (L : List ℕ) (Q : List Kind) (T : Term) (B : List Entry) (cs : List ℕ) → TermAt L S t (T .label) (T .args) → Comes Q n aContext n → State L S R Q limit n B cs
-              → Chose L S R′ Q limit n n t (t + rows (T .args)) t (contextTo T) B cs (InHole L S t T) (step.Go h (n + 1)) × Kept Q n R R′
-          go L Q T B cs H comes state =
-              let w = cut-at h H f (omega arith) in
-              let y : t + holeRow (cut T (h - t) .around) ≡ h = omega (arith, cut-holds T (h - t) (omega (arith, H .row .size))) in
-              let here : ValueAt L S t (ofContext (cut T (h - t) .around)) = a-context (subst (λ (b : ℕ). ContextAt L S t b (cut T (h - t) .around)) (sym y) (w .0)) in
-              let there : InHole L S t T h (h - t) = (omega arith, w .1) in
-              let hi : h ≤ t + rows (T .args) = omega (arith, H .row .size) in (
-                chosen state t (t + rows (T .args)) t (contextTo T) (InHole L S t T) comes (λ a b P r. refl) lim eh f hi refl here y er there,
-                chosen-kept state t (t + rows (T .args)) t (contextTo T) (InHole L S t T) comes (λ a b P r. refl) lim eh f hi refl here y er,
-              )
-
--- both
 context-of : {L S : List ℕ} {a : ℕ} {v : Value} → ValueAt L S a v → kind v ≡ aContext → (c : Context) × (v ≡ ofContext c) × ContextAt L S a (a + holeRow c) c
 context-of (a-term T) e = let z : _≡_ {A = ℕ} 0 1 = cc in absurd (omega arith)
 context-of (some-terms T) e = let z : _≡_ {A = ℕ} 0 1 = cc in absurd (omega arith)
@@ -102,8 +38,8 @@ fitting-of {L} {S} {t} {h} {c} {T} (fitting U e r x) =
     (sym (ap (λ (s : Split). s .around) z), sym r, subst (λ (s : Split). TermAt L S h (s .at .label) (s .at .args)) (sym z) x)
 
 -- the value of a variable that has appeared
-module _ {L S R : List ℕ} {limit x n a b : ℕ} (f : x ≢ n) (ea : a ≡ getD R (x + x) 0) (eb : b ≡ getD R (x + x + 1) 0) where
-  its-context : {Q : List Kind} {B : List Entry} {cs : List ℕ} (state : State L S R Q limit n B cs) (comes : Comes Q x aContext n)
+module _ {L S R : List ℕ} {x n a b : ℕ} (f : x ≢ n) (ea : a ≡ getD R (x + x) 0) (eb : b ≡ getD R (x + x + 1) 0) where
+  its-context : {Q : List Kind} {B : List Entry} (state : State L S R Q n B) (comes : Comes Q x aContext n)
       → (w : Earlier state comes) × (c : Context) × (w .value ≡ ofContext c) × ContextAt L S a b c
   its-context state comes =
       let w = earlier state comes f in
@@ -111,45 +47,43 @@ module _ {L S R : List ℕ} {limit x n a b : ℕ} (f : x ≢ n) (ea : a ≡ getD
       let y : getD R (x + x) 0 + holeRow (v .0) ≡ b = ap (λ (u : Value). second u (getD R (x + x) 0)) (sym (v .1)) ∙ w .second-is ∙ sym eb in
       (w, v .0, v .1, rw ea (subst (λ (i : ℕ). ContextAt L S (getD R (x + x) 0) i (v .0)) y (v .2)))
 
-module _ {L S R : List ℕ} {limit x t n : ℕ} where
-  pub context-first-pre : x ≡ n → ContextPre L S R limit x t n → FirstContextPre S R limit t n
-  context-first-pre f p = record { some = (L, rw f at p) }
+module _ {L S R : List ℕ} {x t n : ℕ} where
+  pub context-row : ContextPre L S R x t n → Next L S t
+  context-row p = term-next (p .tree .2)
 
-  pub context-first : {o : Step} {R′ : List ℕ} → x ≡ n → FirstContextPost S R limit t n o R′ → ContextPost L S R limit x t n o R′
-  context-first f h = rw f (h .is L)
+  pub context-needs : {e : ℕ} → x ≡ n → e ≡ t + getD S t 0 → ContextPost L S R x t n (step.Need t (e - 1))
+  context-needs {e} f ee = record { is = λ Q T B H comes state. let y : t + rows (T .args) ≡ e - 1 = omega (arith, H .row .size) in chose-need refl y f }
 
-  pub context-room : ContextPre L S R limit x t n → x + x + 1 < length R
-  context-room p = let s = p .variable .some in in-room (s .3) (s .4)
+  pub context-room : ContextPre L S R x t n → x + x + 1 < length R
+  context-room p = let s = p .variable .some in in-room (s .2) (s .3)
 
   module _ {a b : ℕ} (f : x ≢ n) (ea : a ≡ getD R (x + x) 0) (eb : b ≡ getD R (x + x + 1) 0) where
-    pub context-fits-pre : ContextPre L S R limit x t n → FitsPre L S a b t
+    pub context-fits-pre : ContextPre L S R x t n → FitsPre L S a b t
     context-fits-pre p =
         let s = p .variable .some in
-        let w = its-context f ea eb (s .3) (s .4) in
+        let w = its-context f ea eb (s .2) (s .3) in
         record { here = (w .1, w .3); there = p .tree }
 
     module _ {o : Found} (fits : FitsPost L S a b t o) where
-      pub context-differs : o ≡ found.Fail → ContextPost L S R limit x t n step.Fail R
+      pub context-differs : o ≡ found.Fail → ContextPost L S R x t n step.Fail
       context-differs g =
           record {
-            is = λ Q T B cs H comes state.
+            is = λ Q T B H comes state.
                 let w = its-context f ea eb state comes in
                 let y = misfit-of (rw g at (fits .is (w .1) (T .label) (T .args) (w .3) H)) in
                 let h : w .0 .value ≢ ofContext (cut T (span (w .0 .value)) .around) =
                 λ i. y (let z : ofContext (w .1) ≡ ofContext (cut T (holeRow (w .1)) .around) = subst (λ (v : Value). v ≡ ofContext (cut T (span v) .around)) (w .2) i in cc)
-                in (
-                  unlike-before state t (t + rows (T .args)) t (contextTo T) (InHole L S t T) comes f (w .0) h,
-                  kept-same,
-                );
+                in
+                unlike-before state t (t + rows (T .args)) t (contextTo T) (InHole L S t T) comes f (w .0) h;
           }
 
-      pub context-again : {h : ℕ} → o ≡ found.At h → ContextPost L S R limit x t n (step.Go h n) R
+      pub context-again : {h : ℕ} → o ≡ found.At h → ContextPost L S R x t n (step.Go h)
       context-again {h} g =
           record {
-            is = λ Q T B cs H comes state.
+            is = λ Q T B H comes state.
                 let w = its-context f ea eb state comes in
                 let y = fitting-of (rw g at (fits .is (w .1) (T .label) (T .args) (w .3) H)) in
                 let i : w .0 .value ≡ ofContext (cut T (span (w .0 .value)) .around) = subst (λ (v : Value). v ≡ ofContext (cut T (span v) .around)) (sym (w .2)) (ap ofContext (y .0)) in
                 let there : InHole L S t T h (span (w .0 .value)) = subst (λ (v : Value). InHole L S t T h (span v)) (sym (w .2)) (y .1, y .2) in
-                (like-before state t (t + rows (T .args)) t (contextTo T) (InHole L S t T) comes f (w .0) i there, kept-same);
+                like-before state t (t + rows (T .args)) t (contextTo T) (InHole L S t T) comes f (w .0) i there;
           }

@@ -3,19 +3,17 @@ use Prim.Native.Nat.{ℕ, suc, _+_, _<_, _≤_}
 use mathlib.Core.Path.{_≡_, refl, ap, _∙_, sym, subst}
 use mathlib.Core.Logic.{_≢_}
 use mathlib.Core.List.{List, [], _∷_, _++_, append-assoc}
-use lib.ListN.{length, getD, take, drop, set, length-set}
+use lib.ListN.{length, getD, take, set, length-set}
 use lib.Seq.{getD-take, getD-set-same, getD-set-other, take-suc}
 use native.Mathlib.Omega.{arith}
-use native.Mathlib.Decide.{ℕ-discrete, decLt}
 use Rattle.meaning.specs.Pattern.{Kind, old, new, look, Comes, after}
 use Rattle.meaning.specs.Value.{Value, kind}
 use Rattle.meaning.specs.Record.{Entry, entry, values, second, numbers}
-use Rattle.meaning.specs.Order.{choices}
 use Rattle.meaning.proofs.Lists.{look-old, look-some, look-end, pre-look, all-more}
 use Rattle.meaning.proofs.Steps.{values-length, fresh, stands-inv, note-new}
 use Rattle.meaning.proofs.Next.{Any}
 use Rattle.variable.specs.State.{ValueAt, State, Written, row-of, zero-of-individual, zero-of-function, Kept}
-use Rattle.variable.proofs.Lists.{kinds-look, values-look, numbers-more, numbers-at, same-before, same-behind, none-left, next-left}
+use Rattle.variable.proofs.Lists.{kinds-look, values-look, numbers-more, numbers-at, same-before}
 
 -- what a walk writes later, a walk writes
 written-more : {Q : List Kind} {n m i : ℕ} → n ≤ m → Written Q m i → Written Q n i
@@ -36,29 +34,17 @@ pub record Put (R R′ : List ℕ) (n t d : ℕ) : Type 0 where
   pub second : getD R′ (n + n + 1) 0 ≡ d
   pub rest : (i : ℕ) → i ≢ n + n → i ≢ n + n + 1 → getD R′ i 0 ≡ getD R i 0
 
-pub put-both : {R R′ : List ℕ} {n t : ℕ} → n + n + 1 < length R → R′ ≡ set (set R (n + n) t) (n + n + 1) 0 → Put R R′ n t 0
-put-both {R} {R′} {n} {t} h e =
+pub put-both : {R R′ : List ℕ} {n t v : ℕ} → n + n + 1 < length R → R′ ≡ set (set R (n + n) t) (n + n + 1) v → Put R R′ n t v
+put-both {R} {R′} {n} {t} {v} h e =
     let f : n + n + 1 < length (set R (n + n) t) = simp length-set h in
     let g : n + n < length R = omega arith in
     let o : n + n ≢ n + n + 1 = omega arith in
     rw e
     record {
       long = simp length-set;
-      row = getD-set-other (set R (n + n) t) (n + n + 1) (n + n) 0 0 o ∙ getD-set-same R (n + n) t 0 g;
-      second = getD-set-same (set R (n + n) t) (n + n + 1) 0 0 f;
-      rest = λ i a b. getD-set-other (set R (n + n) t) (n + n + 1) i 0 0 b ∙ getD-set-other R (n + n) i t 0 a;
-    }
-
-pub put-row : {R R′ : List ℕ} {n t d : ℕ} → n + n + 1 < length R → R′ ≡ set R (n + n) t → d ≡ getD R (n + n + 1) 0 → Put R R′ n t d
-put-row {R} {R′} {n} {t} {d} h e f =
-    let g : n + n < length R = omega arith in
-    let o : n + n + 1 ≢ n + n = omega arith in
-    rw e
-    record {
-      long = simp length-set;
-      row = getD-set-same R (n + n) t 0 g;
-      second = getD-set-other R (n + n) (n + n + 1) t 0 o ∙ sym f;
-      rest = λ i a b. getD-set-other R (n + n) i t 0 a;
+      row = getD-set-other (set R (n + n) t) (n + n + 1) (n + n) v 0 o ∙ getD-set-same R (n + n) t 0 g;
+      second = getD-set-same (set R (n + n) t) (n + n + 1) v 0 f;
+      rest = λ i a b. getD-set-other (set R (n + n) t) (n + n + 1) i v 0 b ∙ getD-set-other R (n + n) i t 0 a;
     }
 
 -- a variable without choices is written with a 0
@@ -69,26 +55,12 @@ kept-both {Q} {R} {R′} {n} few w p =
       rest = λ i f. p .rest i (λ e. f (row-of n (omega arith) few e)) (λ e. f (subst (λ (k : ℕ). Written Q n k) (sym e) w));
     }
 
-pub kept-row : {Q : List Kind} {R R′ : List ℕ} {n t d : ℕ} → n < length Q → d ≡ getD R (n + n + 1) 0 → Put R R′ n t d → Kept Q n R R′
-kept-row {Q} {R} {R′} {n} few e p =
-    record {
-      long = p .long;
-      rest = λ i f. each i f (ℕ-discrete i (n + n + 1));
-    }
-  where
-    each : (i : ℕ) → (Written Q n i → ⊥) → Dec (i ≡ n + n + 1) → getD R′ i 0 ≡ getD R i 0
-    each i f (yes h) = rw h (p .second ∙ e)
-    each i f (no h) = p .rest i (λ e. f (row-of n (omega arith) few e)) h
-
-module _ {L S R : List ℕ} {Q : List Kind} {limit n : ℕ} {B : List Entry} {cs : List ℕ} (state : State L S R Q limit n B cs) where
+module _ {L S R : List ℕ} {Q : List Kind} {n : ℕ} {B : List Entry} (state : State L S R Q n B) where
   pub count-bound : length B ≡ n
   count-bound = sym (values-length B) ∙ state .bound .many
 
   pub is-new : {x : ℕ} → x ≡ n → look (values B) x ≡ new
   is-new e = look-end (values B) _ (e ∙ sym (state .bound .many))
-
-  pub no-choices : limit ≤ n → cs ≡ []
-  no-choices h = state .left ∙ none-left Q R limit n h
 
   module _ {x : ℕ} {k : Kind} (comes : Comes Q x k n) where
     pub in-room : x + x + 1 < length R
@@ -135,33 +107,16 @@ module _ {L S R : List ℕ} {Q : List Kind} {limit n : ℕ} {B : List Entry} {cs
           rw (a, take-suc R′ (suc (n + n)) 0 (omega arith), take-suc R′ (n + n) 0 (omega arith), same, state .numbered, put .row, s, numbers-more B v t)
           (append-assoc (numbers B) (t ∷ []) (second v t ∷ []))
 
-      pub state-more : {cs′ : List ℕ} → cs′ ≡ choices (drop (n + 1) (take limit Q)) (drop (n + 1 + (n + 1)) (take (limit + limit) R)) → State L S R′ Q limit (n + 1) (B ++ (entry v t ∷ [])) cs′
-      state-more left =
+      pub state-more : State L S R′ Q (n + 1) (B ++ (entry v t ∷ []))
+      state-more =
           let h = is-new next in
           let c : Comes Q x (kind v) n = rw its comes in
           let a : after x n ≡ n + 1 = omega arith in
           let i = rw (a, note-new B x v t h) at (stands-inv Any {v = v} t (state .bound) c (fresh h tt)) in
-          let b = same-behind R′ R (put .long) (n + 1 + (n + 1)) (limit + limit) (λ i f. put .rest i (omega arith) (omega arith)) in
           record {
             small = state .small;
             room = omega (arith, state .room, put .long);
-            few = state .few;
             bound = i;
             stand = all-more (λ y e. ValueAt L S (e .row) (e .value)) B x (entry v t) (look-end B x (next ∙ sym count-bound)) (state .stand) here;
             numbered = numbered-more;
-            left = rw b left;
           }
-
-    -- the choices that are left where it has none
-    pub left-same : ((a b : ℕ) (P : List Kind) (r : List ℕ) → choices (k ∷ P) (a ∷ b ∷ r) ≡ choices P r) → x ≡ n
-        → cs ≡ choices (drop (n + 1) (take limit Q)) (drop (n + 1 + (n + 1)) (take (limit + limit) R))
-    left-same free e = state .left ∙ go (decLt n limit)
-      where
-        go : Dec (n < limit) → choices (drop n (take limit Q)) (drop (n + n) (take (limit + limit) R)) ≡ choices (drop (n + 1) (take limit Q)) (drop (n + 1 + (n + 1)) (take (limit + limit) R))
-        go (yes h) = next-left Q R limit n k (rw e at (comes .kept)) h (omega (arith, state .few, state .room)) ∙ free (getD R (n + n) 0) (getD R (n + n + 1) 0) (drop (n + 1) (take limit Q)) (drop (n + 1 + (n + 1)) (take (limit + limit) R))
-        go (no h) = none-left Q R limit n (omega arith) ∙ sym (none-left Q R limit (n + 1) (omega arith))
-
-    -- and where the next is its own
-    pub left-next : ((a b : ℕ) (P : List Kind) (r : List ℕ) → choices (k ∷ P) (a ∷ b ∷ r) ≡ b ∷ choices P r) → x ≡ n → n < limit
-        → cs ≡ getD R (n + n + 1) 0 ∷ choices (drop (n + 1) (take limit Q)) (drop (n + 1 + (n + 1)) (take (limit + limit) R))
-    left-next own e h = state .left ∙ next-left Q R limit n k (rw e at (comes .kept)) h (omega (arith, state .few, state .room)) ∙ own (getD R (n + n) 0) (getD R (n + n + 1) 0) (drop (n + 1) (take limit Q)) (drop (n + 1 + (n + 1)) (take (limit + limit) R))

@@ -2,12 +2,11 @@
 use Prim.Native.Nat.{ℕ, _+_, _<_, _≤_}
 use mathlib.Core.Path.{_≡_}
 use mathlib.Core.List.{List}
-use lib.ListN.{length, getD, take, drop}
+use lib.ListN.{length, getD, take}
 use Rattle.meaning.specs.Forest.{Forest, Context, holeRow}
 use Rattle.meaning.specs.Pattern.{Kind, anIndividual, aFunction, old, look}
 use Rattle.meaning.specs.Value.{Value, ofIndividual, ofSequence, ofFunction, ofContext}
 use Rattle.meaning.specs.Record.{Entry, numbers}
-use Rattle.meaning.specs.Order.{choices}
 use Rattle.meaning.proofs.Steps.{Inv}
 use Rattle.meaning.proofs.Next.{Any}
 use Rattle.tree.specs.Places.{TermsAt, TermAt, ContextAt}
@@ -19,15 +18,13 @@ pub data ValueAt (L S : List ℕ) (a : ℕ) : Value → Type 0 where
   a-label : {l : ℕ} → a < length L → getD L a 0 ≡ l → ValueAt L S a (ofFunction l)
   a-context : {c : Context} → ContextAt L S a (a + holeRow c) c → ValueAt L S a (ofContext c)
 
--- n variables are bound, as B says; the record R has their numbers, and behind them those of the choices that are left
-pub record State (L S R : List ℕ) (Q : List Kind) (limit n : ℕ) (B : List Entry) (cs : List ℕ) : Type 0 where
+-- n variables are bound, as B says, and the record R has their numbers
+pub record State (L S R : List ℕ) (Q : List Kind) (n : ℕ) (B : List Entry) : Type 0 where
   pub small : length L < 4294967296
   pub room : length Q + length Q ≤ length R
-  pub few : limit ≤ length Q
   pub bound : Inv Any Q n B
   pub stand : (x : ℕ) (e : Entry) → look B x ≡ old e → ValueAt L S (e .row) (e .value)
   pub numbered : take (n + n) R ≡ numbers B
-  pub left : cs ≡ choices (drop n (take limit Q)) (drop (n + n) (take (limit + limit) R))
 
 -- the places i of a record that a walk may write where n variables are bound: not the second number of a sequence or context
 pub data Written (Q : List Kind) (n i : ℕ) : Type 0 where

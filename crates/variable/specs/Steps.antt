@@ -3,15 +3,15 @@ use Prim.Native.Nat.{ℕ, _+_, _<_}
 use mathlib.Core.Path.{_≡_}
 use mathlib.Core.Logic.{_≢_}
 use mathlib.Core.List.{List}
-use lib.ListN.{length, getD, take}
+use lib.ListN.{length, getD}
 use native.Mathlib.Decide.{ℕ-discrete}
 use Rattle.meaning.specs.Forest.{Forest, Term, rows, terms}
 use Rattle.meaning.specs.Read.{takeT, cut}
 use Rattle.meaning.specs.Pattern.{Kind, anIndividual, aSequence, aFunction, aContext, Comes, after}
 use Rattle.meaning.specs.Value.{Value, ofIndividual, ofSequence, ofFunction, ofContext}
-use Rattle.meaning.specs.Record.{Entry, numbers}
+use Rattle.meaning.specs.Record.{Entry}
 use Rattle.meaning.proofs.Laws.{dropT}
-use Rattle.meaning.proofs.Walk.{Res, fail, need, ok, when, meet, choose}
+use Rattle.meaning.proofs.Walk.{Res, fail, ok, when, meet, choose}
 use Rattle.meaning.proofs.Next.{Any, any?}
 use Rattle.tree.specs.Places.{TermsAt, TermAt}
 use Rattle.compare.specs.declared.Found.{Found}
@@ -22,18 +22,19 @@ use Rattle.variable.specs.declared.Bound.the-variants as bound
 use Rattle.variable.specs.declared.Step.{Step}
 use Rattle.variable.specs.declared.Step.the-variants as step
 
--- the answer at a symbol or a variable without choices, with the record R, is the walk's; where it goes on, m variables are bound
-pub data Meets (L S R : List ℕ) (Q : List Kind) (limit m : ℕ) : Bound → Res → Type 0 where
-  meets-fail : Meets L S R Q limit m bound.Fail fail
-  meets-ok : {B : List Entry} {cs : List ℕ} {k : ℕ} → k ≡ m → State L S R Q limit k B cs → Meets L S R Q limit m (bound.Ok k) (ok B cs)
+-- the answer at a symbol or a variable without choices, with the record R, is the walk's, which f says for each list of choices;
+-- where it goes on, m variables are bound
+pub data Meets (L S R : List ℕ) (Q : List Kind) (m : ℕ) (f : List ℕ → Res) : Bound → Type 0 where
+  meets-fail : ((cs : List ℕ) → f cs ≡ fail) → Meets L S R Q m f bound.Fail
+  meets-ok : {B : List Entry} {k : ℕ} → k ≡ m → State L S R Q k B → ((cs : List ℕ) → f cs ≡ ok B cs) → Meets L S R Q m f (bound.Ok k)
 
--- the answer at a variable that has choices lo .. hi is the walk's, however it goes on; There says what stands at the row where it does
-pub data Chose (L S R : List ℕ) (Q : List Kind) (limit n x lo hi t : ℕ) (g : ℕ → Value) (B : List Entry) (cs : List ℕ) (There : ℕ → ℕ → Type 0) : Step → Type 0 where
-  chose-fail : ((k : ℕ → List Entry → List ℕ → Res) → choose Any any? x lo hi t g B cs k ≡ fail) → Chose L S R Q limit n x lo hi t g B cs There step.Fail
-  chose-need : {lo′ hi′ : ℕ} → lo ≡ lo′ → hi ≡ hi′ → length B ≡ x → take (x + x) R ≡ numbers B
-      → ((k : ℕ → List Entry → List ℕ → Res) → choose Any any? x lo hi t g B cs k ≡ need B t lo hi) → Chose L S R Q limit n x lo hi t g B cs There (step.Need lo′ hi′)
-  chose-go : {u m : ℕ} (d : ℕ) {B′ : List Entry} {cs′ : List ℕ} → ((k : ℕ → List Entry → List ℕ → Res) → choose Any any? x lo hi t g B cs k ≡ k d B′ cs′)
-      → m ≡ after x n → State L S R Q limit m B′ cs′ → There u d → Chose L S R Q limit n x lo hi t g B cs There (step.Go u m)
+-- the answer at a variable that has choices lo .. hi is the walk's, however it goes on; There says what stands at the row where it does.
+-- Where x comes first, it has to be chosen.
+pub data Chose (n x lo hi t : ℕ) (g : ℕ → Value) (B : List Entry) (There : ℕ → ℕ → Type 0) : Step → Type 0 where
+  chose-fail : ((cs : List ℕ) (k : ℕ → List Entry → List ℕ → Res) → choose Any any? x lo hi t g B cs k ≡ fail) → Chose n x lo hi t g B There step.Fail
+  chose-need : {lo′ hi′ : ℕ} → lo ≡ lo′ → hi ≡ hi′ → x ≡ n → Chose n x lo hi t g B There (step.Need lo′ hi′)
+  chose-go : {u : ℕ} (d : ℕ) → ((cs : List ℕ) (k : ℕ → List Entry → List ℕ → Res) → choose Any any? x lo hi t g B cs k ≡ k d B cs) → x < n → There u d
+      → Chose n x lo hi t g B There (step.Go u)
 
 -- the first d terms of a sequence, as a value; and the others, from row u up to e, where all start at row t
 abbrev pub firstTerms : Forest → ℕ → Value
@@ -50,43 +51,37 @@ abbrev pub InHole : List ℕ → List ℕ → ℕ → Term → ℕ → ℕ → T
 InHole L S t T h d = (t + d ≡ h) × TermAt L S h (cut T d .at .label) (cut T d .at .args)
 
 -- a variable x of the kind k, where n variables are bound
-pub record VariablePre (L S R : List ℕ) (limit n : ℕ) (k : Kind) (x : ℕ) : Type 0 where
-  pub some : (Q : List Kind) × (B : List Entry) × (cs : List ℕ) × State L S R Q limit n B cs × Comes Q x k n
+pub record VariablePre (L S R : List ℕ) (n : ℕ) (k : Kind) (x : ℕ) : Type 0 where
+  pub some : (Q : List Kind) × (B : List Entry) × State L S R Q n B × Comes Q x k n
 
 -- individual: at the term at row t
 pub record IndividualPre (L S R : List ℕ) (x t n : ℕ) : Type 0 where
-  pub variable : (limit : ℕ) × VariablePre L S R limit n anIndividual x
+  pub variable : VariablePre L S R n anIndividual x
   pub tree : (l : ℕ) × (us : Forest) × TermAt L S t l us
 
 pub record IndividualPost (L S R : List ℕ) (x t n : ℕ) (o : Bound) (R′ : List ℕ) : Type 0 where
-  pub is : (limit : ℕ) (Q : List Kind) (l : ℕ) (us : Forest) (B : List Entry) (cs : List ℕ) → TermAt L S t l us → Comes Q x anIndividual n → State L S R Q limit n B cs
-      → Meets L S R′ Q limit (after x n) o (meet Any any? x (ofIndividual l us) t B cs) × Kept Q n R R′
+  pub is : (Q : List Kind) (l : ℕ) (us : Forest) (B : List Entry) → TermAt L S t l us → Comes Q x anIndividual n → State L S R Q n B
+      → Meets L S R′ Q (after x n) (meet Any any? x (ofIndividual l us) t B) o × Kept Q n R R′
 
 -- head: a symbol, where the kind is 0, or a function variable
 pub record HeadPre (L R : List ℕ) (kind x t n : ℕ) : Type 0 where
   pub row : t < length L
-  pub variable : kind ≢ 0 → (S : List ℕ) × (limit : ℕ) × VariablePre L S R limit n aFunction x
+  pub variable : kind ≢ 0 → (S : List ℕ) × VariablePre L S R n aFunction x
 
 pub record HeadPost (L R : List ℕ) (kind x t n : ℕ) (o : Bound) (R′ : List ℕ) : Type 0 where
-  pub symbol : kind ≡ 0 → (S : List ℕ) (limit : ℕ) (Q : List Kind) (B : List Entry) (cs : List ℕ) → State L S R Q limit n B cs
-      → Meets L S R′ Q limit n o (when (ℕ-discrete x (getD L t 0)) (ok B cs)) × Kept Q n R R′
-  pub function : kind ≢ 0 → (S : List ℕ) (limit : ℕ) (Q : List Kind) (B : List Entry) (cs : List ℕ) → Comes Q x aFunction n → State L S R Q limit n B cs
-      → Meets L S R′ Q limit (after x n) o (meet Any any? x (ofFunction (getD L t 0)) t B cs) × Kept Q n R R′
+  pub symbol : kind ≡ 0 → (S : List ℕ) (Q : List Kind) (B : List Entry) → State L S R Q n B
+      → Meets L S R′ Q n (λ cs. when (ℕ-discrete x (getD L t 0)) (ok B cs)) o × Kept Q n R R′
+  pub function : kind ≢ 0 → (S : List ℕ) (Q : List Kind) (B : List Entry) → Comes Q x aFunction n → State L S R Q n B
+      → Meets L S R′ Q (after x n) (meet Any any? x (ofFunction (getD L t 0)) t B) o × Kept Q n R R′
 
 -- sequence: before row t of a list that ends at e
-pub record SequencePre (L S R : List ℕ) (limit x t e n : ℕ) : Type 0 where
-  pub variable : VariablePre L S R limit n aSequence x
+pub record SequencePre (L S R : List ℕ) (x t e n : ℕ) : Type 0 where
+  pub variable : VariablePre L S R n aSequence x
   pub tree : (us : Forest) × TermsAt L S t e us
 
-pub record SequencePost (L S R : List ℕ) (limit x t e n : ℕ) (o : Step) (R′ : List ℕ) : Type 0 where
-  pub is : (Q : List Kind) (us : Forest) (B : List Entry) (cs : List ℕ) → TermsAt L S t e us → Comes Q x aSequence n → State L S R Q limit n B cs
-      → Chose L S R′ Q limit n x 0 (terms us) t (firstTerms us) B cs (Behind L S t e us) o × Kept Q n R R′
-
-pub record FirstSequencePre (S R : List ℕ) (limit t e n : ℕ) : Type 0 where
-  pub some : (L : List ℕ) × SequencePre L S R limit n t e n
-
-pub record FirstSequencePost (S R : List ℕ) (limit t e n : ℕ) (o : Step) (R′ : List ℕ) : Type 0 where
-  pub is : (L : List ℕ) → SequencePost L S R limit n t e n o R′
+pub record SequencePost (L S R : List ℕ) (x t e n : ℕ) (o : Step) : Type 0 where
+  pub is : (Q : List Kind) (us : Forest) (B : List Entry) → TermsAt L S t e us → Comes Q x aSequence n → State L S R Q n B
+      → Chose n x 0 (terms us) t (firstTerms us) B (Behind L S t e us) o
 
 -- the sequence f, compared whole with the first terms of us
 pub data Again (L S : List ℕ) (t e : ℕ) (f us : Forest) : Found → Type 0 where
@@ -102,17 +97,10 @@ pub record LaterSequencePost (L S R : List ℕ) (x t e : ℕ) (o : Found) : Type
   pub is : (b : ℕ) (f us : Forest) → TermsAt L S (getD R (x + x) 0) b f → terms f ≡ getD R (x + x + 1) 0 → TermsAt L S t e us → Again L S t e f us o
 
 -- context: at the term at row t
-pub record ContextPre (L S R : List ℕ) (limit x t n : ℕ) : Type 0 where
-  pub variable : VariablePre L S R limit n aContext x
+pub record ContextPre (L S R : List ℕ) (x t n : ℕ) : Type 0 where
+  pub variable : VariablePre L S R n aContext x
   pub tree : (l : ℕ) × (us : Forest) × TermAt L S t l us
 
-pub record ContextPost (L S R : List ℕ) (limit x t n : ℕ) (o : Step) (R′ : List ℕ) : Type 0 where
-  pub is : (Q : List Kind) (T : Term) (B : List Entry) (cs : List ℕ) → TermAt L S t (T .label) (T .args) → Comes Q x aContext n → State L S R Q limit n B cs
-      → Chose L S R′ Q limit n x t (t + rows (T .args)) t (contextTo T) B cs
-      (InHole L S t T) o × Kept Q n R R′
-
-pub record FirstContextPre (S R : List ℕ) (limit t n : ℕ) : Type 0 where
-  pub some : (L : List ℕ) × ContextPre L S R limit n t n
-
-pub record FirstContextPost (S R : List ℕ) (limit t n : ℕ) (o : Step) (R′ : List ℕ) : Type 0 where
-  pub is : (L : List ℕ) → ContextPost L S R limit n t n o R′
+pub record ContextPost (L S R : List ℕ) (x t n : ℕ) (o : Step) : Type 0 where
+  pub is : (Q : List Kind) (T : Term) (B : List Entry) → TermAt L S t (T .label) (T .args) → Comes Q x aContext n → State L S R Q n B
+      → Chose n x t (t + rows (T .args)) t (contextTo T) B (InHole L S t T) o

@@ -4,7 +4,7 @@
 ghost use mathlib.Core.Path.{_≡_};
 ghost use Prim.Native.Nat.{_+_, _<_};
 ghost use lib.ListN.{length, set};
-ghost use Rattle.variable.specs.Steps.{IndividualPre, IndividualPost, HeadPre, HeadPost, FirstSequencePre, FirstSequencePost, LaterSequencePre, LaterSequencePost, SequencePre, SequencePost, FirstContextPre, FirstContextPost, ContextPre, ContextPost};
+ghost use Rattle.variable.specs.Steps.{IndividualPre, IndividualPost, HeadPre, HeadPost, LaterSequencePre, LaterSequencePost, SequencePre, SequencePost, ContextPre, ContextPost};
 
 // What an individual variable and the head of a term answer: no match, or one with so many variables bound.
 pub enum Bound {
@@ -12,29 +12,21 @@ pub enum Bound {
     Ok(usize),
 }
 
-// What a sequence or context variable answers: its least and largest value; or the row at which the walk goes on, with so many
-// variables bound.
+// What a sequence or context variable answers: where it comes first, its least and largest value; otherwise the row at which the
+// walk goes on.
 pub enum Step {
     Fail,
     Need(usize, usize),
-    Go(usize, usize),
+    Go(usize),
 }
 
-// Writes the numbers of the next variable, an individual or function variable at row t.
-fn put(record: &mut [u32], n: usize, t: usize)
-    requires { ⌜ (n + n + 1 < length (now «record»)) × (t < 4294967296) ⌝ }
-    ensures { λ _. ⌜ now («record» .exit) ≡ set (set (now («record» .entry)) (n + n) t) (n + n + 1) 0 ⌝ }
+// Writes the numbers of the next variable, which starts at row t.
+pub fn put(record: &mut [u32], n: usize, t: usize, v: usize)
+    requires { ⌜ (n + n + 1 < length (now «record»)) × (t < 4294967296) × (v < 4294967296) ⌝ }
+    ensures { λ _. ⌜ now («record» .exit) ≡ set (set (now («record» .entry)) (n + n) t) (n + n + 1) v ⌝ }
 {
     record[n + n] = t as u32;
-    record[n + n + 1] = 0;
-}
-
-// Writes the row of the next variable, a sequence or context variable: its second number was given.
-fn put_row(record: &mut [u32], n: usize, t: usize)
-    requires { ⌜ (n + n + 1 < length (now «record»)) × (t < 4294967296) ⌝ }
-    ensures { λ _. ⌜ now («record» .exit) ≡ set (now («record» .entry)) (n + n) t ⌝ }
-{
-    record[n + n] = t as u32;
+    record[n + n + 1] = v as u32;
 }
 
 // The individual variable x at row t.
@@ -50,7 +42,7 @@ pub fn individual(
     ensures { λ r. ⌜ IndividualPost (now (label .entry)) (now (size .entry)) (now («record» .entry)) x t n r (now («record» .exit)) ⌝ }
 {
     if x == n {
-        put(record, n, t);
+        put(record, n, t, 0);
         return Bound::Ok(n + 1);
     }
     let a = tree::at(record, x + x);
@@ -73,37 +65,13 @@ pub fn head(label: &[u32], record: &mut [u32], kind: usize, x: usize, t: usize, 
         return Bound::Fail;
     }
     if x == n {
-        put(record, n, t);
+        put(record, n, t, 0);
         return Bound::Ok(n + 1);
     }
     if tree::at(label, tree::at(record, x + x)) == tree::at(label, t) {
         Bound::Ok(n)
     } else {
         Bound::Fail
-    }
-}
-
-// The sequence variable n, which comes first before row t of a list that ends at e.
-fn first_sequence(
-    size: &[u32],
-    record: &mut [u32],
-    limit: usize,
-    t: usize,
-    e: usize,
-    n: usize,
-) -> Step
-    requires { ⌜ FirstSequencePre (now size) (now «record») limit t e n ⌝ }
-    ensures { λ r. ⌜ FirstSequencePost (now (size .entry)) (now («record» .entry)) limit t e n r (now («record» .exit)) ⌝ }
-{
-    if limit <= n {
-        return Step::Need(0, tree::count(size, t, e));
-    }
-    match compare::pass(size, t, e, tree::at(record, n + n + 1)) {
-        compare::Found::Fail => Step::Fail,
-        compare::Found::At(u) => {
-            put_row(record, n, t);
-            Step::Go(u, n + 1)
-        }
     }
 }
 
@@ -137,65 +105,36 @@ fn later_sequence(
 pub fn sequence(
     label: &[u32],
     size: &[u32],
-    record: &mut [u32],
-    limit: usize,
+    record: &[u32],
     x: usize,
     t: usize,
     e: usize,
     n: usize,
 ) -> Step
-    requires { ⌜ SequencePre (now label) (now size) (now «record») limit x t e n ⌝ }
-    ensures { λ r. ⌜ SequencePost (now (label .entry)) (now (size .entry)) (now («record» .entry)) limit x t e n r (now («record» .exit)) ⌝ }
+    requires { ⌜ SequencePre (now label) (now size) (now «record») x t e n ⌝ }
+    ensures { λ r. ⌜ SequencePost (now (label .entry)) (now (size .entry)) (now («record» .entry)) x t e n r ⌝ }
 {
     if x == n {
-        return first_sequence(size, record, limit, t, e, n);
+        return Step::Need(0, tree::count(size, t, e));
     }
     match later_sequence(label, size, record, x, t, e) {
         compare::Found::Fail => Step::Fail,
-        compare::Found::At(u) => Step::Go(u, n),
+        compare::Found::At(u) => Step::Go(u),
     }
-}
-
-// The context variable n, which comes first at row t.
-fn first_context(size: &[u32], record: &mut [u32], limit: usize, t: usize, n: usize) -> Step
-    requires { ⌜ FirstContextPre (now size) (now «record») limit t n ⌝ }
-    ensures { λ r. ⌜ FirstContextPost (now (size .entry)) (now («record» .entry)) limit t n r (now («record» .exit)) ⌝ }
-{
-    let e = tree::next(size, t);
-    if limit <= n {
-        return Step::Need(t, e - 1);
-    }
-    let h = tree::at(record, n + n + 1);
-    if h < t {
-        return Step::Fail;
-    }
-    if e <= h {
-        return Step::Fail;
-    }
-    put_row(record, n, t);
-    Step::Go(h, n + 1)
 }
 
 // The context variable x at row t: where the walk goes on is the row of its hole.
-pub fn context(
-    label: &[u32],
-    size: &[u32],
-    record: &mut [u32],
-    limit: usize,
-    x: usize,
-    t: usize,
-    n: usize,
-) -> Step
-    requires { ⌜ ContextPre (now label) (now size) (now «record») limit x t n ⌝ }
-    ensures { λ r. ⌜ ContextPost (now (label .entry)) (now (size .entry)) (now («record» .entry)) limit x t n r (now («record» .exit)) ⌝ }
+pub fn context(label: &[u32], size: &[u32], record: &[u32], x: usize, t: usize, n: usize) -> Step
+    requires { ⌜ ContextPre (now label) (now size) (now «record») x t n ⌝ }
+    ensures { λ r. ⌜ ContextPost (now (label .entry)) (now (size .entry)) (now («record» .entry)) x t n r ⌝ }
 {
     if x == n {
-        return first_context(size, record, limit, t, n);
+        return Step::Need(t, tree::next(size, t) - 1);
     }
     let a = tree::at(record, x + x);
     let b = tree::at(record, x + x + 1);
     match compare::fits(label, size, a, b, t) {
         compare::Found::Fail => Step::Fail,
-        compare::Found::At(h) => Step::Go(h, n),
+        compare::Found::At(h) => Step::Go(h),
     }
 }

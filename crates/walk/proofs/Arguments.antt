@@ -2,56 +2,62 @@
 use Prim.Native.Nat.{ℕ, _+_, _*_, _<_, _≤_}
 use mathlib.Core.Path.{_≡_, refl, ap, _∙_, sym, subst}
 use mathlib.Core.Logic.{_≢_}
-use mathlib.Core.List.{List}
+use mathlib.Core.List.{List, _∷_}
 use lib.ListN.{length, getD}
 use native.Mathlib.Omega.{arith}
 use Rattle.meaning.specs.Forest.{Forest, none, some, term, rows, terms, size}
 use Rattle.meaning.specs.Read.{takeT}
-use Rattle.meaning.specs.Pattern.{Pattern, Patterns, nil, cons, sequence, Kind, after, afterT, afterF, GoodF}
+use Rattle.meaning.specs.Pattern.{Pattern, Patterns, nil, cons, sequence, Kind, aSequence, after, afterT, afterF, GoodF}
 use Rattle.meaning.specs.Value.{ofSequence}
 use Rattle.meaning.specs.Record.{Entry}
 use Rattle.meaning.proofs.Laws.{dropT}
+use Rattle.meaning.proofs.Lists.{look-old}
 use Rattle.meaning.proofs.Complete.{after-geT}
 use Rattle.meaning.proofs.Walk.{Res, fail, ok, andThen, choose, walkT, walkF}
+use Rattle.meaning.proofs.Resume.{Frame, frame, at-sequence}
 use Rattle.tree.specs.Places.{TermsAt}
 use Rattle.tree.proofs.Terms.{terms-le, none-at, first-at, FirstAt, term-next}
 use Rattle.pattern.specs.Places.{PatternsAt}
 use Rattle.meaning.proofs.Next.{Any, any?}
-use Rattle.variable.specs.State.{Kept}
+use Rattle.variable.specs.State.{State, Kept}
 use Rattle.variable.specs.Steps.{SequencePre, SequencePost}
+use Rattle.walk.specs.Above.{Came, Unchanged, in-list, before-terms}
 use Rattle.walk.specs.Cycle.{Agree, both-fail, both-need, both-ok, TermAsked, TermPre, TermPost, ListAsked, ListPre, ListPost}
 use Rattle.walk.specs.declared.Out.{Out}
 use Rattle.walk.specs.declared.Out.the-variants as out
 use Rattle.variable.specs.declared.Step.{Step}
 use Rattle.variable.specs.declared.Step.the-variants as step
-use Rattle.variable.proofs.States.{kept-same, kept-then}
-use Rattle.walk.proofs.Views.{Seen, term-seen, list-seen, SequenceFirst, sequence-first, TermFirst, term-first, no-arguments, fail-agree, need-agree, ok-agree, fail-chose, need-chose, go-chose}
+use Rattle.variable.proofs.States.{kept-same, kept-then, is-new}
+use Rattle.walk.proofs.Marks.{unchanged-same, unchanged-then, marks-kept, come-unchanged, come-holder, held-kept, needs-same, needs-then}
+use Rattle.walk.proofs.Stops.{sequence-asks, sequence-goes}
+use Rattle.walk.proofs.Views.{Seen, term-seen, list-seen, SequenceFirst, sequence-first, TermFirst, term-first, no-arguments, fail-agree, need-agree, ok-agree, agree-same, agree-before, fail-chose, need-chose, go-chose}
 
--- the walk of a list with the result r and c variables bound at its end, begun with n₀ bound and the record R₀, comes to the
--- rows p and t with n bound and the record R: the walk of what is left has that result
-pub record Left (L S M R₀ R : List ℕ) (limit p pe t te n n₀ : ℕ) (K N Z : List ℕ) (Q : List Kind) (r : Res) (c : ℕ) : Type 0 where
+-- the walk r of a list with c variables bound at its end, begun with n₀ bound, the record R₀ and the rows A₀ at the row p₀, comes to the
+-- rows p and t with n bound, the record R and the rows A: the walk of what is left comes to the same
+pub record Left (L S M R₀ R A₀ A : List ℕ) (h p₀ p pe t te n n₀ : ℕ) (K N Z : List ℕ) (Q : List Kind) (r : List ℕ → Res) (c : ℕ) (fs : List Frame) : Type 0 where
   pub ps : Patterns
   pub us : Forest
   pub B : List Entry
-  pub cs : List ℕ
-  pub asked : ListAsked L S M R limit p pe t te n K N Z Q ps us B cs
-  pub same : r ≡ walkF Any any? ps us t B cs
+  pub asked : ListAsked L S M R A h p pe t te n K N Z Q ps us B fs
+  pub same : (cs : List ℕ) → r cs ≡ walkF Any any? ps us t B cs
   pub count : c ≡ afterF ps n
   pub kept : Kept Q n₀ R₀ R
   pub later : n₀ ≤ n
+  pub unchanged : Unchanged p₀ A₀ A
 
-pub record Walking (L S M R₀ R : List ℕ) (limit p₀ pe t₀ te n₀ p t n : ℕ) : Type 0 where
-  pub long : length R ≡ length R₀
+pub record Walking (L S M R₀ R A₀ A : List ℕ) (h p₀ pe t₀ te n₀ p t n : ℕ) : Type 0 where
   pub later : p₀ ≤ p
-  pub is : (K N Z : List ℕ) (Q : List Kind) (ps : Patterns) (us : Forest) (B : List Entry) (cs : List ℕ) → ListAsked L S M R₀ limit p₀ pe t₀ te n₀ K N Z Q ps us B cs
-      → Left L S M R₀ R limit p pe t te n n₀ K N Z Q (walkF Any any? ps us t₀ B cs) (afterF ps n₀)
+  pub further : t₀ ≤ t
+  pub is : (K N Z : List ℕ) (Q : List Kind) (ps : Patterns) (us : Forest) (B : List Entry) (fs : List Frame) → ListAsked L S M R₀ A₀ h p₀ pe t₀ te n₀ K N Z Q ps us B fs
+      → Left L S M R₀ R A₀ A h p₀ p pe t te n n₀ K N Z Q (walkF Any any? ps us t₀ B) (afterF ps n₀) fs
 
-pub walking-first : {L S M R : List ℕ} {limit p pe t te n : ℕ} → Walking L S M R R limit p pe t te n p t n
+pub walking-first : {L S M R A : List ℕ} {h p pe t te n : ℕ} → Walking L S M R R A A h p pe t te n p t n
 walking-first =
     record {
-      long = refl;
       later = omega arith;
-      is = λ K N Z Q ps us B cs a. record { ps = ps; us = us; B = B; cs = cs; asked = a; same = refl; count = refl; kept = kept-same; later = omega arith };
+      further = omega arith;
+      is = λ K N Z Q ps us B fs a.
+          record { ps = ps; us = us; B = B; asked = a; same = λ cs. refl; count = refl; kept = kept-same; later = omega arith; unchanged = unchanged-same };
     }
 
 -- the end of both lists, or of one
@@ -91,240 +97,302 @@ sequence-after : (ps : Patterns) (n x : ℕ) (qs : Patterns) → ps ≡ sequence
 unfolding afterF
 sequence-after ps n x qs e = rw e
 
-module _ {L S M R₀ R : List ℕ} {limit p₀ pe t₀ te n₀ p t n : ℕ} (walking : Walking L S M R₀ R limit p₀ pe t₀ te n₀ p t n) where
+module _ {L S M R₀ R A₀ A : List ℕ} {h p₀ pe t₀ te n₀ p t n : ℕ} (walking : Walking L S M R₀ R A₀ A h p₀ pe t₀ te n₀ p t n) where
   -- what is left for those that the caller has
-  now-left : (h : ListPre L S M R₀ limit p₀ pe t₀ te n₀) → Left L S M R₀ R limit p pe t te n n₀ (h .K) (h .N) (h .Z) (h .Q) (walkF Any any? (h .ps) (h .us) t₀ (h .B) (h .cs)) (afterF (h .ps) n₀)
-  now-left h = walking .is (h .K) (h .N) (h .Z) (h .Q) (h .ps) (h .us) (h .B) (h .cs) (h .asked)
+  now-left : (w : ListPre L S M R₀ A₀ h p₀ pe t₀ te n₀)
+      → Left L S M R₀ R A₀ A h p₀ p pe t te n n₀ (w .K) (w .N) (w .Z) (w .Q) (walkF Any any? (w .ps) (w .us) t₀ (w .B)) (afterF (w .ps) n₀) (w .fs)
+  now-left w = walking .is (w .K) (w .N) (w .Z) (w .Q) (w .ps) (w .us) (w .B) (w .fs) (w .asked)
 
   -- an answer for what is left is the answer
-  answered : {R₁ : List ℕ} (o : Out)
-      → ((K N Z : List ℕ) (Q : List Kind) (ps : Patterns) (us : Forest) (B : List Entry) (cs : List ℕ) → ListAsked L S M R limit p pe t te n K N Z Q ps us B cs
-      → Agree L S R₁ Q limit (afterF ps n) o (walkF Any any? ps us t B cs) × Kept Q n R R₁)
-      → ListPost L S M R₀ limit p₀ pe t₀ te n₀ o R₁
-  answered {R₁} o f =
+  answered : {R₁ A₁ : List ℕ} (o : Out)
+      → ((K N Z : List ℕ) (Q : List Kind) (ps : Patterns) (us : Forest) (B : List Entry) (fs : List Frame) → ListAsked L S M R A h p pe t te n K N Z Q ps us B fs
+      → Agree L S R₁ A₁ K N Z Q p (afterF ps n) fs (walkF Any any? ps us t B) o × Kept Q n R R₁ × Unchanged p A A₁)
+      → ListPost L S M R₀ A₀ h p₀ pe t₀ te n₀ o R₁ A₁
+  answered {R₁} {A₁} o f =
       record {
-        is = λ K N Z Q ps us B cs a.
-            let w = walking .is K N Z Q ps us B cs a in
-            let y = f K N Z Q (w .ps) (w .us) (w .B) (w .cs) (w .asked) in
-            (rw (w .same, w .count) (y .0), kept-then (w .later) (w .kept) (y .1));
+        is = λ K N Z Q ps us B fs a.
+            let w = walking .is K N Z Q ps us B fs a in
+            let y = f K N Z Q (w .ps) (w .us) (w .B) fs (w .asked) in
+            let z : Agree L S R₁ A₁ K N Z Q p (afterF ps n₀) fs (walkF Any any? (w .ps) (w .us) t (w .B)) o =
+            subst (λ (m : ℕ). Agree L S R₁ A₁ K N Z Q p m fs (walkF Any any? (w .ps) (w .us) t (w .B)) o) (sym (w .count)) (y .0)
+            in
+            (agree-before (walking .later) (agree-same (w .same) z), kept-then (w .later) (w .kept) (y .1), unchanged-then (walking .later) (w .unchanged) (y .2));
       }
 
   -- a step for what is left is a step
-  stepped : {R₁ : List ℕ} {q u m : ℕ} → length R₁ ≡ length R → p ≤ q
-      → ((K N Z : List ℕ) (Q : List Kind) (ps : Patterns) (us : Forest) (B : List Entry) (cs : List ℕ) → ListAsked L S M R limit p pe t te n K N Z Q ps us B cs
-      → Left L S M R R₁ limit q pe u te m n K N Z Q (walkF Any any? ps us t B cs) (afterF ps n))
-      → Walking L S M R₀ R₁ limit p₀ pe t₀ te n₀ q u m
-  stepped {R₁} long later f =
+  stepped : {R₁ A₁ : List ℕ} {q u m : ℕ} → p ≤ q → t ≤ u
+      → ((K N Z : List ℕ) (Q : List Kind) (ps : Patterns) (us : Forest) (B : List Entry) (fs : List Frame) → ListAsked L S M R A h p pe t te n K N Z Q ps us B fs
+      → Left L S M R R₁ A A₁ h p q pe u te m n K N Z Q (walkF Any any? ps us t B) (afterF ps n) fs)
+      → Walking L S M R₀ R₁ A₀ A₁ h p₀ pe t₀ te n₀ q u m
+  stepped later further f =
       record {
-        long = long ∙ walking .long;
         later = omega (arith, walking .later);
-        is = λ K N Z Q ps us B cs a.
-            let w = walking .is K N Z Q ps us B cs a in
-            let y = f K N Z Q (w .ps) (w .us) (w .B) (w .cs) (w .asked) in
+        further = omega (arith, walking .further);
+        is = λ K N Z Q ps us B fs a.
+            let w = walking .is K N Z Q ps us B fs a in
+            let y = f K N Z Q (w .ps) (w .us) (w .B) fs (w .asked) in
             record {
               ps = y .ps;
               us = y .us;
               B = y .B;
-              cs = y .cs;
               asked = y .asked;
-              same = w .same ∙ y .same;
+              same = λ cs. w .same cs ∙ y .same cs;
               count = w .count ∙ y .count;
               kept = kept-then (w .later) (w .kept) (y .kept);
               later = omega (arith, w .later, y .later);
+              unchanged = unchanged-then (walking .later) (w .unchanged) (y .unchanged);
             };
       }
 
   -- the pattern's end
   module _ (e : p ≡ pe) where
-    pub list-ends : t ≡ te → ListPost L S M R₀ limit p₀ pe t₀ te n₀ (out.Ok n) R
+    pub list-ends : t ≡ te → ListPost L S M R₀ A₀ h p₀ pe t₀ te n₀ (out.Ok n) R A
     list-ends f =
         answered (out.Ok n)
-        λ K N Z Q ps us B cs a.
+        λ K N Z Q ps us B fs a.
         let z = no-arguments (a .packed) (a .pattern) e in
-        (rw (nil-walk ps us t B cs z (none-at (a .tree) (omega arith))) (both-ok (sym (nil-after ps n z)) (a .state)), kept-same)
+        (both-ok (sym (nil-after ps n z)) (a .state) (λ cs. nil-walk ps us t B cs z (none-at (a .tree) (omega arith))), kept-same, unchanged-same)
 
-    pub list-tree-left : t ≢ te → ListPost L S M R₀ limit p₀ pe t₀ te n₀ out.Fail R
+    pub list-tree-left : t ≢ te → ListPost L S M R₀ A₀ h p₀ pe t₀ te n₀ out.Fail R A
     list-tree-left f =
         answered out.Fail
-        λ K N Z Q ps us B cs a.
+        λ K N Z Q ps us B fs a.
         let z = no-arguments (a .packed) (a .pattern) e in
         let w = first-at (a .tree) (omega (arith, terms-le (a .tree), f)) in
-        (rw (nil-fails ps us t B cs (w .label) (w .args) (w .rest) z (w .is)) both-fail, kept-same)
+        (both-fail (λ cs. nil-fails ps us t B cs (w .label) (w .args) (w .rest) z (w .is)), kept-same, unchanged-same)
 
 -- a turn of the loop, at the pattern row p
-pub record Turn (L S M R₀ R : List ℕ) (limit p₀ pe t₀ te n₀ p t n : ℕ) : Type 0 where
-  pub pre : ListPre L S M R₀ limit p₀ pe t₀ te n₀
-  pub walking : Walking L S M R₀ R limit p₀ pe t₀ te n₀ p t n
+pub record Turn (L S M R₀ R A₀ A : List ℕ) (h p₀ pe t₀ te n₀ p t n : ℕ) : Type 0 where
+  pub pre : ListPre L S M R₀ A₀ h p₀ pe t₀ te n₀
+  pub walking : Walking L S M R₀ R A₀ A h p₀ pe t₀ te n₀ p t n
   pub more : p ≢ pe
 
 -- a turn at the sequence variable x
-pub record AtSequence (L S M R₀ R : List ℕ) (limit p₀ pe t₀ te n₀ p t n x : ℕ) : Type 0 where
-  pub turn : Turn L S M R₀ R limit p₀ pe t₀ te n₀ p t n
+pub record AtSequence (L S M R₀ R A₀ A : List ℕ) (h p₀ pe t₀ te n₀ p t n x : ℕ) : Type 0 where
+  pub turn : Turn L S M R₀ R A₀ A h p₀ pe t₀ te n₀ p t n
   pub kind : getD M (3 * p) 0 ≡ 2
   pub name : x ≡ getD M (3 * p + 1) 0
 
 -- a turn at a term, with a term of the tree left
-pub record AtTerm (L S M R₀ R : List ℕ) (limit p₀ pe t₀ te n₀ p t n : ℕ) : Type 0 where
-  pub turn : Turn L S M R₀ R limit p₀ pe t₀ te n₀ p t n
+pub record AtTerm (L S M R₀ R A₀ A : List ℕ) (h p₀ pe t₀ te n₀ p t n : ℕ) : Type 0 where
+  pub turn : Turn L S M R₀ R A₀ A h p₀ pe t₀ te n₀ p t n
   pub kind : getD M (3 * p) 0 ≢ 2
   pub left : t ≢ te
 
-module _ {L S M R₀ R : List ℕ} {limit p₀ pe t₀ te n₀ p t n : ℕ} (turn : Turn L S M R₀ R limit p₀ pe t₀ te n₀ p t n) where
-  turn-left : let h = turn .pre in
-      Left L S M R₀ R limit p pe t te n n₀ (h .K) (h .N) (h .Z) (h .Q) (walkF Any any? (h .ps) (h .us) t₀ (h .B) (h .cs)) (afterF (h .ps) n₀)
+module _ {L S M R₀ R A₀ A : List ℕ} {h p₀ pe t₀ te n₀ p t n : ℕ} (turn : Turn L S M R₀ R A₀ A h p₀ pe t₀ te n₀ p t n) where
+  turn-left : let w = turn .pre in
+      Left L S M R₀ R A₀ A h p₀ p pe t te n n₀ (w .K) (w .N) (w .Z) (w .Q) (walkF Any any? (w .ps) (w .us) t₀ (w .B)) (afterF (w .ps) n₀) (w .fs)
   turn-left = now-left (turn .walking) (turn .pre)
 
   pub list-row : Seen (turn .pre .K) (turn .pre .Z) M p
   list-row = list-seen (turn-left .asked .packed) (turn-left .asked .pattern) (turn .more)
 
-  pub list-tree-ends : getD M (3 * p) 0 ≢ 2 → t ≡ te → ListPost L S M R₀ limit p₀ pe t₀ te n₀ out.Fail R
+  pub list-marks : p < 256
+  list-marks = omega (arith, list-row .inside, turn-left .asked .marks .few)
+
+  pub list-tree-ends : getD M (3 * p) 0 ≢ 2 → t ≡ te → ListPost L S M R₀ A₀ h p₀ pe t₀ te n₀ out.Fail R A
   list-tree-ends kind f =
       answered (turn .walking) out.Fail
-      λ K N Z Q ps us B cs a.
+      λ K N Z Q ps us B fs a.
       let w = term-first (a .packed) (turn .more) refl (a .pattern) (a .good) kind in
-      (rw (cons-fails ps us t B cs (w .first) (w .rest) (w .is) (none-at (a .tree) (omega arith))) both-fail, kept-same)
+      (both-fail (λ cs. cons-fails ps us t B cs (w .first) (w .rest) (w .is) (none-at (a .tree) (omega arith))), kept-same, unchanged-same)
 
-module _ {L S M R₀ R : List ℕ} {limit p₀ pe t₀ te n₀ p t n x : ℕ} (place : AtSequence L S M R₀ R limit p₀ pe t₀ te n₀ p t n x) where
-  the-sequence : {K N Z : List ℕ} {Q : List Kind} {ps : Patterns} {us : Forest} {B : List Entry} {cs : List ℕ} → ListAsked L S M R limit p pe t te n K N Z Q ps us B cs
+module _ {L S M R₀ R A₀ A : List ℕ} {h p₀ pe t₀ te n₀ p t n x : ℕ} (place : AtSequence L S M R₀ R A₀ A h p₀ pe t₀ te n₀ p t n x) where
+  the-sequence : {K N Z : List ℕ} {Q : List Kind} {ps : Patterns} {us : Forest} {B : List Entry} {fs : List Frame} → ListAsked L S M R A h p pe t te n K N Z Q ps us B fs
       → SequenceFirst K N Z Q p pe x n ps
   the-sequence a = sequence-first (a .packed) (place .turn .more) refl (a .pattern) (a .good) (place .kind) (place .name)
 
-  pub list-sequence-pre : SequencePre L S R limit x t te n
+  pub list-sequence-pre : SequencePre L S R x t te n
   list-sequence-pre =
       let w = turn-left (place .turn) in
-      record { variable = record { some = (place .turn .pre .Q, w .B, w .cs, w .asked .state, the-sequence (w .asked) .comes) }; tree = (w .us, w .asked .tree) }
+      record { variable = record { some = (place .turn .pre .Q, w .B, w .asked .state, the-sequence (w .asked) .comes) }; tree = (w .us, w .asked .tree) }
 
   pub list-sequence-before : p < pe
   list-sequence-before = the-sequence (turn-left (place .turn) .asked) .before
 
-  module _ {o : Step} {R₁ : List ℕ} (post : SequencePost L S R limit x t te n o R₁) where
-    pub list-sequence-fails : o ≡ step.Fail → ListPost L S M R₀ limit p₀ pe t₀ te n₀ out.Fail R₁
+  module _ {o : Step} (post : SequencePost L S R x t te n o) where
+    pub list-sequence-fails : o ≡ step.Fail → ListPost L S M R₀ A₀ h p₀ pe t₀ te n₀ out.Fail R A
     list-sequence-fails g =
         answered (place .turn .walking) out.Fail
-        λ K N Z Q ps us B cs a.
+        λ K N Z Q ps us B fs a.
         let w = the-sequence a in
-        let y = rw g at (post .is Q us B cs (a .tree) (w .comes) (a .state)) in
-        let z = sequence-walk ps us t B cs x (w .rest) (w .is) ∙ fail-chose (y .0) (λ d B′ cs′. walkF Any any? (w .rest) (dropT d us) (t + rows (takeT d us)) B′ cs′) in
-        (rw z both-fail, y .1)
+        let y = fail-chose (rw g at (post .is Q us B (a .tree) (w .comes) (a .state))) in
+        (both-fail (λ cs. sequence-walk ps us t B cs x (w .rest) (w .is) ∙ y cs (λ d B′ cs′. walkF Any any? (w .rest) (dropT d us) (t + rows (takeT d us)) B′ cs′)), kept-same, unchanged-same)
 
-    pub list-sequence-needs : {lo hi : ℕ} → o ≡ step.Need lo hi → ListPost L S M R₀ limit p₀ pe t₀ te n₀ (out.Need x t lo hi) R₁
-    list-sequence-needs {lo} {hi} g =
-        answered (place .turn .walking) (out.Need x t lo hi)
-        λ K N Z Q ps us B cs a.
+    pub list-sequence-needs : {lo hi : ℕ} {A₁ : List ℕ} → o ≡ step.Need lo hi → Came A p h t A₁ → ListPost L S M R₀ A₀ h p₀ pe t₀ te n₀ (out.Need p x t lo hi) R A₁
+    list-sequence-needs {lo} {hi} {A₁} g came =
+        answered (place .turn .walking) (out.Need p x t lo hi)
+        λ K N Z Q ps us B fs a.
         let w = the-sequence a in
-        let y = rw g at (post .is Q us B cs (a .tree) (w .comes) (a .state)) in
-        let c = need-chose (y .0) (λ d B′ cs′. walkF Any any? (w .rest) (dropT d us) (t + rows (takeT d us)) B′ cs′) in
-        let z = sequence-walk ps us t B cs x (w .rest) (w .is) ∙ c .0 in
-        (rw z (both-need (c .1) (c .2)), y .1)
+        let y = need-chose (rw g at (post .is Q us B (a .tree) (w .comes) (a .state))) in
+        let i = is-new (a .state) (y .2) in
+        let s = list-seen (a .packed) (a .pattern) (place .turn .more) in
+        let z : after x n ≡ x + 1 = omega (arith, y .2) in
+        let u = come-unchanged came in
+        let low : 0 ≡ lo = y .0 in
+        let l : p ≤ p = omega arith in (
+          both-need l
+              (record {
+                bound = B;
+                stop = at-sequence (w .rest) us;
+                frames = fs;
+                within = look-old Q x aSequence (w .comes .kept);
+                state = rw (y .2) (a .state);
+                stands = before-terms (w .comes .kept) (sym (a .packed .kinds p (s .inside)) ∙ place .kind) (come-holder came (omega (arith, s .inside, a .marks .few, a .marks .long))) (a .below) (w .behind)
+                    (subst (GoodF Q (w .rest)) z (w .good)) (a .tree) (held-kept u (a .below) (rw (sym (sequence-after ps n x (w .rest) (w .is) ∙ ap (afterF (w .rest)) z)) (a .held)));
+                low = low;
+                high = y .1;
+                asks = sequence-asks us t B (w .is) i ∙ rw (low, y .1);
+                goes = λ v cs. sequence-goes us t B (w .is) i fs v cs;
+              }),
+          kept-same,
+          u,
+        )
 
-    pub list-sequence-goes : {u m : ℕ} → o ≡ step.Go u m → length R₁ ≡ length R → Walking L S M R₀ R₁ limit p₀ pe t₀ te n₀ (p + 1) u m
-    list-sequence-goes {u} {m} g long =
-        stepped (place .turn .walking) long (omega arith)
-        λ K N Z Q ps us B cs a.
+    pub list-sequence-goes : {u : ℕ} → o ≡ step.Go u → Walking L S M R₀ R A₀ A h p₀ pe t₀ te n₀ (p + 1) u n
+    list-sequence-goes {u} g =
+        stepped (place .turn .walking) (omega arith) on
+        λ K N Z Q ps us B fs a.
         let w = the-sequence a in
-        let y = rw g at (post .is Q us B cs (a .tree) (w .comes) (a .state)) in
-        let c = go-chose (y .0) in
-        let z = sequence-walk ps us t B cs x (w .rest) (w .is) ∙ c .goes (λ d B′ cs′. walkF Any any? (w .rest) (dropT d us) (t + rows (takeT d us)) B′ cs′) in
+        let c = go-chose (rw g at (post .is Q us B (a .tree) (w .comes) (a .state))) in
+        let z : after x n ≡ n = omega (arith, c .2) in
+        let count = sequence-after ps n x (w .rest) (w .is) ∙ ap (afterF (w .rest)) z in
         record {
           ps = w .rest;
-          us = dropT (c .taken) us;
-          B = c .entries;
-          cs = c .left;
-          asked = record { packed = a .packed; pattern = w .behind; good = subst (GoodF Q (w .rest)) (sym (c .many)) (w .good); tree = c .there .0; state = c .state };
-          same = z ∙ ap (λ (i : ℕ). walkF Any any? (w .rest) (dropT (c .taken) us) i (c .entries) (c .left)) (c .there .1);
-          count = sequence-after ps n x (w .rest) (w .is) ∙ ap (afterF (w .rest)) (sym (c .many));
-          kept = y .1;
-          later = omega (arith, c .many);
+          us = dropT (c .0) us;
+          B = B;
+          asked =
+              record {
+                packed = a .packed;
+                pattern = w .behind;
+                good = subst (GoodF Q (w .rest)) z (w .good);
+                tree = c .3 .0;
+                state = a .state;
+                marks = a .marks;
+                below = omega (arith, a .below);
+                held = rw (sym count) (a .held);
+              };
+          same = λ cs.
+              sequence-walk ps us t B cs x (w .rest) (w .is) ∙ c .1 cs (λ d B′ cs′. walkF Any any? (w .rest) (dropT d us) (t + rows (takeT d us)) B′ cs′)
+              ∙ ap (λ (i : ℕ). walkF Any any? (w .rest) (dropT (c .0) us) i B cs) (c .3 .1);
+          count = count;
+          kept = kept-same;
+          later = omega arith;
+          unchanged = unchanged-same;
         }
+      where
+        on : t ≤ u
+        on =
+            let v = turn-left (place .turn) in
+            let c = go-chose (rw g at (post .is (place .turn .pre .Q) (v .us) (v .B) (v .asked .tree) (the-sequence (v .asked) .comes) (v .asked .state))) in
+            omega (arith, c .3 .1)
 
-module _ {L S M R₀ R : List ℕ} {limit p₀ pe t₀ te n₀ p t n : ℕ} (place : AtTerm L S M R₀ R limit p₀ pe t₀ te n₀ p t n) where
-  the-term : {K N Z : List ℕ} {Q : List Kind} {ps : Patterns} {us : Forest} {B : List Entry} {cs : List ℕ} → ListAsked L S M R limit p pe t te n K N Z Q ps us B cs
+module _ {L S M R₀ R A₀ A : List ℕ} {h p₀ pe t₀ te n₀ p t n : ℕ} (place : AtTerm L S M R₀ R A₀ A h p₀ pe t₀ te n₀ p t n) where
+  the-term : {K N Z : List ℕ} {Q : List Kind} {ps : Patterns} {us : Forest} {B : List Entry} {fs : List Frame} → ListAsked L S M R A h p pe t te n K N Z Q ps us B fs
       → TermFirst K N Z Q p pe n ps
   the-term a = term-first (a .packed) (place .turn .more) refl (a .pattern) (a .good) (place .kind)
 
-  -- the row of the term is within the list
-  pub list-term-within : (p + getD M (3 * p + 2) 0 ≤ pe) × (1 ≤ getD M (3 * p + 2) 0)
-  list-term-within =
-      let s = list-row (place .turn) in
-      (omega (arith, s .size, the-term (turn-left (place .turn) .asked) .within), omega (arith, s .size, s .some))
-
-  first-term : {K N Z : List ℕ} {Q : List Kind} {ps : Patterns} {us : Forest} {B : List Entry} {cs : List ℕ} → ListAsked L S M R limit p pe t te n K N Z Q ps us B cs → FirstAt L S t te us
+  first-term : {K N Z : List ℕ} {Q : List Kind} {ps : Patterns} {us : Forest} {B : List Entry} {fs : List Frame} → ListAsked L S M R A h p pe t te n K N Z Q ps us B fs → FirstAt L S t te us
   first-term a = first-at (a .tree) (omega (arith, terms-le (a .tree), place .left))
 
-  first-asked : {K N Z : List ℕ} {Q : List Kind} {ps : Patterns} {us : Forest} {B : List Entry} {cs : List ℕ} (a : ListAsked L S M R limit p pe t te n K N Z Q ps us B cs)
-      → TermAsked L S M R limit p t n K N Z Q (the-term a .first) (term (first-term a .label) (first-term a .args)) B cs
-  first-asked a =
+  -- the rows of the term are within the lists
+  pub list-term-within : (p + getD M (3 * p + 2) 0 ≤ pe) × (1 ≤ getD M (3 * p + 2) 0) × (t + getD S t 0 ≤ te)
+  list-term-within =
+      let s = list-row (place .turn) in
+      let a = turn-left (place .turn) .asked in
+      (omega (arith, s .size, the-term a .within), omega (arith, s .size, s .some), first-term a .ends)
+
+  first-asked : {K N Z : List ℕ} {Q : List Kind} {ps : Patterns} {us : Forest} {B : List Entry} {fs : List Frame} (a : ListAsked L S M R A h p pe t te n K N Z Q ps us B fs)
+      → TermAsked L S M R A h p t n K N Z Q (the-term a .first) (term (first-term a .label) (first-term a .args)) B (frame (the-term a .rest) (first-term a .rest) (t + getD S t 0) ∷ fs)
+  first-asked {K} {N} {Z} {Q} {ps} {fs = fs} a =
       let w = the-term a in
       let x = first-term a in
-      record { packed = a .packed; pattern = w .here; good = w .good; tree = x .first; state = a .state }
+      let s = term-seen (a .packed) (w .here) in
+      record {
+        packed = a .packed;
+        pattern = w .here;
+        good = w .good;
+        tree = x .first;
+        state = a .state;
+        marks = a .marks;
+        above =
+            in-list {ps = w .rest} {us = x .rest} {fs = fs} (a .below) (s .inside) (a .held .kind) (rw (a .held .ends) (w .behind)) (w .goods) (x .others) (a .held .marked)
+            (rw (sym (cons-after ps n (w .first) (w .rest) (w .is))) (a .held .above));
+      }
 
-  pub list-term-pre : TermPre L S M R limit p t n
+  pub list-term-pre : TermPre L S M R A h p t n
   list-term-pre =
-      let h = place .turn .pre in
+      let v = place .turn .pre in
       let w = turn-left (place .turn) in
       let x = first-term (w .asked) in
-      record { K = h .K; N = h .N; Z = h .Z; Q = h .Q; q = the-term (w .asked) .first; T = term (x .label) (x .args); B = w .B; cs = w .cs; asked = first-asked (w .asked) }
+      record { K = v .K; N = v .N; Z = v .Z; Q = v .Q; q = the-term (w .asked) .first; T = term (x .label) (x .args); B = w .B; fs = _; asked = first-asked (w .asked) }
 
   pub list-term-tree : t < length S
   list-term-tree = term-next (first-term (turn-left (place .turn) .asked) .first) .sized
 
-  module _ {o : Out} {R₁ : List ℕ} (post : TermPost L S M R limit p t n o R₁) where
+  module _ {o : Out} {R₁ A₁ : List ℕ} (post : TermPost L S M R A h p t n o R₁ A₁) where
     -- what the walk of the first term says
-    first-walked : {K N Z : List ℕ} {Q : List Kind} {ps : Patterns} {us : Forest} {B : List Entry} {cs : List ℕ} (a : ListAsked L S M R limit p pe t te n K N Z Q ps us B cs)
-        → Agree L S R₁ Q limit (afterT (the-term a .first) n) o (walkT Any any? (the-term a .first) (term (first-term a .label) (first-term a .args)) t B cs) × Kept Q n R R₁
-    first-walked {K} {N} {Z} {Q} {ps} {us} {B} {cs} a = post .is K N Z Q (the-term a .first) (term (first-term a .label) (first-term a .args)) B cs (first-asked a)
+    first-walked : {K N Z : List ℕ} {Q : List Kind} {ps : Patterns} {us : Forest} {B : List Entry} {fs : List Frame} (a : ListAsked L S M R A h p pe t te n K N Z Q ps us B fs)
+        → Agree L S R₁ A₁ K N Z Q p (afterT (the-term a .first) n) (frame (the-term a .rest) (first-term a .rest) (t + getD S t 0) ∷ fs)
+        (walkT Any any? (the-term a .first) (term (first-term a .label) (first-term a .args)) t B) o × Kept Q n R R₁ × Unchanged p A A₁
+    first-walked {K} {N} {Z} {Q} {ps} {us} {B} {fs} a = post .is K N Z Q (the-term a .first) (term (first-term a .label) (first-term a .args)) B _ (first-asked a)
 
-    list-step : {K N Z : List ℕ} {Q : List Kind} {ps : Patterns} {us : Forest} {B : List Entry} {cs : List ℕ} (a : ListAsked L S M R limit p pe t te n K N Z Q ps us B cs)
+    list-step : {K N Z : List ℕ} {Q : List Kind} {ps : Patterns} {us : Forest} {B : List Entry} {fs : List Frame} (a : ListAsked L S M R A h p pe t te n K N Z Q ps us B fs) (cs : List ℕ)
         → walkF Any any? ps us t B cs
-        ≡ andThen (walkT Any any? (the-term a .first) (term (first-term a .label) (first-term a .args)) t B cs)
-        (λ B′ cs′. walkF Any any? (the-term a .rest) (first-term a .rest) (t + size (term (first-term a .label) (first-term a .args))) B′ cs′)
-    list-step {ps = ps} {us = us} {B = B} {cs = cs} a =
+        ≡ andThen (walkT Any any? (the-term a .first) (term (first-term a .label) (first-term a .args)) t B cs) (walkF Any any? (the-term a .rest) (first-term a .rest) (t + getD S t 0))
+    list-step {ps = ps} {us = us} {B = B} a cs =
         let w = the-term a in
         let x = first-term a in
+        let j : t + size (term (x .label) (x .args)) ≡ t + getD S t 0 = omega (arith, x .first .row .size) in
         cons-walk ps us t B cs (w .first) (w .rest) (x .label) (x .args) (x .rest) (w .is) (x .is)
+        ∙ ap (λ (i : ℕ). andThen (walkT Any any? (w .first) (term (x .label) (x .args)) t B cs) (walkF Any any? (w .rest) (x .rest) i)) j
 
-    pub list-term-fails : o ≡ out.Fail → ListPost L S M R₀ limit p₀ pe t₀ te n₀ out.Fail R₁
+    pub list-term-fails : o ≡ out.Fail → ListPost L S M R₀ A₀ h p₀ pe t₀ te n₀ out.Fail R₁ A₁
     list-term-fails g =
         answered (place .turn .walking) out.Fail
-        λ K N Z Q ps us B cs a.
+        λ K N Z Q ps us B fs a.
         let y = rw g at (first-walked a) in
-        (rw (list-step a, fail-agree (y .0)) both-fail, y .1)
+        (both-fail (λ cs. list-step a cs ∙ rw (fail-agree (y .0) cs)), y .1, y .2)
 
-    pub list-term-needs : {x s lo hi : ℕ} → o ≡ out.Need x s lo hi → ListPost L S M R₀ limit p₀ pe t₀ te n₀ (out.Need x s lo hi) R₁
-    list-term-needs {x} {s} {lo} {hi} g =
-        answered (place .turn .walking) (out.Need x s lo hi)
-        λ K N Z Q ps us B cs a.
+    pub list-term-needs : {r x s lo hi : ℕ} → o ≡ out.Need r x s lo hi → ListPost L S M R₀ A₀ h p₀ pe t₀ te n₀ (out.Need r x s lo hi) R₁ A₁
+    list-term-needs {r} {x} {s} {lo} {hi} g =
+        answered (place .turn .walking) (out.Need r x s lo hi)
+        λ K N Z Q ps us B fs a.
         let y = rw g at (first-walked a) in
         let c = need-agree (y .0) in
-        (rw (list-step a, c .1) (both-need (c .2) (c .3)), y .1)
+        (both-need (c .0) (needs-same (list-step a) (needs-then (the-term a .rest) (first-term a .rest) (t + getD S t 0) (c .1))), y .1, y .2)
 
-    pub list-term-goes : {m q u : ℕ} → o ≡ out.Ok m → q ≡ p + getD M (3 * p + 2) 0 → u ≡ t + getD S t 0 → length R₁ ≡ length R → Walking L S M R₀ R₁ limit p₀ pe t₀ te n₀ q u m
-    list-term-goes {m} {q} {u} g eq eu long =
-        stepped (place .turn .walking) long (omega arith)
-        λ K N Z Q ps us B cs a.
+    pub list-term-goes : {m q u : ℕ} → o ≡ out.Ok m → q ≡ p + getD M (3 * p + 2) 0 → u ≡ t + getD S t 0 → Walking L S M R₀ R₁ A₀ A₁ h p₀ pe t₀ te n₀ q u m
+    list-term-goes {m} {q} {u} g eq eu =
+        stepped (place .turn .walking) (omega arith) (omega arith)
+        λ K N Z Q ps us B fs a.
         let w = the-term a in
         let x = first-term a in
         let y = rw g at (first-walked a) in
         let c = ok-agree (y .0) in
         let s = term-seen (a .packed) (w .here) in
         let i : p + getD Z p 0 ≡ q = omega (arith, s .size) in
-        let j : t + size (term (x .label) (x .args)) ≡ u = omega (arith, x .first .row .size) in
+        let count = cons-after ps n (w .first) (w .rest) (w .is) ∙ ap (afterF (w .rest)) (sym (c .2)) in
         record {
           ps = w .rest;
           us = x .rest;
           B = c .0;
-          cs = c .1;
           asked =
               record {
                 packed = a .packed;
                 pattern = subst (λ (i : ℕ). PatternsAt K N Z Q i pe (w .rest)) i (w .behind);
-                good = subst (GoodF Q (w .rest)) (sym (c .3)) (w .goods);
+                good = subst (GoodF Q (w .rest)) (sym (c .2)) (w .goods);
                 tree = subst (λ (i : ℕ). TermsAt L S i te (x .rest)) (sym eu) (x .others);
-                state = c .4;
+                state = c .3;
+                marks = marks-kept (y .2) (a .marks);
+                below = omega (arith, a .below);
+                held = held-kept (y .2) (a .below) (rw (sym count) (a .held));
               };
-          same = list-step a ∙ ap (λ (r : Res). andThen r (λ B′ cs′. walkF Any any? (w .rest) (x .rest) (t + size (term (x .label) (x .args))) B′ cs′)) (c .2)
-              ∙ ap (λ (i : ℕ). walkF Any any? (w .rest) (x .rest) i (c .0) (c .1)) j;
-          count = cons-after ps n (w .first) (w .rest) (w .is) ∙ ap (afterF (w .rest)) (sym (c .3));
+          same = λ cs.
+              list-step a cs ∙ ap (λ (r : Res). andThen r (walkF Any any? (w .rest) (x .rest) (t + getD S t 0))) (c .1 cs)
+              ∙ ap (λ (i : ℕ). walkF Any any? (w .rest) (x .rest) i (c .0) cs) (sym eu);
+          count = count;
           kept = y .1;
-          later = omega (arith, c .3, after-geT (w .first) n);
+          later = omega (arith, c .2, after-geT (w .first) n);
+          unchanged = y .2;
         }

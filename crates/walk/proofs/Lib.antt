@@ -1,6 +1,10 @@
 pub mod Packs
+pub mod Marks
 pub mod Views
-pub mod Terms
+pub mod Stops
 pub mod Arguments
-pub mod Roots
+pub mod Terms
+pub mod Ups
+pub mod Resumes
 pub mod Answered
+pub mod Taken

@@ -3,18 +3,21 @@ use Prim.Native.Nat.{ℕ, suc, _+_, _*_, _<_, _≤_}
 use mathlib.Core.Path.{_≡_, refl, ap, _∙_, sym, subst}
 use mathlib.Core.Logic.{_≢_}
 use mathlib.Core.List.{List}
-use lib.ListN.{length, getD, take}
+use lib.ListN.{length, getD}
 use native.Mathlib.Omega.{arith}
 use Rattle.meaning.specs.Pattern.{Pattern, symbol, individual, function, context, Patterns, nil, cons, sequence, Kind, anIndividual, aSequence, aFunction, aContext, Comes, after, afterT, GoodT, GoodF}
 use Rattle.meaning.specs.Value.{Value}
-use Rattle.meaning.specs.Record.{Entry, numbers}
-use Rattle.meaning.proofs.Walk.{Res, fail, need, ok, choose}
+use Rattle.meaning.specs.Record.{Entry}
+use Rattle.meaning.proofs.Walk.{Res, fail, ok, choose}
+use Rattle.meaning.proofs.Resume.{Frame}
 use Rattle.pattern.specs.Places.{PatternRow, PatternAt, at-symbol, at-individual, at-function, at-context, PatternsAt, at-nil, at-cons, at-sequence}
 use Rattle.walk.specs.Packed.{Packed}
 use Rattle.meaning.proofs.Next.{Any, any?}
 use Rattle.variable.specs.State.{State}
 use Rattle.variable.specs.Steps.{Meets, meets-fail, meets-ok, Chose, chose-fail, chose-need, chose-go}
-use Rattle.walk.specs.Cycle.{Agree, both-fail, both-need, both-ok}
+use Rattle.walk.specs.Cycle.{Needs, Agree, both-fail, both-need, both-ok}
+use Rattle.walk.specs.declared.Out.{Out}
+use Rattle.walk.proofs.Marks.{needs-same}
 use Rattle.walk.specs.declared.Out.the-variants as out
 use Rattle.variable.specs.declared.Bound.the-variants as bound
 use Rattle.variable.specs.declared.Step.the-variants as step
@@ -125,39 +128,43 @@ no-arguments m (at-cons a b i) f = absurd (omega (arith, term-seen m a .some))
 no-arguments m (at-sequence r v z b i) f = absurd (omega arith)
 
 -- what an answer says
-module _ {L S R : List ℕ} {Q : List Kind} {limit m : ℕ} where
-  pub fail-agree : {r : Res} → Agree L S R Q limit m out.Fail r → r ≡ fail
-  fail-agree both-fail = refl
+module _ {L S R A K N Z : List ℕ} {Q : List Kind} {p₀ m : ℕ} {fs : List Frame} {f : List ℕ → Res} where
+  pub fail-agree : Agree L S R A K N Z Q p₀ m fs f out.Fail → (cs : List ℕ) → f cs ≡ fail
+  fail-agree (both-fail e) = e
 
-  pub need-agree : {r : Res} {x t lo hi : ℕ} → Agree L S R Q limit m (out.Need x t lo hi) r → (B : List Entry) × (r ≡ need B t lo hi) × (length B ≡ x) × (take (x + x) R ≡ numbers B)
-  need-agree (both-need {B = B} a b) = (B, refl, a, b)
+  pub need-agree : {p x s lo hi : ℕ} → Agree L S R A K N Z Q p₀ m fs f (out.Need p x s lo hi) → (p₀ ≤ p) × Needs L S R A K N Z Q fs f p x s lo hi
+  need-agree (both-need h w) = (h, w)
 
-  pub ok-agree : {r : Res} {k : ℕ} → Agree L S R Q limit m (out.Ok k) r → (B : List Entry) × (cs : List ℕ) × (r ≡ ok B cs) × (k ≡ m) × State L S R Q limit k B cs
-  ok-agree (both-ok {B = B} {cs = cs} e s) = (B, cs, refl, e, s)
+  pub ok-agree : {k : ℕ} → Agree L S R A K N Z Q p₀ m fs f (out.Ok k) → (B : List Entry) × ((cs : List ℕ) → f cs ≡ ok B cs) × (k ≡ m) × State L S R Q k B
+  ok-agree (both-ok {B = B} e s g) = (B, g, e, s)
 
-  pub fail-meets : {r : Res} → Meets L S R Q limit m bound.Fail r → r ≡ fail
-  fail-meets meets-fail = refl
+  -- a walk that comes to the same
+  pub agree-same : {g : List ℕ → Res} {o : Out} → ((cs : List ℕ) → g cs ≡ f cs) → Agree L S R A K N Z Q p₀ m fs f o → Agree L S R A K N Z Q p₀ m fs g o
+  agree-same e (both-fail h) = both-fail λ cs. e cs ∙ h cs
+  agree-same e (both-need h w) = both-need h (needs-same e w)
+  agree-same e (both-ok k s h) = both-ok k s λ cs. e cs ∙ h cs
 
-  pub ok-meets : {r : Res} {k : ℕ} → Meets L S R Q limit m (bound.Ok k) r → (B : List Entry) × (cs : List ℕ) × (r ≡ ok B cs) × (k ≡ m) × State L S R Q limit k B cs
-  ok-meets (meets-ok {B = B} {cs = cs} e s) = (B, cs, refl, e, s)
+  -- one that began earlier
+  pub agree-before : {r : ℕ} {o : Out} → r ≤ p₀ → Agree L S R A K N Z Q p₀ m fs f o → Agree L S R A K N Z Q r m fs f o
+  agree-before l (both-fail h) = both-fail h
+  agree-before {r} l (both-need {p = p} h w) = let y : r ≤ p = omega arith in both-need y w
+  agree-before l (both-ok k s h) = both-ok k s h
+
+module _ {L S R : List ℕ} {Q : List Kind} {m : ℕ} {f : List ℕ → Res} where
+  pub fail-meets : Meets L S R Q m f bound.Fail → (cs : List ℕ) → f cs ≡ fail
+  fail-meets (meets-fail e) = e
+
+  pub ok-meets : {k : ℕ} → Meets L S R Q m f (bound.Ok k) → (B : List Entry) × ((cs : List ℕ) → f cs ≡ ok B cs) × (k ≡ m) × State L S R Q k B
+  ok-meets (meets-ok {B = B} e s g) = (B, g, e, s)
 
 -- what a step says
-pub record Going (L S R : List ℕ) (Q : List Kind) (limit n x lo hi t : ℕ) (g : ℕ → Value) (B : List Entry) (cs : List ℕ) (There : ℕ → ℕ → Type 0) (u m : ℕ) : Type 0 where
-  pub taken : ℕ
-  pub entries : List Entry
-  pub left : List ℕ
-  pub goes : (k : ℕ → List Entry → List ℕ → Res) → choose Any any? x lo hi t g B cs k ≡ k taken entries left
-  pub many : m ≡ after x n
-  pub state : State L S R Q limit m entries left
-  pub there : There u taken
-
-module _ {L S R : List ℕ} {Q : List Kind} {limit n x lo hi t : ℕ} {g : ℕ → Value} {B : List Entry} {cs : List ℕ} {There : ℕ → ℕ → Type 0} where
-  pub fail-chose : Chose L S R Q limit n x lo hi t g B cs There step.Fail → (k : ℕ → List Entry → List ℕ → Res) → choose Any any? x lo hi t g B cs k ≡ fail
+module _ {n x lo hi t : ℕ} {g : ℕ → Value} {B : List Entry} {There : ℕ → ℕ → Type 0} where
+  pub fail-chose : Chose n x lo hi t g B There step.Fail → (cs : List ℕ) (k : ℕ → List Entry → List ℕ → Res) → choose Any any? x lo hi t g B cs k ≡ fail
   fail-chose (chose-fail e) = e
 
-  pub need-chose : {lo′ hi′ : ℕ} → Chose L S R Q limit n x lo hi t g B cs There (step.Need lo′ hi′) → (k : ℕ → List Entry → List ℕ → Res)
-      → (choose Any any? x lo hi t g B cs k ≡ need B t lo′ hi′) × (length B ≡ x) × (take (x + x) R ≡ numbers B)
-  need-chose (chose-need a b c d e) k = (rw (sym a, sym b) (e k), c, d)
+  pub need-chose : {lo′ hi′ : ℕ} → Chose n x lo hi t g B There (step.Need lo′ hi′) → (lo ≡ lo′) × (hi ≡ hi′) × (x ≡ n)
+  need-chose (chose-need a b c) = (a, b, c)
 
-  pub go-chose : {u m : ℕ} → Chose L S R Q limit n x lo hi t g B cs There (step.Go u m) → Going L S R Q limit n x lo hi t g B cs There u m
-  go-chose (chose-go d {B′} {cs′} e c s h) = record { taken = d; entries = B′; left = cs′; goes = e; many = c; state = s; there = h }
+  pub go-chose : {u : ℕ} → Chose n x lo hi t g B There (step.Go u)
+      → (d : ℕ) × ((cs : List ℕ) (k : ℕ → List Entry → List ℕ → Res) → choose Any any? x lo hi t g B cs k ≡ k d B cs) × (x < n) × There u d
+  go-chose (chose-go d e c h) = (d, e, c, h)

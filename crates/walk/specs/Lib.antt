@@ -1,3 +1,5 @@
 pub mod Packed
-pub mod Walked
+pub mod Above
 pub mod Cycle
+pub mod Onward
+pub mod Taken

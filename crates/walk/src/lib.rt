@@ -1,16 +1,18 @@
-// The deterministic walk of a pattern over a tree: with the second numbers of the first variables given, matching is without choice.
+// The deterministic walk of a pattern over a tree, up to the first variable that has to be chosen; and how it goes on from there.
 ghost use mathlib.Core.Path.{_≡_};
 ghost use Prim.Native.Nat.{_+_, _*_, _<_};
 ghost use lib.ListN.{length, getD};
 ghost use Rattle.walk.specs.Packed.{Packed, PackPre};
-ghost use Rattle.walk.specs.Walked.{WalkPre, WalkPost};
+ghost use Rattle.walk.specs.Above.{Came};
 ghost use Rattle.walk.specs.Cycle.{TermPre, TermPost, ListPre, ListPost};
+ghost use Rattle.walk.specs.Onward.{UpPre, UpPost, ResumePre, ResumePost, BeginPre, BeginPost};
+ghost use Rattle.walk.specs.Taken.{TakePre, TakePost};
 
-// What a walk answers: no match; a variable that has to be chosen, with the row where it starts and its least and largest
-// value; or a match with so many variables bound.
+// What a walk answers: no match; a variable that has to be chosen, with the row of the pattern and the row of the tree where it
+// stands, and its least and largest value; or a match with so many variables bound.
 pub enum Out {
     Fail,
-    Need(usize, usize, usize, usize),
+    Need(usize, usize, usize, usize, usize),
     Ok(usize),
 }
 
@@ -29,7 +31,7 @@ pub fn pack(kind: &[u32], name: &[u32], size: &[u32], packed: &mut [u32])
 }
 
 // A pattern row's kind.
-fn kind(pattern: &[u32], p: usize) -> usize
+pub fn kind(pattern: &[u32; 768], p: usize) -> usize
     requires { ⌜ 3 * p + 2 < length (now pattern) ⌝ }
     ensures { λ r. ⌜ r ≡ getD (now (pattern .entry)) (3 * p) 0 ⌝ }
 {
@@ -37,7 +39,7 @@ fn kind(pattern: &[u32], p: usize) -> usize
 }
 
 // A pattern row's name.
-fn name(pattern: &[u32], p: usize) -> usize
+fn name(pattern: &[u32; 768], p: usize) -> usize
     requires { ⌜ 3 * p + 2 < length (now pattern) ⌝ }
     ensures { λ r. ⌜ r ≡ getD (now (pattern .entry)) (3 * p + 1) 0 ⌝ }
 {
@@ -45,27 +47,54 @@ fn name(pattern: &[u32], p: usize) -> usize
 }
 
 // The row after the pattern term at the row p.
-fn next(pattern: &[u32], p: usize) -> usize
+fn next(pattern: &[u32; 768], p: usize) -> usize
     requires { ⌜ 3 * p + 2 < length (now pattern) ⌝ }
     ensures { λ r. ⌜ r ≡ p + getD (now (pattern .entry)) (3 * p + 2) 0 ⌝ }
 {
     p + tree::at(pattern, 3 * p + 2)
 }
 
-// The pattern term at row p against the term at row t, where n variables are bound.
+// The walk comes to the pattern row p, which the row h holds, at the row t of the tree.
+fn come(at: &mut [usize; 512], p: usize, h: usize, t: usize)
+    requires { ⌜ p < 256 ⌝ }
+    ensures { λ _. ⌜ Came (now (at .entry)) p h t (now (at .exit)) ⌝ }
+{
+    at[2 * p] = t;
+    at[2 * p + 1] = h;
+}
+
+// The row of the tree at which the walk came to the pattern row p.
+fn row(at: &[usize; 512], p: usize) -> usize
+    requires { ⌜ p < 256 ⌝ }
+    ensures { λ r. ⌜ r ≡ getD (now (at .entry)) (2 * p) 0 ⌝ }
+{
+    at[2 * p]
+}
+
+// The row of the pattern that holds the pattern row p.
+fn holder(at: &[usize; 512], p: usize) -> usize
+    requires { ⌜ p < 256 ⌝ }
+    ensures { λ r. ⌜ r ≡ getD (now (at .entry)) (2 * p + 1) 0 ⌝ }
+{
+    at[2 * p + 1]
+}
+
+// The pattern term at row p, which the row h holds, against the term at row t, where n variables are bound.
 fn term(
     label: &[u32],
     size: &[u32],
-    pattern: &[u32],
-    record: &mut [u32],
-    limit: usize,
+    pattern: &[u32; 768],
+    record: &mut [u32; 32],
+    at: &mut [usize; 512],
+    h: usize,
     p: usize,
     t: usize,
     n: usize,
 ) -> Out
-    requires { ⌜ TermPre (now label) (now size) (now pattern) (now «record») limit p t n ⌝ }
-    ensures { λ r. ⌜ TermPost (now (label .entry)) (now (size .entry)) (now (pattern .entry)) (now («record» .entry)) limit p t n r (now («record» .exit)) ⌝ }
+    requires { ⌜ TermPre (now label) (now size) (now pattern) (now «record») (now at) h p t n ⌝ }
+    ensures { λ r. ⌜ TermPost (now (label .entry)) (now (size .entry)) (now (pattern .entry)) (now («record» .entry)) (now (at .entry)) h p t n r (now («record» .exit)) (now (at .exit)) ⌝ }
 {
+    come(at, p, h, t);
     let k = kind(pattern, p);
     let x = name(pattern, p);
     if k == 1 {
@@ -75,10 +104,10 @@ fn term(
         };
     }
     if k == 4 {
-        return match variable::context(label, size, record, limit, x, t, n) {
+        return match variable::context(label, size, record, x, t, n) {
             variable::Step::Fail => Out::Fail,
-            variable::Step::Need(lo, hi) => Out::Need(x, t, lo, hi),
-            variable::Step::Go(h, m) => term(label, size, pattern, record, limit, p + 1, h, m),
+            variable::Step::Need(lo, hi) => Out::Need(p, x, t, lo, hi),
+            variable::Step::Go(u) => term(label, size, pattern, record, at, p, p + 1, u, n),
         };
     }
     match variable::head(label, record, k, x, t, n) {
@@ -88,7 +117,8 @@ fn term(
             size,
             pattern,
             record,
-            limit,
+            at,
+            p,
             p + 1,
             next(pattern, p),
             t + 1,
@@ -98,22 +128,23 @@ fn term(
     }
 }
 
-// The pattern's arguments from row p up to pe against the terms from row t up to te, where n variables are bound. A loop, so that
-// the recursion is no deeper than the pattern.
+// The pattern's arguments from row p up to pe, which the row h holds, against the terms from row t up to te, where n variables are
+// bound. A loop, so that the recursion is no deeper than the pattern.
 fn args(
     label: &[u32],
     size: &[u32],
-    pattern: &[u32],
-    record: &mut [u32],
-    limit: usize,
+    pattern: &[u32; 768],
+    record: &mut [u32; 32],
+    at: &mut [usize; 512],
+    h: usize,
     p: usize,
     pe: usize,
     t: usize,
     te: usize,
     n: usize,
 ) -> Out
-    requires { ⌜ ListPre (now label) (now size) (now pattern) (now «record») limit p pe t te n ⌝ }
-    ensures { λ r. ⌜ ListPost (now (label .entry)) (now (size .entry)) (now (pattern .entry)) (now («record» .entry)) limit p pe t te n r (now («record» .exit)) ⌝ }
+    requires { ⌜ ListPre (now label) (now size) (now pattern) (now «record») (now at) h p pe t te n ⌝ }
+    ensures { λ r. ⌜ ListPost (now (label .entry)) (now (size .entry)) (now (pattern .entry)) (now («record» .entry)) (now (at .entry)) h p pe t te n r (now («record» .exit)) (now (at .exit)) ⌝ }
 {
     let mut q = p;
     let mut u = t;
@@ -121,22 +152,24 @@ fn args(
     while q != pe {
         if kind(pattern, q) == 2 {
             let x = name(pattern, q);
-            match variable::sequence(label, size, record, limit, x, u, te, m) {
+            match variable::sequence(label, size, record, x, u, te, m) {
                 variable::Step::Fail => return Out::Fail,
-                variable::Step::Need(lo, hi) => return Out::Need(x, u, lo, hi),
-                variable::Step::Go(v, k) => {
+                variable::Step::Need(lo, hi) => {
+                    come(at, q, h, u);
+                    return Out::Need(q, x, u, lo, hi);
+                }
+                variable::Step::Go(v) => {
                     q += 1;
                     u = v;
-                    m = k;
                 }
             }
         } else {
             if u == te {
                 return Out::Fail;
             }
-            match term(label, size, pattern, record, limit, q, u, m) {
+            match term(label, size, pattern, record, at, h, q, u, m) {
                 Out::Fail => return Out::Fail,
-                Out::Need(x, s, lo, hi) => return Out::Need(x, s, lo, hi),
+                Out::Need(r, x, s, lo, hi) => return Out::Need(r, x, s, lo, hi),
                 Out::Ok(k) => {
                     q = next(pattern, q);
                     u = tree::next(size, u);
@@ -151,11 +184,127 @@ fn args(
     Out::Fail
 }
 
-// The walk from the root. The record has two numbers for each variable: the second of a sequence or context variable below the limit
-// is its choice, which stays. The walk writes the rows, and 0 for the other variables' second numbers.
-pub fn walk(label: &[u32], size: &[u32], pattern: &[u32], record: &mut [u32], limit: usize) -> Out
-    requires { ⌜ WalkPre (now label) (now size) (now pattern) (now «record») limit ⌝ }
-    ensures { λ r. ⌜ WalkPost (now (label .entry)) (now (size .entry)) (now (pattern .entry)) (now («record» .entry)) limit r (now («record» .exit)) ⌝ }
+// What is left of the walk behind the pattern term at row p: the rest of the list that it stands in, then of the list that its holder
+// stands in, and so on up to the root. A context holds one term, so that nothing is left of its list.
+fn up(
+    label: &[u32],
+    size: &[u32],
+    pattern: &[u32; 768],
+    record: &mut [u32; 32],
+    at: &mut [usize; 512],
+    p: usize,
+    n: usize,
+) -> Out
+    requires { ⌜ UpPre (now label) (now size) (now pattern) (now «record») (now at) p n ⌝ }
+    ensures { λ r. ⌜ UpPost (now (label .entry)) (now (size .entry)) (now (pattern .entry)) (now («record» .entry)) (now (at .entry)) p n r (now («record» .exit)) (now (at .exit)) ⌝ }
 {
-    term(label, size, pattern, record, limit, 0, 0, 0)
+    let mut q = p;
+    let mut m = n;
+    while q != 0 {
+        let h = holder(at, q);
+        if kind(pattern, h) == 4 {
+            q = h;
+        } else {
+            let t = row(at, q);
+            let g = row(at, h);
+            match args(
+                label,
+                size,
+                pattern,
+                record,
+                at,
+                h,
+                next(pattern, q),
+                next(pattern, h),
+                tree::next(size, t),
+                tree::next(size, g),
+                m,
+            ) {
+                Out::Fail => return Out::Fail,
+                Out::Need(r, x, s, lo, hi) => return Out::Need(r, x, s, lo, hi),
+                Out::Ok(k) => {
+                    q = h;
+                    m = k;
+                }
+            }
+        }
+    }
+    Out::Ok(m)
+}
+
+// The walk goes on from the variable at the pattern row p, the last of n that are bound: u is the row behind a sequence's terms,
+// or the row of a context's hole.
+pub fn resume(
+    label: &[u32],
+    size: &[u32],
+    pattern: &[u32; 768],
+    record: &mut [u32; 32],
+    at: &mut [usize; 512],
+    p: usize,
+    u: usize,
+    n: usize,
+) -> Out
+    requires { ⌜ ResumePre (now label) (now size) (now pattern) (now «record») (now at) p u n ⌝ }
+    ensures { λ r. ⌜ ResumePost (now (label .entry)) (now (size .entry)) (now (pattern .entry)) (now («record» .entry)) (now (at .entry)) p u n r (now («record» .exit)) (now (at .exit)) ⌝ }
+{
+    if kind(pattern, p) == 2 {
+        let h = holder(at, p);
+        let g = row(at, h);
+        return match args(
+            label,
+            size,
+            pattern,
+            record,
+            at,
+            h,
+            p + 1,
+            next(pattern, h),
+            u,
+            tree::next(size, g),
+            n,
+        ) {
+            Out::Fail => Out::Fail,
+            Out::Need(r, x, s, lo, hi) => Out::Need(r, x, s, lo, hi),
+            Out::Ok(m) => up(label, size, pattern, record, at, h, m),
+        };
+    }
+    match term(label, size, pattern, record, at, p, p + 1, u, n) {
+        Out::Fail => Out::Fail,
+        Out::Need(r, x, s, lo, hi) => Out::Need(r, x, s, lo, hi),
+        Out::Ok(m) => up(label, size, pattern, record, at, p, m),
+    }
+}
+
+// The variable x at the pattern row p, which starts at the row s, takes the value v, and the walk goes on at the row u.
+pub fn take(
+    label: &[u32],
+    size: &[u32],
+    pattern: &[u32; 768],
+    record: &mut [u32; 32],
+    at: &mut [usize; 512],
+    p: usize,
+    x: usize,
+    s: usize,
+    u: usize,
+    v: usize,
+) -> Out
+    requires { ⌜ TakePre (now label) (now size) (now pattern) (now «record») (now at) p x s u v ⌝ }
+    ensures { λ r. ⌜ TakePost (now (label .entry)) (now (size .entry)) (now (pattern .entry)) (now («record» .entry)) (now (at .entry)) p x s u v r (now («record» .exit)) (now (at .exit)) ⌝ }
+{
+    variable::put(record, x, s, v);
+    resume(label, size, pattern, record, at, p, u, x + 1)
+}
+
+// The walk from the root, before any choice.
+pub fn begin(
+    label: &[u32],
+    size: &[u32],
+    pattern: &[u32; 768],
+    record: &mut [u32; 32],
+    at: &mut [usize; 512],
+) -> Out
+    requires { ⌜ BeginPre (now label) (now size) (now pattern) (now «record») (now at) ⌝ }
+    ensures { λ r. ⌜ BeginPost (now (label .entry)) (now (size .entry)) (now (pattern .entry)) (now («record» .entry)) (now (at .entry)) r (now («record» .exit)) (now (at .exit)) ⌝ }
+{
+    term(label, size, pattern, record, at, 0, 0, 0, 0)
 }

@@ -40,9 +40,6 @@ add-width c =
 room-for-requires : tie.Need-room-for-requires
 room-for-requires c κs = search needs
 
-slice-aggregate-begin : tie.Need-slice-aggregate-begin
-slice-aggregate-begin c = search needs
-
 begin-requires : tie.Need-begin-requires
 begin-requires c κs =
     let w = c .before .before .before .before .before .before .before .before in
@@ -74,7 +71,6 @@ list-spec =
     pack-requires
     add-width
     room-for-requires
-    slice-aggregate-begin
     begin-requires
     same-length
     returns-2)
