@@ -13,7 +13,7 @@ use Rattle.meaning.specs.Value.{Value, ofSequence, kind}
 use Rattle.meaning.specs.Record.{Entry, second, span}
 use Rattle.meaning.proofs.Laws.{dropT}
 use Rattle.tree.specs.Places.{TermsAt}
-use Rattle.tree.specs.Helpers.{CountPre, CountPost, PastPre, PastPost}
+use Rattle.tree.specs.Helpers.{CountPre, PastPre, PastPost}
 use Rattle.tree.proofs.Terms.{terms-rows}
 use Rattle.tree.proofs.Counts.{past-at}
 use Rattle.meaning.proofs.Answers.{said-no}
@@ -110,11 +110,8 @@ module _ {L S R : List ℕ} {x n : ℕ} (f : x ≢ n) where
       (w, v .0, v .1, v .2, v .3, ap (λ (u : Value). second u (getD R (x + x) 0)) (sym (v .2)) ∙ w .second-is)
 
 module _ {L S R : List ℕ} {x t e n : ℕ} where
-  pub sequence-counted : SequencePre L S R x t e n → CountPre S t e
-  sequence-counted p = record { some = (L, p .tree .0, p .tree .1) }
-
-  pub sequence-needs : {hi : ℕ} → x ≡ n → CountPost S t e hi → SequencePost L S R x t e n (step.Need 0 hi)
-  sequence-needs f c = record { is = λ Q us B T comes state. chose-need refl (sym (c .is L us T)) f }
+  pub sequence-needs : x ≡ n → SequencePost L S R x t e n step.Need
+  sequence-needs f = record { is = λ Q us B T comes state. chose-need f }
 
   module _ (f : x ≢ n) where
     pub sequence-later-pre : SequencePre L S R x t e n → LaterSequencePre L S R x t e

@@ -32,7 +32,7 @@ pub data Meets (L S R : List ℕ) (Q : List Kind) (m : ℕ) (f : List ℕ → Re
 -- Where x comes first, it has to be chosen.
 pub data Chose (n x lo hi t : ℕ) (g : ℕ → Value) (B : List Entry) (There : ℕ → ℕ → Type 0) : Step → Type 0 where
   chose-fail : ((cs : List ℕ) (k : ℕ → List Entry → List ℕ → Res) → choose Any any? x lo hi t g B cs k ≡ fail) → Chose n x lo hi t g B There step.Fail
-  chose-need : {lo′ hi′ : ℕ} → lo ≡ lo′ → hi ≡ hi′ → x ≡ n → Chose n x lo hi t g B There (step.Need lo′ hi′)
+  chose-need : x ≡ n → Chose n x lo hi t g B There step.Need
   chose-go : {u : ℕ} (d : ℕ) → ((cs : List ℕ) (k : ℕ → List Entry → List ℕ → Res) → choose Any any? x lo hi t g B cs k ≡ k d B cs) → x < n → There u d
       → Chose n x lo hi t g B There (step.Go u)
 

@@ -12,11 +12,11 @@ pub enum Bound {
     Ok(usize),
 }
 
-// What a sequence or context variable answers: where it comes first, its least and largest value; otherwise the row at which the
-// walk goes on.
+// What a sequence or context variable answers: where it comes first, that a value is needed; otherwise the row at which the walk
+// goes on.
 pub enum Step {
     Fail,
-    Need(usize, usize),
+    Need,
     Go(usize),
 }
 
@@ -115,7 +115,7 @@ pub fn sequence(
     ensures { λ r. ⌜ SequencePost (now (label .entry)) (now (size .entry)) (now («record» .entry)) x t e n r ⌝ }
 {
     if x == n {
-        return Step::Need(0, tree::count(size, t, e));
+        return Step::Need;
     }
     match later_sequence(label, size, record, x, t, e) {
         compare::Found::Fail => Step::Fail,
@@ -129,7 +129,7 @@ pub fn context(label: &[u32], size: &[u32], record: &[u32], x: usize, t: usize, 
     ensures { λ r. ⌜ ContextPost (now (label .entry)) (now (size .entry)) (now («record» .entry)) x t n r ⌝ }
 {
     if x == n {
-        return Step::Need(t, tree::next(size, t) - 1);
+        return Step::Need;
     }
     let a = tree::at(record, x + x);
     let b = tree::at(record, x + x + 1);

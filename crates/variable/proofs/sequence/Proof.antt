@@ -1,13 +1,10 @@
-use Rattle.variable.proofs.Sequences.{sequence-counted, sequence-needs, sequence-later-pre, sequence-differs, sequence-again}
+use Rattle.variable.proofs.Sequences.{sequence-needs, sequence-later-pre, sequence-differs, sequence-again}
 use borrow.Author.Needs.{needs}
 use Rattle.variable.proofs.sequence.Statement.{statement}
 use Rattle.variable.proofs.sequence.Tie as tie
 
-count-requires : tie.Need-count-requires
-count-requires c κs = sequence-counted (c .before .before .before .before .pre)
-
 returns : tie.Need-returns
-returns c = sequence-needs (c .before .if1 .taken) (c .count .ensures)
+returns c = sequence-needs (c .if1 .taken)
 
 later-sequence-requires : tie.Need-later-sequence-requires
 later-sequence-requires c κs = sequence-later-pre (c .if1 .left) (c .before .before .before .before .pre)
@@ -25,4 +22,4 @@ returns-3 : tie.Need-returns-3
 returns-3 c = sequence-again (c .before .before .before .before .if1 .left) (c .before .before .before .later-sequence .ensures) (c .before .u .given .1)
 
 pub sequence-spec : {M : Type 1} → statement M
-sequence-spec = tie.close (tie.spec count-requires returns later-sequence-requires enum-told enum-known-u returns-2 returns-3)
+sequence-spec = tie.close (tie.spec returns later-sequence-requires enum-told enum-known-u returns-2 returns-3)
