@@ -39,7 +39,7 @@ pub fn kind(pattern: &[u32; 768], p: usize) -> usize
 }
 
 // A pattern row's name.
-fn name(pattern: &[u32; 768], p: usize) -> usize
+pub fn name(pattern: &[u32; 768], p: usize) -> usize
     requires { ⌜ 3 * p + 2 < length (now pattern) ⌝ }
     ensures { λ r. ⌜ r ≡ getD (now (pattern .entry)) (3 * p + 1) 0 ⌝ }
 {
@@ -47,7 +47,7 @@ fn name(pattern: &[u32; 768], p: usize) -> usize
 }
 
 // The row after the pattern term at the row p.
-fn next(pattern: &[u32; 768], p: usize) -> usize
+pub fn next(pattern: &[u32; 768], p: usize) -> usize
     requires { ⌜ 3 * p + 2 < length (now pattern) ⌝ }
     ensures { λ r. ⌜ r ≡ p + getD (now (pattern .entry)) (3 * p + 2) 0 ⌝ }
 {
@@ -64,7 +64,7 @@ fn come(at: &mut [usize; 512], p: usize, h: usize, t: usize)
 }
 
 // The row of the tree at which the walk came to the pattern row p.
-fn row(at: &[usize; 512], p: usize) -> usize
+pub fn row(at: &[usize; 512], p: usize) -> usize
     requires { ⌜ p < 256 ⌝ }
     ensures { λ r. ⌜ r ≡ getD (now (at .entry)) (2 * p) 0 ⌝ }
 {
@@ -72,7 +72,7 @@ fn row(at: &[usize; 512], p: usize) -> usize
 }
 
 // The row of the pattern that holds the pattern row p.
-fn holder(at: &[usize; 512], p: usize) -> usize
+pub fn holder(at: &[usize; 512], p: usize) -> usize
     requires { ⌜ p < 256 ⌝ }
     ensures { λ r. ⌜ r ≡ getD (now (at .entry)) (2 * p + 1) 0 ⌝ }
 {
