@@ -60,6 +60,11 @@ unfolding terms rows
 some-left none h = absurd (omega arith)
 some-left (some l vs rest) h = omega arith
 
+-- the values go from the least to the largest
+pub many-range : (w : Stop) (s : ℕ) → least w s + many w ≡ suc (largest w s)
+many-range (at-sequence ps us) s = omega arith
+many-range (at-context q T) s = omega arith
+
 -- the list that a sequence variable stands in
 pub record InList (L S A K N Z : List ℕ) (Q : List Kind) (p x s : ℕ) (w : Stop) (fs : List Frame) : Type 0 where
   pub h : ℕ

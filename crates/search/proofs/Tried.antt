@@ -12,7 +12,7 @@ use Rattle.walk.specs.Taken.{TakePre, TakePost}
 use Rattle.walk.specs.declared.Out.{Out}
 use Rattle.walk.specs.declared.Out.the-variants as out
 use Rattle.walk.proofs.Marks.{unchanged-same}
-use Rattle.search.specs.Search.{FurtherPre, FurtherPost, AttemptPre, AttemptPost}
+use Rattle.search.specs.Search.{AttemptPre, AttemptPost}
 
 module _ {L S M name first : List ℕ} {null : List Bool} {cont : List ℕ} {ends : List Bool} {C kinds R A : List ℕ} {p x s u v : ℕ}
     (pre : AttemptPre L S M name first null cont ends C kinds R A p x s u v) where
@@ -36,14 +36,3 @@ module _ {L S M name first : List ℕ} {null : List Bool} {cont : List ℕ} {end
             let y = walk .is (w .K) (w .N) (w .Z) Q f lo hi a in
             (λ n. absurd (n (post .is T Q es cs k (w .judging) l g .0 e)), λ b. (y .0, y .1), y .2, y .3);
       }
-
--- the row of the next value
-module _ {S M : List ℕ} {p u left : ℕ} where
-  pub further-last : left ≡ 0 → FurtherPost S M p u left u
-  further-last e = record { terms = λ h. absurd (omega arith); hole = λ h. absurd (omega arith) }
-
-  pub further-terms : {k r : ℕ} → k ≡ getD M (3 * p) 0 → k ≡ 2 → r ≡ u + getD S u 0 → FurtherPost S M p u left r
-  further-terms ek two er = record { terms = λ h g. er; hole = λ h n. absurd (n (omega arith)) }
-
-  pub further-hole : {k : ℕ} → k ≡ getD M (3 * p) 0 → k ≢ 2 → FurtherPost S M p u left (u + 1)
-  further-hole ek two = record { terms = λ h g. absurd (two (ek ∙ g)); hole = λ h n. refl }

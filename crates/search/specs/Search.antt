@@ -1,7 +1,6 @@
 -- Not needed to believe the promise: what the search's private functions ask and answer.
 use Prim.Native.Nat.{ℕ, suc, _+_, _-_, _*_, _<_, _≤_}
 use mathlib.Core.Path.{_≡_}
-use mathlib.Core.Logic.{_≢_}
 use mathlib.Core.Bool.{Bool}
 use mathlib.Core.List.{List, [], _∷_, _++_}
 use lib.ListN.{length, getD, take}
@@ -37,16 +36,6 @@ pub record Search (L S M name first : List ℕ) (null : List Bool) (cont : List 
   pub judging : Judging L S name first null cont ends C kinds T Q es cs
   pub pattern : GoodPattern K N Z P Q
   pub packed : Packed K N Z M
-
--- the row of a level's next value, where left values are left
-pub record FurtherPre (S M : List ℕ) (p u left : ℕ) : Type 0 where
-  pub room : 3 * p + 2 < length M
-  pub small : u < 4294967296
-  pub inside : 0 < left → getD M (3 * p) 0 ≡ 2 → u < length S
-
-pub record FurtherPost (S M : List ℕ) (p u left r : ℕ) : Type 0 where
-  pub terms : 0 < left → getD M (3 * p) 0 ≡ 2 → r ≡ u + getD S u 0
-  pub hole : 0 < left → getD M (3 * p) 0 ≢ 2 → r ≡ u + 1
 
 -- one try: the value v of the variable x at the pattern row p, which starts at the row s; f is the walk that asked for it
 pub record AttemptPre (L S M name first : List ℕ) (null : List Bool) (cont : List ℕ) (ends : List Bool) (C kinds R A : List ℕ) (p x s u v : ℕ) : Type 0 where
