@@ -193,16 +193,7 @@ pub fn go(
             walk::Out::Fail => {}
             walk::Out::Need(p, x, s) => {
                 nexts[depth] = choice::least(pattern, p, s);
-                lefts[depth] = choice::more_values(
-                    size,
-                    pattern,
-                    at,
-                    places[last],
-                    u,
-                    left,
-                    p,
-                    s,
-                );
+                lefts[depth] = choice::more_values(size, pattern, at, places[last], u, left, p, s);
                 places[depth] = p;
                 variables[depth] = x;
                 starts[depth] = s;
