@@ -22,6 +22,7 @@ size_t matchers(size_t arguments) { return arguments / 2 * (arguments / 2 + 1) /
 // A program's lines: arguments, matchers, milliseconds for all of them.
 void ask(const char *program, const char *command, Best &best) {
     if (!*command) return;
+    std::fflush(stdout); // else the other program would print it once more
     FILE *lines = popen(command, "r");
     size_t arguments, found;
     double milliseconds;

@@ -10,7 +10,7 @@
 
 namespace {
 
-constexpr int ROUNDS = 20, TURNS = 21;
+constexpr int ROUNDS = 60, TURNS = 21;
 constexpr size_t MOST_ROWS = 2048;
 constexpr uint32_t BUDGET = 4294967295u;
 const char DICTIONARY[] = "g\nf\nh\na\nb\n";
@@ -120,8 +120,8 @@ void print_line(const Case &c) {
 
 Sums print_table(const std::vector<Case> &cases) {
     Sums sums;
-    std::printf("\n| document | bytes | rows | f's | tries | Q, µs | check alone, µs | pugixml, µs | Q / pugixml | libxml2, µs | Q / libxml2 |\n"
-                "|---|---|---|---|---|---|---|---|---|---|---|\n");
+    std::printf("\n| document | bytes | rows | f's | tries | Q, µs | check alone, µs | pugixml, µs | Q / pugixml | libxml2, µs | "
+                "Q / libxml2 |\n|---|---|---|---|---|---|---|---|---|---|---|\n");
     for (const Case &c : cases) {
         print_line(c);
         sums.add(c);

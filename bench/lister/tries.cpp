@@ -177,7 +177,8 @@ void add_constrained_contexts(Cases &cases, Pairs &pairs) {
 }
 
 void add_repeated(Cases &cases) {
-    cases.add("g(x\\*, x\\*, y\\*) on 2,000 leaves of mixed labels", {symbol(G, mixed(2000)), symbol(G, {sequence(0), sequence(0), sequence(1)})});
+    cases.add("g(x\\*, x\\*, y\\*) on 2,000 leaves of mixed labels",
+              {symbol(G, mixed(2000)), symbol(G, {sequence(0), sequence(0), sequence(1)})});
 }
 
 } // namespace
