@@ -127,8 +127,11 @@ Sums print_table(const std::vector<Case> &cases) {
         sums.add(c);
     }
     double count = static_cast<double>(cases.size());
-    std::printf("\naverage: Q %.1f µs, of it the check alone %.1f µs (%.2f ns a row); pugixml %.1f µs; libxml2 %.1f µs\n", sums.q / count,
-                sums.check / count, sums.check / sums.rows * 1e3, sums.pugixml / count, sums.libxml2 / count);
+    std::printf("\naverage: Q %.1f µs, of it the check alone %.1f µs (%.2f ns a row)", sums.q / count, sums.check / count,
+                sums.check / sums.rows * 1e3);
+    if (cases[0].pugixml) std::printf("; pugixml %.1f µs", sums.pugixml / count);
+    if (cases[0].libxml2) std::printf("; libxml2 %.1f µs", sums.libxml2 / count);
+    std::printf("\n");
     return sums;
 }
 
