@@ -4,6 +4,7 @@ use mathlib.Core.Path.{_≡_}
 use mathlib.Core.Bool.{Bool}
 use mathlib.Core.List.{List}
 use mathlib.Core.Logic.{_≢_}
+use lib.ListN.{getD}
 use Rattle.meaning.specs.Says.{Says}
 use Rattle.meaning.specs.Forest.{Forest, Term, term, terms, Context, hole, node, plug, holeRow}
 use Rattle.meaning.specs.Read.{takeT}
@@ -38,8 +39,9 @@ pub data Fits (L S : List ℕ) (t : ℕ) (c : Context) (T : Term) : Found → Ty
   misfit : ((U : Term) → plug c U ≢ T) → Fits L S t c T found.Fail
   fitting : {h : ℕ} (U : Term) → plug c U ≡ T → h ≡ t + holeRow c → TermAt L S h (U .label) (U .args) → Fits L S t c T (found.At h)
 
--- level: one level of a context, the child at row u left out
+-- level: one level of a context, the child at row u left out; the labels are the same
 pub record LevelPre (L S : List ℕ) (a u t : ℕ) : Type 0 where
+  pub label : getD L a 0 ≡ getD L t 0
   pub here : (l : ℕ) × (left : Forest) × (right : Forest) × Level L S a u l left right
   pub there : (m : ℕ) × (us : Forest) × TermAt L S t m us
 

@@ -44,14 +44,11 @@ pub fn again(label: &[u32], size: &[u32], a: usize, c: usize, t: usize, e: usize
     Found::At(there)
 }
 
-// The term at row t against that at row a, all but a's child at row u: the row of what stands for the child.
+// The arguments of the term at row t against those of the term at row a, all but the one at row u: the row of what stands for that one.
 fn level(label: &[u32], size: &[u32], a: usize, u: usize, t: usize) -> Found
     requires { ⌜ LevelPre (now label) (now size) a u t ⌝ }
     ensures { λ r. ⌜ LevelPost (now (label .entry)) (now (size .entry)) a u t r ⌝ }
 {
-    if tree::at(label, a) != tree::at(label, t) {
-        return Found::Fail;
-    }
     let left = u - a;
     let v = t + left;
     let e = tree::next(size, t);
@@ -77,6 +74,10 @@ pub fn fits(label: &[u32], size: &[u32], a: usize, b: usize, t: usize) -> Found
     let mut from = a;
     let mut row = t;
     while from != b {
+        // Labels first: where they differ, the child need not be looked for among its neighbours.
+        if tree::at(label, from) != tree::at(label, row) {
+            return Found::Fail;
+        }
         let u = tree::child(size, from, b);
         match level(label, size, from, u, row) {
             Found::Fail => return Found::Fail,
