@@ -4,7 +4,7 @@
 ghost use mathlib.Core.Path.{_≡_};
 ghost use Prim.Native.Nat.{_+_, _<_};
 ghost use lib.ListN.{length, set};
-ghost use Rattle.variable.specs.Steps.{IndividualPre, IndividualPost, HeadPre, HeadPost, LaterSequencePre, LaterSequencePost, SequencePre, SequencePost, ContextPre, ContextPost};
+ghost use Rattle.variable.specs.Steps.{IndividualPre, IndividualPost, HeadPre, HeadPost, SequencePre, SequencePost, ContextPre, ContextPost};
 
 // What an individual variable and the head of a term answer: no match, or one with so many variables bound.
 pub enum Bound {
@@ -75,32 +75,6 @@ pub fn head(label: &[u32], record: &mut [u32], kind: usize, x: usize, t: usize, 
     }
 }
 
-// The sequence variable x, which has appeared before, again before row t of a list that ends at e: the row behind it.
-fn later_sequence(
-    label: &[u32],
-    size: &[u32],
-    record: &[u32],
-    x: usize,
-    t: usize,
-    e: usize,
-) -> compare::Found
-    requires { ⌜ LaterSequencePre (now label) (now size) (now «record») x t e ⌝ }
-    ensures { λ r. ⌜ LaterSequencePost (now (label .entry)) (now (size .entry)) (now («record» .entry)) x t e r ⌝ }
-{
-    let a = tree::at(record, x + x);
-    let c = tree::at(record, x + x + 1);
-    match compare::pass(size, t, e, c) {
-        compare::Found::Fail => compare::Found::Fail,
-        compare::Found::At(u) => {
-            if compare::alike(label, size, a, tree::past(size, a, c), t, u) {
-                compare::Found::At(u)
-            } else {
-                compare::Found::Fail
-            }
-        }
-    }
-}
-
 // The sequence variable x before row t of a list that ends at e.
 pub fn sequence(
     label: &[u32],
@@ -117,7 +91,9 @@ pub fn sequence(
     if x == n {
         return Step::Need;
     }
-    match later_sequence(label, size, record, x, t, e) {
+    let a = tree::at(record, x + x);
+    let c = tree::at(record, x + x + 1);
+    match compare::again(label, size, a, c, t, e) {
         compare::Found::Fail => Step::Fail,
         compare::Found::At(u) => Step::Go(u),
     }
