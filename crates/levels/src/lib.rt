@@ -1,5 +1,5 @@
 // The levels of the search: one try.
-ghost use Rattle.memory.specs.Memory.{Remembers};
+ghost use Rattle.memory.specs.Memory.{Both};
 ghost use Rattle.levels.specs.Levels.{AttemptPre, AttemptPost};
 
 // One try: the variable x at the pattern row p, which starts at the row s, takes the value v. The constraint is judged before the
@@ -23,11 +23,12 @@ pub fn attempt(
     u: usize,
     v: usize,
     memory: &mut [usize; 80],
+    path: &mut [usize; 259],
 ) -> walk::Out
     requires { ⌜ AttemptPre (now label) (now size) (now pattern) (now name) (now first) (now null) (now cont) (now ends) (now constraint) (now kinds) (now «record») (now at) p x s u v
-        × Remembers (now label) (now size) (now name) (now first) (now null) (now cont) (now ends) (now constraint) (now memory) ⌝ }
+        × Both (now label) (now size) (now name) (now first) (now null) (now cont) (now ends) (now constraint) (now memory) (now path) ⌝ }
     ensures { λ r. ⌜ AttemptPost (now (label .entry)) (now (size .entry)) (now (pattern .entry)) (now (name .entry)) (now (first .entry)) (now (null .entry)) (now (cont .entry)) (now (ends .entry)) (now (constraint .entry)) (now (kinds .entry)) (now («record» .entry)) (now (at .entry)) p x s u v r (now («record» .exit)) (now (at .exit))
-        × Remembers (now (label .entry)) (now (size .entry)) (now (name .entry)) (now (first .entry)) (now (null .entry)) (now (cont .entry)) (now (ends .entry)) (now (constraint .entry)) (now (memory .exit)) ⌝ }
+        × Both (now (label .entry)) (now (size .entry)) (now (name .entry)) (now (first .entry)) (now (null .entry)) (now (cont .entry)) (now (ends .entry)) (now (constraint .entry)) (now (memory .exit)) (now (path .exit)) ⌝ }
 {
     if !memory::judge(
         label,
@@ -43,6 +44,7 @@ pub fn attempt(
         s,
         v,
         memory,
+        path,
     ) {
         return walk::Out::Fail;
     }

@@ -11,7 +11,8 @@ use Rattle.meaning.specs.Forest.{Forest, none, some, terms}
 use Rattle.meaning.proofs.Laws.{dropT}
 use Rattle.constraint.specs.Reading.{MorePre, ReadTo, ReadOn, ForbiddenPost}
 use Rattle.constraint.proofs.Readings.{Begun, no-head, all-heads}
-use Rattle.constraint.proofs.Judging.{obeys-free, obeys-forbidden, obeys-read, heads-after, heads-asked}
+use Rattle.constraint.proofs.Judging.{obeys-free, obeys-forbidden, obeys-read, heads-after, path-after, heads-asked, path-asked}
+use Rattle.paths.specs.Paths.{AcceptedPre, AcceptedPost}
 use Rattle.problem.proofs.Judged.{asked-within, judge-asks, judged-by}
 use Rattle.memory.specs.Memory.{kept, RecallPost, GrownPre, GrownPost, GrowPre, GrowPost}
 use Rattle.memory.proofs.Numbers.{remembers}
@@ -50,23 +51,42 @@ module _ {L S name first : List ℕ} {null : List Bool} {cont : List ℕ} {ends 
       record { row = row′; next = next′; read = read; remembers = remembers (p .remembers) (p .few) (rw (p .its) at read) }
 
 -- JUDGED
-module _ {L S name first : List ℕ} {null : List Bool} {cont : List ℕ} {ends : List Bool} {C kinds : List ℕ} {x a b : ℕ} {memory : List ℕ} (p : GrowPre L S name first null cont ends C kinds x a b memory) where
-  abbrev Post : Bool → List ℕ → Type 0
+module _ {L S name first : List ℕ} {null : List Bool} {cont : List ℕ} {ends : List Bool} {C kinds : List ℕ} {x a b : ℕ} {memory path : List ℕ}
+    (p : GrowPre L S name first null cont ends C kinds x a b memory path) where
+  abbrev Post : Bool → List ℕ → List ℕ → Type 0
   Post = GrowPost L S name first null cont ends C kinds x a b
 
-  pub grow-free : getD C (x + x) 0 ≡ 0 → Post true memory
+  pub grow-free : getD C (x + x) 0 ≡ 0 → Post true memory path
   grow-free z = record { judged = judged-by x a b (obeys-free L S name first null cont ends _ _ _ a b z); remembers = p .remembers }
 
   module _ (start : getD C (x + x) 0 ≢ 0) {r : Bool} (f : ForbiddenPost (getD C (x + x + 1) 0) (getD kinds x 0) a b r) where
-    pub grow-forbidden : r ≡ true → Post false memory
+    pub grow-forbidden : r ≡ true → Post false memory path
     grow-forbidden t = record { judged = judged-by x a b (obeys-forbidden L S name first null cont ends _ _ _ a b start f t); remembers = p .remembers }
 
-    pub grow-read : r ≡ false → getD kinds x 0 ≡ 2 → {root : ℕ} {end : Bool} {later : List ℕ} → root ≡ getD C (x + x) 0 - 1 → GrownPost L S name first null cont ends C root a b end later → Post end later
+    pub grow-read : r ≡ false → getD kinds x 0 ≡ 2 → {root : ℕ} {end : Bool} {later : List ℕ} → root ≡ getD C (x + x) 0 - 1 → GrownPost L S name first null cont ends C root a b end later → Post end later path
     grow-read n k q g =
         record {
           judged = judged-by x a b (obeys-read L S name first null cont ends _ _ _ a b start f n q (heads-after L S name first null cont ends _ a b k (all-heads (g .read))));
-          remembers = g .remembers;
+          remembers = record { sequences = g .remembers; contexts = p .remembers .contexts };
         }
 
-  pub grow-asked : getD C (x + x) 0 ≢ 0 → getD kinds x 0 ≡ 2 → {root : ℕ} → root ≡ getD C (x + x) 0 - 1 → GrownPre L S name first null cont ends C root x a b memory
-  grow-asked start k q = record { heads = heads-asked (judge-asks (p .asked)) start q k; few = asked-within (p .asked) .0; its = q; remembers = p .remembers }
+    pub grow-path : r ≡ false → getD kinds x 0 ≢ 2 → {root : ℕ} {end : Bool} {later : List ℕ} → root ≡ getD C (x + x) 0 - 1 → AcceptedPost L S name first null cont ends root x a b end later → Post end memory later
+    grow-path n k q g =
+        record {
+          judged = judged-by x a b (obeys-read L S name first null cont ends _ _ _ a b start f n q (path-after L S name first null cont ends _ a b k (g .after)));
+          remembers = record { sequences = p .remembers .sequences; contexts = g .remembers C q };
+        }
+
+  module _ (start : getD C (x + x) 0 ≢ 0) {root : ℕ} (q : root ≡ getD C (x + x) 0 - 1) where
+    pub grow-asked : getD kinds x 0 ≡ 2 → GrownPre L S name first null cont ends C root x a b memory
+    grow-asked k = record { heads = heads-asked (judge-asks (p .asked)) start q k; few = asked-within (p .asked) .0; its = q; remembers = p .remembers .sequences }
+
+    pub path-asks : getD kinds x 0 ≢ 2 → AcceptedPre L S name first null cont ends root x a b path
+    path-asks k =
+        let t = p .asked .some .5 .tree in
+        record {
+          path = path-asked (judge-asks (p .asked)) start q k;
+          few = asked-within (p .asked) .0;
+          small = omega (arith, t .few);
+          some = (C, q, p .remembers .contexts);
+        }

@@ -1,5 +1,5 @@
 -- Not needed to believe the promise: what is remembered of the readings of the variables' sequences, so that a choice that grows by
--- one term reads one more letter.
+-- one term reads one more letter; and of the last context's path.
 use Prim.Native.Nat.{ℕ, _+_, _-_, _*_, _<_, _≤_}
 use mathlib.Core.Path.{_≡_}
 use mathlib.Core.Bool.{Bool, cond}
@@ -7,6 +7,7 @@ use mathlib.Core.List.{List}
 use lib.Dec.{eqb}
 use lib.ListN.{length, getD, set}
 use Rattle.constraint.specs.Reading.{HeadsPre, ReadTo}
+use Rattle.paths.specs.Paths as paths
 use Rattle.problem.specs.Judge.{JudgePre, JudgePost}
 
 -- five numbers for each variable: the row where the reading stands, or 0 where none is remembered; the row where it began; how many
@@ -19,6 +20,11 @@ pub record Kept (L S name first : List ℕ) (null : List Bool) (cont : List ℕ)
 pub record Remembers (L S name first : List ℕ) (null : List Bool) (cont : List ℕ) (ends : List Bool) (C memory : List ℕ) : Type 0 where
   pub long : length memory ≡ 80
   pub each : (x : ℕ) → x < 16 → Kept L S name first null cont ends (getD C (x + x) 0 - 1) memory x
+
+-- what is remembered of sequences and of a path
+pub record Both (L S name first : List ℕ) (null : List Bool) (cont : List ℕ) (ends : List Bool) (C memory path : List ℕ) : Type 0 where
+  pub sequences : Remembers L S name first null cont ends C memory
+  pub contexts : paths.Remembers L S name first null cont ends C path
 
 abbrev pub noted : Bool → ℕ
 noted end = cond end 1 0
@@ -50,11 +56,11 @@ pub record GrownPost (L S name first : List ℕ) (null : List Bool) (cont : List
   pub read : ReadTo L S name first null cont ends root a b row next end
   pub remembers : Remembers L S name first null cont ends C memory
 
-pub record GrowPre (L S name first : List ℕ) (null : List Bool) (cont : List ℕ) (ends : List Bool) (C kinds : List ℕ) (x a b : ℕ) (memory : List ℕ) : Type 0 where
+pub record GrowPre (L S name first : List ℕ) (null : List Bool) (cont : List ℕ) (ends : List Bool) (C kinds : List ℕ) (x a b : ℕ) (memory path : List ℕ) : Type 0 where
   pub asked : JudgePre L S name first null cont ends C kinds x a b
-  pub remembers : Remembers L S name first null cont ends C memory
+  pub remembers : Both L S name first null cont ends C memory path
 
 -- the answer of `problem::judge`
-pub record GrowPost (L S name first : List ℕ) (null : List Bool) (cont : List ℕ) (ends : List Bool) (C kinds : List ℕ) (x a b : ℕ) (r : Bool) (memory : List ℕ) : Type 0 where
+pub record GrowPost (L S name first : List ℕ) (null : List Bool) (cont : List ℕ) (ends : List Bool) (C kinds : List ℕ) (x a b : ℕ) (r : Bool) (memory path : List ℕ) : Type 0 where
   pub judged : JudgePost L S name first null cont ends C kinds x a b r
-  pub remembers : Remembers L S name first null cont ends C memory
+  pub remembers : Both L S name first null cont ends C memory path

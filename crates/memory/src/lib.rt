@@ -1,4 +1,5 @@
-// What has been read of each variable's sequence, so that a choice that grows by one term reads one more letter.
+// What has been read of each variable's sequence, so that a choice that grows by one term reads one more letter; and a context's path
+// goes on from the last one's.
 ghost use mathlib.Core.Path.{_≡_};
 ghost use Prim.Native.Nat.{_<_, _-_};
 ghost use lib.ListN.{length};
@@ -130,9 +131,10 @@ pub fn judge(
     a: usize,
     b: usize,
     memory: &mut [usize; 80],
+    path: &mut [usize; 259],
 ) -> bool
-    requires { ⌜ GrowPre (now label) (now size) (now name) (now first) (now null) (now cont) (now ends) (now constraint) (now kinds) x a b (now memory) ⌝ }
-    ensures { λ r. ⌜ GrowPost (now (label .entry)) (now (size .entry)) (now (name .entry)) (now (first .entry)) (now (null .entry)) (now (cont .entry)) (now (ends .entry)) (now (constraint .entry)) (now (kinds .entry)) x a b r (now (memory .exit)) ⌝ }
+    requires { ⌜ GrowPre (now label) (now size) (now name) (now first) (now null) (now cont) (now ends) (now constraint) (now kinds) x a b (now memory) (now path) ⌝ }
+    ensures { λ r. ⌜ GrowPost (now (label .entry)) (now (size .entry)) (now (name .entry)) (now (first .entry)) (now (null .entry)) (now (cont .entry)) (now (ends .entry)) (now (constraint .entry)) (now (kinds .entry)) x a b r (now (memory .exit)) (now (path .exit)) ⌝ }
 {
     let start = constraint[x + x];
     if start == 0 {
@@ -140,8 +142,12 @@ pub fn judge(
     }
     let flag = constraint[x + x + 1];
     let kind = kinds[x];
-    if kind != 2 {
-        return problem::judge(
+    if constraint::forbidden(flag, kind, a, b) {
+        return false;
+    }
+    let root = row_of(start);
+    if kind == 2 {
+        return grown(
             label,
             size,
             name,
@@ -150,17 +156,14 @@ pub fn judge(
             cont,
             ends,
             constraint,
-            kinds,
+            root,
             x,
             a,
             b,
+            memory,
         );
     }
-    if constraint::forbidden(flag, kind, a, b) {
-        return false;
-    }
-    let root = row_of(start);
-    grown(
+    paths::accepted(
         label,
         size,
         name,
@@ -168,11 +171,10 @@ pub fn judge(
         null,
         cont,
         ends,
-        constraint,
         root,
         x,
         a,
         b,
-        memory,
+        path,
     )
 }

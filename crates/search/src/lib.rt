@@ -82,6 +82,7 @@ pub fn go(
     ensures { λ r. ⌜ GoPost (now (label .entry)) (now (size .entry)) (now (pattern .entry)) (now (name .entry)) (now (first .entry)) (now (null .entry)) (now (cont .entry)) (now (ends .entry)) (now (constraint .entry)) (now (kinds .entry)) budget room width «record» (now (at .entry)) places variables starts rows nexts lefts start (now (out .entry)) r (now (out .exit)) ⌝ }
 {
     let mut memory = [0usize; 80];
+    let mut path = [0usize; 259];
     let mut depth = start;
     let mut count: usize = 0;
     let mut tries: u32 = 0;
@@ -141,6 +142,7 @@ pub fn go(
             u,
             v,
             &mut memory,
+            &mut path,
         ) {
             walk::Out::Fail => {}
             walk::Out::Need(p, x, s) => {

@@ -1,7 +1,7 @@
 use borrow.Author.Needs.{needs}
 use native.Mathlib.Omega.{arith}
 use Rattle.problem.proofs.Judged.{asked-within}
-use Rattle.memory.proofs.Growing.{grow-free, grow-forbidden, grow-read, grow-asked}
+use Rattle.memory.proofs.Growing.{grow-free, grow-forbidden, grow-read, grow-path, grow-asked, path-asks}
 use Rattle.memory.proofs.judge.Statement.{statement}
 use Rattle.memory.proofs.judge.Tie as tie
 
@@ -35,26 +35,26 @@ mul-kind c = omega (arith, asked-within (c .before .before .before .before .befo
 element-copy-out-kind : tie.Need-element-copy-out-kind
 element-copy-out-kind c = omega (arith, asked-within (c .before .before .before .before .before .before .pre .asked))
 
-judge-requires : tie.Need-judge-requires
-judge-requires c κs = search needs
-
-returns-2 : tie.Need-returns-2
-returns-2 c = search needs
-
 forbidden-requires : tie.Need-forbidden-requires
 forbidden-requires c κs = search needs
 
-returns-3 : tie.Need-returns-3
-returns-3 c = grow-forbidden (c .before .before .before .before .before .before .before .before .before .before .pre) (c .before .before .before .before .before .if1 .left) (c .before .forbidden .ensures) (c .if3 .taken)
+returns-2 : tie.Need-returns-2
+returns-2 c = grow-forbidden (c .before .before .before .before .before .before .before .before .before .pre) (c .before .before .before .before .if1 .left) (c .before .forbidden .ensures) (c .if2 .taken)
 
 row-of-requires : tie.Need-row-of-requires
 row-of-requires c κs = search needs
 
 grown-requires : tie.Need-grown-requires
-grown-requires c κs = grow-asked (c .before .before .before .before .before .before .before .before .before .before .before .before .pre) (c .before .before .before .before .before .before .before .if1 .left) (c .before .before .before .before .if2 .left) (c .before .row-of .ensures)
+grown-requires c κs = grow-asked (c .before .before .before .before .before .before .before .before .before .before .before .before .pre) (c .before .before .before .before .before .before .before .if1 .left) (c .before .before .row-of .ensures) (c .before .if3 .taken)
+
+returns-3 : tie.Need-returns-3
+returns-3 c = grow-read (c .before .before .before .before .before .before .before .before .before .before .before .before .before .pre) (c .before .before .before .before .before .before .before .before .if1 .left) (c .before .before .before .before .before .forbidden .ensures) (c .before .before .before .before .if2 .left) (c .before .before .if3 .taken) (c .before .before .before .row-of .ensures) (c .grown .ensures)
+
+accepted-requires : tie.Need-accepted-requires
+accepted-requires c κs = path-asks (c .before .before .before .before .before .before .before .before .before .before .before .before .pre) (c .before .before .before .before .before .before .before .if1 .left) (c .before .before .row-of .ensures) (c .before .if3 .left)
 
 returns-4 : tie.Need-returns-4
-returns-4 c = grow-read (c .before .before .before .before .before .before .before .before .before .before .before .before .before .pre) (c .before .before .before .before .before .before .before .before .if1 .left) (c .before .before .before .before .forbidden .ensures) (c .before .before .before .if3 .left) (c .before .before .before .before .before .if2 .left) (c .before .before .row-of .ensures) (c .grown .ensures)
+returns-4 c = grow-path (c .before .before .before .before .before .before .before .before .before .before .before .before .before .pre) (c .before .before .before .before .before .before .before .before .if1 .left) (c .before .before .before .before .before .forbidden .ensures) (c .before .before .before .before .if2 .left) (c .before .before .if3 .left) (c .before .before .before .row-of .ensures) (c .accepted .ensures)
 
 pub judge-spec : {M : Type 1} → statement M
 judge-spec =
@@ -70,10 +70,10 @@ judge-spec =
     shared-slice-read-flag
     mul-kind
     element-copy-out-kind
-    judge-requires
-    returns-2
     forbidden-requires
-    returns-3
+    returns-2
     row-of-requires
     grown-requires
+    returns-3
+    accepted-requires
     returns-4)

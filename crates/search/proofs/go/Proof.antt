@@ -6,23 +6,24 @@ use Rattle.search.proofs.Turns.{Input, given, Placed, Going, Ready, Pas
 use Rattle.search.proofs.Turns.{going-start, going-depth, going-long, going-back, going-end, going-ready, going-spent}
 use Rattle.search.proofs.Turns.{placed, level-asked, passed-small, passed-asked, passed-further, passed-tried}
 use Rattle.search.proofs.Turns.{tried-fail, need-fits, need-room, more-asked, tried-need, tried-full, put-asked, tried-match, tried-counted}
-use Rattle.memory.specs.Memory.{Remembers}
+use Rattle.memory.specs.Memory.{Both}
 use Rattle.memory.proofs.Numbers.{blank}
+use Rattle.paths.proofs.Read as paths
 use borrow.Author.Needs.{needs}
 use Rattle.search.proofs.go.Statement.{statement}
 use Rattle.search.proofs.go.Tie as tie
 
 abbrev Inv-loop : tie.InvT-loop
 Inv-loop label size pattern name first null cont ends constraint kinds budget room width at₀ start
-    out₀ record₀ places₀ variables₀ starts₀ rows₀ nexts₀ lefts₀ memory₀ depth₀ count₀ tries₀ at₁ out «record» places variables starts rows nexts lefts memory depth count tries =
+    out₀ record₀ places₀ variables₀ starts₀ rows₀ nexts₀ lefts₀ memory₀ path₀ depth₀ count₀ tries₀ at₁ out «record» places variables starts rows nexts lefts memory path depth count tries =
     Going
     (given label size pattern name first null cont ends constraint kinds budget room width record₀ at₀ places₀ variables₀ starts₀ rows₀ nexts₀ lefts₀ start out₀)
     out «record» at₁ places variables starts rows nexts lefts depth count tries
-    × Remembers label size name first null cont ends constraint memory
+    × Both label size name first null cont ends constraint memory path
 
 abbrev μ-loop : tie.MeasureT-loop
 μ-loop label size pattern name first null cont ends constraint kinds budget room width at₀ start
-    out₀ record₀ places₀ variables₀ starts₀ rows₀ nexts₀ lefts₀ memory₀ depth₀ count₀ tries₀ at₁ out «record» places variables starts rows nexts lefts memory depth count tries =
+    out₀ record₀ places₀ variables₀ starts₀ rows₀ nexts₀ lefts₀ memory₀ path₀ depth₀ count₀ tries₀ at₁ out «record» places variables starts rows nexts lefts memory path depth count tries =
     budget - tries
 
 -- what the search was given; the lists that it changes itself have no names as they came
@@ -102,7 +103,7 @@ room-left : (c : tie.Else3 Inv-loop μ-loop) →
 room-left c = put-asked (tried (c .before .before .before)) (c .before .enum-told2 .given .1) (begun (head (c .before .before .before)) .pre) (c .if3 .left)
 
 loop-holds : tie.Need-loop-holds Inv-loop μ-loop
-loop-holds c = (going-start (c .before .before .before .before .pre), blank _ _ _ _ _ _ _ _)
+loop-holds c = (going-start (c .before .before .before .before .pre), record { sequences = blank _ _ _ _ _ _ _ _; contexts = paths.blank refl refl })
 
 back-requires : tie.Need-back-requires Inv-loop μ-loop
 back-requires c κs = (going-depth (c .before .loop .inv .0) (begun (c .before) .pre), c .before .loop .inv .0 .long .lefts-long)
