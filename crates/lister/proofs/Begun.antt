@@ -33,8 +33,8 @@ use Rattle.listing.proofs.Loop.{Fixed, first-fail, first-need, first-full, firs
 use Rattle.listing.proofs.Whole.{walked, outcome}
 use Rattle.search.specs.Search.{GoAsked, GoPre, GoPost}
 use Rattle.search.specs.declared.Found.{Found}
-use Rattle.search.proofs.Going.{is-fixed, individuals, functions}
-use Rattle.search.proofs.Pauses.{pauses-first}
+use Rattle.levels.proofs.Going.{is-fixed, individuals, functions}
+use Rattle.levels.proofs.Pauses.{pauses-first}
 use Rattle.lister.specs.Begun.{BeginAsked, BeginPre, BeginPost}
 
 -- the first walk was made: its answer o, the record R′ and the rows A′

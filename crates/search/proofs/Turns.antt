@@ -32,10 +32,11 @@ use Rattle.listing.proofs.Fill.{Filled, fill, rest, ahead}
 use Rattle.listing.proofs.Levels.{levels-back, levels-need}
 use Rattle.listing.proofs.Loop.{Fixed, At, at-rest, at-back, all-done, at-spent, at-skip, at-next, at-fail, at-need, at-match, no-room, room-left, need-deep}
 use Rattle.listing.proofs.Whole.{outcome}
-use Rattle.search.specs.Search.{AttemptPre, AttemptPost, GoAsked, GoPre, GoPost}
+use Rattle.levels.specs.Levels.{AttemptPre, AttemptPost}
+use Rattle.search.specs.Search.{GoAsked, GoPre, GoPost}
 use Rattle.search.specs.declared.Found.{Found}
-use Rattle.search.proofs.Going.{few, Walked, is-fixed, Leveled, Paused, Asks, skip-asked, skip-fails, skip-levels, try-kind, try-taken, try-answered, further-asked}
-use Rattle.search.proofs.Pauses.{pauses-back, pauses-need}
+use Rattle.levels.proofs.Going.{few, Walked, is-fixed, Leveled, Paused, Asks, skip-asked, skip-fails, skip-levels, try-kind, try-taken, try-answered, further-asked}
+use Rattle.levels.proofs.Pauses.{pauses-back, pauses-need}
 
 pub tree-small : {L S : List ℕ} {T : Term} → GoodTree L S T → size T ≤ 2048
 unfolding rows

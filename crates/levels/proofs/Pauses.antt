@@ -17,7 +17,7 @@ use Rattle.walk.specs.Onward.{Lands}
 use Rattle.walk.proofs.Marks.{marks-kept, needs-same}
 use Rattle.walk.proofs.Taken.{needs-kept}
 use Rattle.choice.proofs.Lands.{lands-first, lands-next}
-use Rattle.search.specs.Search.{Pause, Pauses}
+use Rattle.levels.specs.Levels.{Pause, Pauses}
 
 module _ {L S K N Z : List ℕ} {Q : List Kind} {P : Pattern} {T : Term} where
   pub pauses-back : {R A vals places X St U Nx F : List ℕ} {depth d : ℕ} → d ≤ depth → Pauses L S R A K N Z Q P T vals places X St U Nx F depth → Pauses L S R A K N Z Q P T vals places X St U Nx F d

@@ -43,8 +43,8 @@ use Rattle.listing.proofs.Levels.{Level, level-kind, Levels, levels-next, level
 use Rattle.listing.proofs.Run.{Tame}
 use Rattle.listing.proofs.Loop.{Fixed}
 use Rattle.listing.proofs.Whole.{walked, is-tame}
-use Rattle.search.specs.Search.{Search, AttemptPost, Pause, Pauses}
-use Rattle.search.proofs.Pauses.{pauses-skip, pauses-next, pauses-kept}
+use Rattle.levels.specs.Levels.{Search, AttemptPost, Pause, Pauses}
+use Rattle.levels.proofs.Pauses.{pauses-skip, pauses-next, pauses-kept}
 
 -- individual and function variables have no constraint
 unjudged : {es : List Expression} (k : Kind) {a b : ℕ} {c : Constraint} (v : Value) → weight k ≡ 0 → Pair es k a b c → Obeys c v

@@ -12,7 +12,7 @@ use Rattle.walk.specs.Taken.{TakePre, TakePost}
 use Rattle.walk.specs.declared.Out.{Out}
 use Rattle.walk.specs.declared.Out.the-variants as out
 use Rattle.walk.proofs.Marks.{unchanged-same}
-use Rattle.search.specs.Search.{AttemptPre, AttemptPost}
+use Rattle.levels.specs.Levels.{AttemptPre, AttemptPost}
 
 module _ {L S M name first : List ℕ} {null : List Bool} {cont : List ℕ} {ends : List Bool} {C kinds R A : List ℕ} {p x s u v : ℕ}
     (pre : AttemptPre L S M name first null cont ends C kinds R A p x s u v) where

@@ -1,7 +1,7 @@
 use borrow.Author.Tests.{not-true, not-false}
-use Rattle.search.proofs.Tried.{try-judged, try-fails, try-asked, try-walked}
-use Rattle.search.proofs.attempt.Statement.{statement}
-use Rattle.search.proofs.attempt.Tie as tie
+use Rattle.levels.proofs.Tried.{try-judged, try-fails, try-asked, try-walked}
+use Rattle.levels.proofs.attempt.Statement.{statement}
+use Rattle.levels.proofs.attempt.Tie as tie
 
 judge-requires : tie.Need-judge-requires
 judge-requires c κs = record { asked = try-judged (c .before .before .before .before .pre .0); remembers = c .before .before .before .before .pre .1 }
