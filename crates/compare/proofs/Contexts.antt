@@ -1,17 +1,16 @@
 -- A whole context against a term, level by level.
-use Prim.Native.Nat.{ℕ, _+_, _<_, _≤_}
-use mathlib.Core.Path.{_≡_, refl, ap, _∙_, sym}
+use Prim.Native.Nat.{ℕ, _+_, _-_, _<_, _≤_}
+use mathlib.Core.Path.{_≡_, refl, ap, _∙_, sym, subst}
 use mathlib.Core.Logic.{_≢_}
 use mathlib.Core.List.{List}
 use lib.ListN.{length, getD}
 use native.Mathlib.Omega.{arith}
 use Rattle.meaning.specs.Forest.{Forest, Term, term, Context, hole, node, plug, holeRow}
-use Rattle.tree.specs.Places.{TermAt, Level, ContextAt, at-hole, at-node}
-use Rattle.tree.specs.Helpers.{ChildPre, ChildPost}
-use Rattle.tree.proofs.Terms.{terms-le, term-next}
-use Rattle.tree.proofs.Ways.{context-le, hole-here}
+use Rattle.tree.specs.Places.{TermAt, ContextAt, at-hole, at-node}
+use Rattle.tree.proofs.Terms.{terms-rows, term-next}
+use Rattle.tree.proofs.Ways.{hole-here}
 use Rattle.compare.proofs.Levels.{same-behind}
-use Rattle.compare.specs.Appear.{Fits, misfit, fitting, LevelPre, LevelPost, FitsPre, FitsPost}
+use Rattle.compare.specs.Appear.{Fits, misfit, fitting, LevelAt, LevelPre, LevelPost, FitsPre, FitsPost}
 use Rattle.compare.specs.declared.Found.{Found}
 use Rattle.compare.specs.declared.Found.the-variants as found
 
@@ -48,18 +47,21 @@ hole-under : (l : ℕ) (left : Forest) (c : Context) (right : Forest) (t : ℕ) 
 unfolding holeRow
 hole-under l left c right t = omega arith
 
--- a context that is more than its hole, from row a on
-record Node (L : List ℕ) (a : ℕ) (c : Context) : Type 0 where
+-- a context that is more than its hole: its first level, and the context below it
+record Node (L S : List ℕ) (a b : ℕ) (c : Context) : Type 0 where
+  row : ℕ
   label : ℕ
-  labelled : getD L a 0 ≡ label
   left : Forest
   inner : Context
   right : Forest
   is : c ≡ node label left inner right
+  level : LevelAt L S a row b label left right
+  below : ContextAt L S row b inner
 
-as-node : {L S : List ℕ} {a b : ℕ} {c : Context} → ContextAt L S a b c → a ≢ b → Node L a c
+as-node : {L S : List ℕ} {a b : ℕ} {c : Context} → ContextAt L S a b c → a ≢ b → Node L S a b c
 as-node (at-hole n e) f = absurd (f e)
-as-node (at-node {l = l} {left = left} {right = right} {c = d} x p q k) f = record { label = l; labelled = x .label; left = left; inner = d; right = right; is = refl }
+as-node (at-node {l = l} {u = u} {left = left} {right = right} {c = d} x p q k) f =
+    record { row = u; label = l; left = left; inner = d; right = right; is = refl; level = record { level = x; low = p; high = q }; below = k }
 
 context-row : {L S : List ℕ} {a b : ℕ} {c : Context} → ContextAt L S a b c → a < length L
 context-row (at-hole n e) = n .labelled
@@ -74,9 +76,6 @@ fail-fits (misfit n) = n
 module _ {L S : List ℕ} {a₀ b t₀ a t : ℕ} (fitted : Fitted L S a₀ b t₀ a t) where
   whole : (p : FitsPre L S a₀ b t₀) → Left L S a b t t₀ (p .here .0) (term (p .there .0) (p .there .1))
   whole p = fitted .is (p .here .0) (p .there .0) (p .there .1) (p .here .1) (p .there .2)
-
-  pub fitted-child-pre : FitsPre L S a₀ b t₀ → a ≢ b → ChildPre S a b
-  fitted-child-pre p f = record { below = f; some = (L, whole p .inner, whole p .here) }
 
   pub fitted-done : a ≡ b → FitsPost L S a₀ b t₀ (found.At t)
   unfolding plug holeRow
@@ -99,57 +98,60 @@ module _ {L S : List ℕ} {a₀ b t₀ a t : ℕ} (fitted : Fitted L S a₀ b t�
             let n = as-node (w .here) f in
             misfit λ U e.
             let z = node-label (n .label) (n .left) (n .inner) (n .right) U ∙ ap (λ (W : Term). W .label) (ap (λ (d : Context). plug d U) (sym (n .is)) ∙ w .forth U e) in
-            g (omega (arith, z, n .labelled, w .there .row .label));
+            g (omega (arith, z, n .level .level .label, w .there .row .label));
       }
 
-  module _ {u : ℕ} (f : a ≢ b) (child : ChildPost S a b u) where
-    -- the level that is compared next, and the context below it
-    next-level : {c : Context} {T : Term} (w : Left L S a b t t₀ c T) → (n : Node L a (w .inner)) × Level L S a u (n .label) (n .left) (n .right) × ContextAt L S u b (n .inner)
-    next-level w =
-        let n = as-node (w .here) f in
-        let x = child .is L (n .label) (n .left) (n .inner) (n .right) (rw (n .is) at (w .here)) in
-        (n, x .0, x .1)
-
-    pub fitted-level-pre : {x y : ℕ} → x ≡ getD L a 0 → y ≡ getD L t 0 → x ≡ y → FitsPre L S a₀ b t₀ → LevelPre L S a u t
+  module _ (f : a ≢ b) where
+    pub fitted-level-pre : {x y : ℕ} → x ≡ getD L a 0 → y ≡ getD L t 0 → x ≡ y → FitsPre L S a₀ b t₀ → LevelPre L S a b t
     fitted-level-pre ex ey label p =
         let w = whole p in
-        let n = next-level w in
-        record { label = omega arith; here = (n .0 .label, n .0 .left, n .0 .right, n .1); there = (w .part .label, w .part .args, w .there) }
+        let n = as-node (w .here) f in
+        record { label = omega arith; here = (n .row, n .label, n .left, n .right, n .level); there = (w .part .label, w .part .args, w .there) }
 
-    pub fitted-less : FitsPre L S a₀ b t₀ → (a < u) × (u ≤ b)
-    fitted-less p =
-        let n = next-level (whole p) in
-        (omega (arith, terms-le (n .1 .before)), context-le (n .2))
-
-    module _ {o : Found} (level : LevelPost L S a u t o) where
+    module _ {o : Found} (level : LevelPost L S a b t o) where
       pub fitted-fails : o ≡ found.Fail → FitsPost L S a₀ b t₀ found.Fail
       fitted-fails g =
           record {
             is = λ c m us x T.
                 let w = fitted .is c m us x T in
-                let n = next-level w in
-                let y = fail-fits (rw g at (level .is _ _ _ _ _ (n .1) (w .there))) in
-                misfit λ U e. y (plug (n .0 .inner) U) (sym (under (n .0 .label) (n .0 .left) (n .0 .inner) (n .0 .right) U) ∙ ap (λ (d : Context). plug d U) (sym (n .0 .is)) ∙ w .forth U e);
+                let n = as-node (w .here) f in
+                let y = fail-fits (rw g at (level .is _ _ _ _ _ _ (n .level) (w .there))) in
+                misfit λ U e. y (plug (n .inner) U) (sym (under (n .label) (n .left) (n .inner) (n .right) U) ∙ ap (λ (d : Context). plug d U) (sym (n .is)) ∙ w .forth U e);
           }
 
-      pub fitted-more : {v : ℕ} → o ≡ found.At v → Fitted L S a₀ b t₀ u v
-      fitted-more {v} g =
-          record {
-            is = λ c m us x T.
-                let w = fitted .is c m us x T in
-                let n = next-level w in
-                let y = at-fits (rw g at (level .is _ _ _ _ _ (n .1) (w .there))) in
-                let z = n .0 in
-                let same : (U : Term) → plug (w .inner) U ≡ plug (node (z .label) (z .left) hole (z .right)) (plug (z .inner) U) =
-                λ U. ap (λ (d : Context). plug d U) (z .is) ∙ under (z .label) (z .left) (z .inner) (z .right) U
-                in
-                record {
-                  inner = z .inner;
-                  part = y .0;
-                  here = n .2;
-                  there = y .3;
-                  hole-row = omega (arith, hole-under (z .label) (z .left) (z .inner) (z .right) t, y .2, ap holeRow (z .is), w .hole-row);
-                  back = λ U e. w .back U (same U ∙ ap (plug (node (z .label) (z .left) hole (z .right))) e ∙ y .1);
-                  forth = λ U e. same-child (z .label) (z .left) (z .right) (plug (z .inner) U) (y .0) (sym (same U) ∙ w .forth U e ∙ sym (y .1));
-                };
-          }
+      module _ {v : ℕ} (g : o ≡ found.At v) where
+        -- the term for the child, and where the child is
+        next-part : {c : Context} {T : Term} (w : Left L S a b t t₀ c T) (n : Node L S a b (w .inner))
+            → (U : Term) × (plug (node (n .label) (n .left) hole (n .right)) U ≡ w .part) × (v ≡ t + holeRow (node (n .label) (n .left) hole (n .right))) × TermAt L S v (U .label) (U .args)
+        next-part w n = at-fits (rw g at (level .is _ _ _ _ _ _ (n .level) (w .there)))
+
+        next-row : {c : Context} {T : Term} (w : Left L S a b t t₀ c T) (n : Node L S a b (w .inner)) → (n .row ≡ a + (v - t)) × (t < v) × (n .row ≤ b)
+        unfolding holeRow
+        next-row w n = omega (arith, next-part w n .2, terms-rows (n .level .level .before), n .level .low)
+
+        pub fitted-less : FitsPre L S a₀ b t₀ → (t < v) × (a + (v - t) ≤ b)
+        fitted-less p =
+            let w = whole p in
+            let r = next-row w (as-node (w .here) f) in
+            (r .1, omega arith)
+
+        pub fitted-more : Fitted L S a₀ b t₀ (a + (v - t)) v
+        fitted-more =
+            record {
+              is = λ c m us x T.
+                  let w = fitted .is c m us x T in
+                  let n = as-node (w .here) f in
+                  let y = next-part w n in
+                  let same : (U : Term) → plug (w .inner) U ≡ plug (node (n .label) (n .left) hole (n .right)) (plug (n .inner) U) =
+                  λ U. ap (λ (d : Context). plug d U) (n .is) ∙ under (n .label) (n .left) (n .inner) (n .right) U
+                  in
+                  record {
+                    inner = n .inner;
+                    part = y .0;
+                    here = subst (λ (r : ℕ). ContextAt L S r b (n .inner)) (next-row w n .0) (n .below);
+                    there = y .3;
+                    hole-row = omega (arith, hole-under (n .label) (n .left) (n .inner) (n .right) t, y .2, ap holeRow (n .is), w .hole-row);
+                    back = λ U e. w .back U (same U ∙ ap (plug (node (n .label) (n .left) hole (n .right))) e ∙ y .1);
+                    forth = λ U e. same-child (n .label) (n .left) (n .right) (plug (n .inner) U) (y .0) (sym (same U) ∙ w .forth U e ∙ sym (y .1));
+                  };
+            }

@@ -1,5 +1,5 @@
 // A variable's later appearance: what it stands for, at its place in the tree, against what stands where it appears again.
-ghost use Rattle.compare.specs.Appear.{AlikePre, AlikePost, AgainPre, AgainPost, LevelPre, FitsPre, LevelPost, FitsPost};
+ghost use Rattle.compare.specs.Appear.{AlikePre, AlikePost, AgainPre, AgainPost, LeftPre, LeftPost, LevelPre, FitsPre, LevelPost, FitsPost};
 
 // A row that is looked for: where a sequence ends, or where a context has its hole.
 pub enum Found {
@@ -26,8 +26,8 @@ pub fn again(label: &[u32], size: &[u32], a: usize, c: usize, t: usize, e: usize
 {
     let mut here = a;
     let mut there = t;
-    let mut left = c;
-    while left != 0 {
+    let mut remaining = c;
+    while remaining != 0 {
         if there == e {
             return Found::Fail;
         }
@@ -36,7 +36,7 @@ pub fn again(label: &[u32], size: &[u32], a: usize, c: usize, t: usize, e: usize
         if alike(label, size, here, behind, there, after) {
             here = behind;
             there = after;
-            left -= 1;
+            remaining -= 1;
         } else {
             return Found::Fail;
         }
@@ -44,26 +44,53 @@ pub fn again(label: &[u32], size: &[u32], a: usize, c: usize, t: usize, e: usize
     Found::At(there)
 }
 
-// The arguments of the term at row t against those of the term at row a, all but the one at row u: the row of what stands for that one.
-fn level(label: &[u32], size: &[u32], a: usize, u: usize, t: usize) -> Found
-    requires { ⌜ LevelPre (now label) (now size) a u t ⌝ }
-    ensures { λ r. ⌜ LevelPost (now (label .entry)) (now (size .entry)) a u t r ⌝ }
+// The terms from row a on, up to the one that holds row b, again from row t on in a list that ends at e: the row behind them.
+fn left(label: &[u32], size: &[u32], a: usize, b: usize, t: usize, e: usize) -> Found
+    requires { ⌜ LeftPre (now label) (now size) a b t e ⌝ }
+    ensures { λ r. ⌜ LeftPost (now (label .entry)) (now (size .entry)) a b t e r ⌝ }
 {
-    let left = u - a;
-    let v = t + left;
-    let e = tree::next(size, t);
-    if e <= v {
-        return Found::Fail;
-    }
-    if tree::same(label, size, a + 1, t + 1, left - 1) {
-        let right = tree::next(size, u);
-        let end = tree::next(size, a);
-        let there = tree::next(size, v);
-        if alike(label, size, right, end, there, e) {
+    let mut u = a;
+    let mut v = t;
+    loop {
+        let behind = tree::next(size, u);
+        if b < behind {
             return Found::At(v);
         }
+        if v == e {
+            return Found::Fail;
+        }
+        let after = tree::next(size, v);
+        if alike(label, size, u, behind, v, after) {
+            u = behind;
+            v = after;
+        } else {
+            return Found::Fail;
+        }
     }
-    Found::Fail
+}
+
+// The arguments of the term at row t against those of the term at row a, all but the one that holds row b: the row of what stands for
+// that one.
+fn level(label: &[u32], size: &[u32], a: usize, b: usize, t: usize) -> Found
+    requires { ⌜ LevelPre (now label) (now size) a b t ⌝ }
+    ensures { λ r. ⌜ LevelPost (now (label .entry)) (now (size .entry)) a b t r ⌝ }
+{
+    let e = tree::next(size, t);
+    match left(label, size, a + 1, b, t + 1, e) {
+        Found::Fail => Found::Fail,
+        Found::At(v) => {
+            if v == e {
+                return Found::Fail;
+            }
+            let right = tree::next(size, a + (v - t));
+            let end = tree::next(size, a);
+            let there = tree::next(size, v);
+            if alike(label, size, right, end, there, e) {
+                return Found::At(v);
+            }
+            Found::Fail
+        }
+    }
 }
 
 // The context from row a to its hole at row b against the term at row t: the row of what fills the hole there.
@@ -74,15 +101,13 @@ pub fn fits(label: &[u32], size: &[u32], a: usize, b: usize, t: usize) -> Found
     let mut from = a;
     let mut row = t;
     while from != b {
-        // Labels first: where they differ, the child need not be looked for among its neighbours.
         if tree::at(label, from) != tree::at(label, row) {
             return Found::Fail;
         }
-        let u = tree::child(size, from, b);
-        match level(label, size, from, u, row) {
+        match level(label, size, from, b, row) {
             Found::Fail => return Found::Fail,
             Found::At(v) => {
-                from = u;
+                from += v - row;
                 row = v;
             }
         }

@@ -9,8 +9,7 @@ use native.Mathlib.Omega.{arith}
 use native.Mathlib.Decide.{decLt}
 use native.Mathlib.Nat.{add-assoc, add-zero}
 use Rattle.meaning.specs.Says.{Says}
-use Rattle.meaning.specs.Forest.{Forest, some, rows, terms}
-use Rattle.meaning.specs.Read.{takeT}
+use Rattle.meaning.specs.Forest.{Forest, some, rows}
 use Rattle.tree.specs.Places.{TermsAt, stop, step, SameRows}
 use Rattle.tree.proofs.Terms.{terms-le, terms-rows}
 
@@ -30,7 +29,7 @@ rows-equal {a = a} {t = t} k (step {l = l} {us = us} r i b n) (step {l = m} {us 
     let w = rows-equal (k - suc (rows us)) n (rw (sym s) at n′) (omega arith) (omega arith) (shift (suc (rows us)) (k - suc (rows us)) (omega arith) same) in
     cc
 
-pub equal-rows : {L S : List ℕ} {a e t d : ℕ} {f : Forest} → TermsAt L S a e f → TermsAt L S t d f → SameRows L S a t (rows f)
+equal-rows : {L S : List ℕ} {a e t d : ℕ} {f : Forest} → TermsAt L S a e f → TermsAt L S t d f → SameRows L S a t (rows f)
 unfolding rows
 equal-rows (stop h _ _) y = record { each = λ i f. absurd (omega arith) }
 equal-rows {L} {S} {a} {e} {t} {d} (step {l = l} {us = us} {rest = rest} r i b k) (step r′ i′ b′ k′) = record { each = λ j h. go j h (equal-rows i i′) (equal-rows k k′) }
@@ -64,20 +63,3 @@ pub one-sequence : {L S : List ℕ} {t e : ℕ} {f g : Forest} → TermsAt L S t
 one-sequence {t = t} {e = e} x y =
     let h : e ≡ t + (e - t) = omega (arith, terms-le x) in
     rows-equal (e - t) x y h h (record { each = λ i f. (refl, refl) })
-
--- rows that begin like a sequence begin with it
-pub begins : {L S : List ℕ} {a u t e : ℕ} (k : ℕ) {left us : Forest} → TermsAt L S a u left → TermsAt L S t e us → u ≡ a + k → t + k ≤ e → SameRows L S a t k → left ≡ takeT (terms left) us
-unfolding takeT terms
-begins k (stop h _ _) T p q same = refl
-begins k (step r i b n) (stop h _ _) p q same = absurd (omega (arith, terms-le n))
-begins {a = a} {t = t} k (step {l = l} {us = us} r i b n) (step {l = m} {us = vs} r′ i′ b′ n′) p q same =
-    let z : 0 < k = omega (arith, terms-le n) in
-    let h = simp add-zero at (same .each 0 z) in
-    let c : l ≡ m = sym (r .label) ∙ h .0 ∙ r′ .label in
-    let s : suc (rows us) ≡ suc (rows vs) = sym (r .size) ∙ h .1 ∙ r′ .size in
-    let v : us ≡ vs = rows-equal (rows us) i i′ (omega (arith, terms-rows i)) (omega (arith, terms-rows i)) (shift 1 (rows us) (omega (arith, terms-le n)) same) in
-    let w =
-    begins (k - suc (rows us)) n (rw (sym s) at n′) (omega (arith, terms-le n)) (omega (arith, terms-le n))
-    (shift (suc (rows us)) (k - suc (rows us)) (omega (arith, terms-le n)) same)
-    in
-    cc

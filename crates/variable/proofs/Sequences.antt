@@ -10,10 +10,10 @@ use Rattle.meaning.specs.Read.{takeT}
 use Rattle.meaning.specs.Pattern.{Kind, aSequence, Comes}
 use Rattle.meaning.specs.Value.{Value, ofSequence, kind}
 use Rattle.meaning.specs.Record.{Entry, second, span}
-use Rattle.meaning.proofs.Laws.{dropT}
 use Rattle.tree.specs.Places.{TermsAt}
 use Rattle.tree.proofs.Terms.{terms-rows}
-use Rattle.compare.specs.Appear.{Again, another, again, AgainPre, AgainPost}
+use Rattle.compare.specs.Appear.{AgainPre, AgainPost}
+use Rattle.compare.proofs.Remaining.{another-of, again-of}
 use Rattle.compare.specs.declared.Found.{Found}
 use Rattle.compare.specs.declared.Found.the-variants as found
 use Rattle.variable.specs.State.{ValueAt, a-term, some-terms, a-label, a-context, State}
@@ -27,12 +27,6 @@ sequence-of (a-term T) e = let z : _≡_ {A = ℕ} 0 1 = cc in absurd (omega ari
 sequence-of (some-terms {e = d} T) e = (d, _, refl, T)
 sequence-of (a-label h f) e = let z : _≡_ {A = ℕ} 0 1 = cc in absurd (omega arith)
 sequence-of (a-context x) e = let z : _≡_ {A = ℕ} 0 1 = cc in absurd (omega arith)
-
-another-of : {L S : List ℕ} {t e : ℕ} {f us : Forest} → Again L S t e f us found.Fail → f ≢ takeT (terms f) us
-another-of (another h) = h
-
-again-of : {L S : List ℕ} {t e u : ℕ} {f us : Forest} → Again L S t e f us (found.At u) → (f ≡ takeT (terms f) us) × TermsAt L S t u (takeT (terms f) us) × TermsAt L S u e (dropT (terms f) us)
-again-of (again h x y) = (h, x, y)
 
 -- the value of a variable that has appeared
 module _ {L S R : List ℕ} {x n a c : ℕ} (f : x ≢ n) (ea : a ≡ getD R (x + x) 0) (ec : c ≡ getD R (x + x + 1) 0) where

@@ -4,10 +4,10 @@ use Rattle.compare.proofs.again.Statement.{statement}
 use Rattle.compare.proofs.again.Tie as tie
 
 abbrev Inv-loop : tie.InvT-loop
-Inv-loop label size a c t e here₀ there₀ left₀ here there left = Compared label size a c t e here left there
+Inv-loop label size a c t e here₀ there₀ remaining₀ here there remaining = Compared label size a c t e here remaining there
 
 abbrev μ-loop : tie.MeasureT-loop
-μ-loop label size a c t e here₀ there₀ left₀ here there left = left
+μ-loop label size a c t e here₀ there₀ remaining₀ here there remaining = remaining
 
 loop-holds : tie.Need-loop-holds Inv-loop μ-loop
 loop-holds c = compared-first
@@ -24,8 +24,8 @@ next-requires-2 c κs = compared-rows (c .before .before .before .loop .inv) (c 
 alike-requires : tie.Need-alike-requires Inv-loop μ-loop
 alike-requires c κs = compared-alike-pre (c .before .before .before .before .loop .inv) (c .before .before .before .loop-test .taken) (c .before .before .if1 .left) (c .before .next .ensures) (c .next2 .ensures) (c .before .before .before .before .before .before .before .pre)
 
-sub-left : tie.Need-sub-left Inv-loop μ-loop
-sub-left c = omega (arith, c .before .before .before .before .before .loop-test .taken)
+sub-remaining : tie.Need-sub-remaining Inv-loop μ-loop
+sub-remaining c = omega (arith, c .before .before .before .before .before .loop-test .taken)
 
 loop-less : tie.Need-loop-less Inv-loop μ-loop
 loop-less c = omega (arith, c .before .before .before .before .before .loop-test .taken)
@@ -50,7 +50,7 @@ again-spec =
     next-requires
     next-requires-2
     alike-requires
-    sub-left
+    sub-remaining
     loop-less
     loop-again
     returns-2
