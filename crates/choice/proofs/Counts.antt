@@ -5,20 +5,20 @@ use mathlib.Core.Logic.{_≢_}
 use mathlib.Core.List.{List}
 use lib.ListN.{length, getD}
 use native.Mathlib.Omega.{arith}
-use Rattle.meaning.specs.Forest.{Forest, Term, rows, terms}
+use Rattle.meaning.specs.Forest.{Forest, rows, terms}
 use Rattle.meaning.specs.Pattern.{Kind}
 use Rattle.meaning.proofs.Laws.{dropT, terms-few}
-use Rattle.meaning.proofs.Resume.{Frame, Stop, at-context, least, largest}
-use Rattle.tree.specs.Places.{TermsAt, Next}
+use Rattle.meaning.proofs.Resume.{Frame, Stop, at-context, largest}
+use Rattle.tree.specs.Places.{TermsAt}
 use Rattle.tree.specs.Helpers.{CountPre, CountPost, PastPre, PastPost}
 use Rattle.tree.proofs.Terms.{terms-le, terms-end, terms-rows, first-at, term-next}
 use Rattle.tree.proofs.Compare.{one-sequence}
 use Rattle.tree.proofs.Counts.{past-at}
 use Rattle.walk.specs.Onward.{Lands, at-terms}
-use Rattle.choice.specs.Stops.{many, StopAt, AtStop, LeastPost, ValuesPost, LandingPre, LandingPost, FurtherPost, FewerPre, Fewer, elsewhere, from-there, Before, MorePre, MorePost}
+use Rattle.choice.specs.Stops.{many, StopAt, AtStop, LeastPost, ValuesPost, LandingPre, LandingPost, FurtherPost, FewerPre, Fewer, from-there, Before, MorePre, MorePost}
 use Rattle.choice.specs.declared.Counted.{Counted}
 use Rattle.choice.specs.declared.Counted.the-variants as counted
-use Rattle.choice.proofs.Stops.{InList, in-list, AtTerm, list-end, lands-list, lands-at, terms-left, at-row, at-room, at-list, at-the-term}
+use Rattle.choice.proofs.Stops.{list-end, lands-list, lands-at, terms-left, at-row, at-room, at-list, at-the-term}
 
 -- the least value
 module _ {M : List ℕ} {p s k : ℕ} (ek : k ≡ getD M (3 * p) 0) where
@@ -197,12 +197,6 @@ module _ {S M A : List ℕ} {q u left p s : ℕ} where
         let t = both (z .8) (z .9) in
         let i = at-list (z .8) ej ej2 in
         record { some = (z .0, i .te, t .behind, t .from, t .count, terms-le (i .tree)) }
-
-    pub more-small : MorePre S M A q u left p s → left ≤ length S
-    more-small pre =
-        let z = pre .some in
-        let t = both (z .8) (z .9) in
-        omega (arith, t .count, terms-few (t .behind), terms-rows (t .from), terms-end (t .from))
 
     pub more-terms : {n : ℕ} {o : Counted} → Fewer S u s left o → o ≡ counted.Terms n → MorePost S M A q u left p s (n + 1)
     more-terms {n} f e =

@@ -5,9 +5,8 @@ use mathlib.Core.Logic.{_≢_}
 use mathlib.Core.List.{List}
 use lib.ListN.{length, getD}
 use native.Mathlib.Omega.{arith}
-use native.Mathlib.Decide.{decLt, ℕ-discrete}
-use native.Mathlib.Numerals.{add-one}
-use Rattle.meaning.specs.Forest.{Forest, none, some, Term, term, rows, terms}
+use native.Mathlib.Decide.{ℕ-discrete}
+use Rattle.meaning.specs.Forest.{Forest, none, some, Term, rows, terms}
 use Rattle.meaning.specs.Read.{takeT, cut}
 use Rattle.meaning.specs.Pattern.{Pattern, symbol, Patterns, nil, cons, Kind, GoodT}
 use Rattle.meaning.specs.Record.{Entry}
@@ -15,19 +14,19 @@ use Rattle.meaning.proofs.Laws.{dropT, terms-few}
 use Rattle.meaning.proofs.Walk.{fail, walkT, walkF}
 use Rattle.meaning.proofs.Resume.{Frame, Stop, at-sequence, at-context, onward}
 use Rattle.meaning.proofs.Next.{Any, any?}
-use Rattle.tree.specs.Places.{TermsAt, TermAt}
+use Rattle.tree.specs.Places.{TermsAt}
 use Rattle.tree.specs.Helpers.{PastPre, PastPost}
-use Rattle.tree.proofs.Terms.{terms-le, terms-end, terms-rows, nothing-at, first-at, term-next}
+use Rattle.tree.proofs.Terms.{terms-end, terms-rows, nothing-at, first-at, term-next}
 use Rattle.tree.proofs.Counts.{past-at}
 use Rattle.pattern.specs.Places.{PatternAt}
 use Rattle.variable.specs.Steps.{Behind}
 use Rattle.variable.proofs.Choices.{when-no}
 use Rattle.walk.specs.Packed.{Packed}
 use Rattle.walk.specs.Onward.{Lands, at-terms, at-hole}
-use Rattle.walk.proofs.Views.{Seen, term-seen, list-seen, TermView, v-symbol, v-individual, v-function, v-context, term-view, term-first, no-arguments}
-use Rattle.choice.specs.Stops.{many, StopAt}
+use Rattle.walk.proofs.Views.{term-seen, list-seen, TermView, v-symbol, v-individual, v-function, v-context, term-view, term-first, no-arguments}
+use Rattle.choice.specs.Stops.{many}
 use Rattle.choice.specs.Runs.{HolesPost, Unlike, NeighboursPre, NeighboursPost, WholePre, WholePost, Level, LevelPre, SkipPost}
-use Rattle.choice.proofs.Stops.{drop-more, terms-left, behind-more, one-behind, some-left, InList, AtTerm, lands-list, lands-row, lands-at, list-end, at-row, at-room, at-list, at-the-term}
+use Rattle.choice.proofs.Stops.{drop-more, terms-left, behind-more, one-behind, some-left, InList, AtTerm, lands-list, lands-row, lands-at, list-end, at-room, at-list, at-the-term}
 
 -- the rows of holes
 module _ {L : List ℕ} {symbol row limit : ℕ} where

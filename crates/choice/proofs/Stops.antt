@@ -5,13 +5,13 @@ use mathlib.Core.Logic.{_≢_}
 use mathlib.Core.List.{List}
 use lib.ListN.{length, getD}
 use native.Mathlib.Omega.{arith}
-use Rattle.meaning.specs.Forest.{Forest, none, some, Term, rows, terms, _⊕_}
-use Rattle.meaning.specs.Read.{takeT, cut}
+use Rattle.meaning.specs.Forest.{Forest, none, some, Term, rows, terms}
+use Rattle.meaning.specs.Read.{takeT}
 use Rattle.meaning.specs.Pattern.{Pattern, Patterns, Kind, GoodT, GoodF, afterF}
 use Rattle.meaning.proofs.Laws.{dropT, take-drop, rows-of}
 use Rattle.meaning.proofs.Resume.{Frame, Stop, at-sequence, at-context, least, largest}
 use Rattle.tree.specs.Places.{TermsAt, TermAt}
-use Rattle.tree.proofs.Terms.{terms-le, terms-end, terms-rows, FirstAt}
+use Rattle.tree.proofs.Terms.{terms-rows, FirstAt}
 use Rattle.tree.proofs.Cuts.{cut-at}
 use Rattle.pattern.specs.Places.{PatternAt, PatternsAt}
 use Rattle.variable.specs.Steps.{Behind}

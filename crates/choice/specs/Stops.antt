@@ -4,7 +4,7 @@ use mathlib.Core.Path.{_≡_}
 use mathlib.Core.Logic.{_≢_}
 use mathlib.Core.List.{List}
 use lib.ListN.{length, getD}
-use Rattle.meaning.specs.Forest.{Forest, Term, rows, terms}
+use Rattle.meaning.specs.Forest.{Forest, rows, terms}
 use Rattle.meaning.specs.Pattern.{Kind}
 use Rattle.meaning.proofs.Resume.{Frame, Stop, at-sequence, at-context, least, largest}
 use Rattle.tree.specs.Places.{TermsAt}

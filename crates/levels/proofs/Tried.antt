@@ -1,11 +1,8 @@
 -- One try: judged, and walked with.
-use Prim.Native.Nat.{ℕ, _+_, _*_}
-use mathlib.Core.Path.{_≡_, refl, _∙_}
-use mathlib.Core.Logic.{_≢_}
+use Prim.Native.Nat.{ℕ}
+use mathlib.Core.Path.{_≡_, refl}
 use mathlib.Core.Bool.{Bool, true, false}
 use mathlib.Core.List.{List}
-use lib.ListN.{getD}
-use native.Mathlib.Omega.{arith}
 use Rattle.meaning.proofs.Answers.{said-no}
 use Rattle.problem.specs.Judge.{JudgePre, JudgePost}
 use Rattle.walk.specs.Taken.{TakePre, TakePost}

@@ -1,5 +1,5 @@
 -- Not needed to believe the promise: the levels of the search, and one try.
-use Prim.Native.Nat.{ℕ, suc, _+_, _-_, _*_, _<_, _≤_}
+use Prim.Native.Nat.{ℕ, suc, _+_, _-_, _<_, _≤_}
 use mathlib.Core.Path.{_≡_}
 use mathlib.Core.Bool.{Bool}
 use mathlib.Core.List.{List, [], _∷_, _++_}
@@ -10,11 +10,9 @@ use Rattle.meaning.specs.Read.{valueAt}
 use Rattle.meaning.specs.GoodRecord.{Fits}
 use Rattle.meaning.proofs.Walk.{Res, walkT}
 use Rattle.meaning.proofs.Next.{Any, any?}
-use Rattle.meaning.proofs.Tame.{count}
 use Rattle.pattern.specs.Good.{GoodPattern}
 use Rattle.expression.specs.Expression.{Expression}
 use Rattle.constraint.specs.Obeys.{Constraint, Allowed}
-use Rattle.constraint.proofs.Allowed.{allowed?}
 use Rattle.problem.specs.Judge.{Judging}
 use Rattle.walk.specs.Packed.{Packed}
 use Rattle.walk.specs.Above.{Marks, Unchanged}
@@ -23,9 +21,6 @@ use Rattle.walk.specs.Onward.{Lands}
 use Rattle.walk.specs.Taken.{TakeAsked}
 use Rattle.walk.specs.declared.Out.{Out}
 use Rattle.walk.specs.declared.Out.the-variants as out
-use Rattle.listing.proofs.Fill.{fill, rest}
-use Rattle.listing.proofs.Levels.{Levels}
-use Rattle.listing.proofs.Whole.{walked}
 
 -- the problem that is searched: the tree, the packed pattern, the constraints and the tables of the expressions
 pub record Search (L S M name first : List ℕ) (null : List Bool) (cont : List ℕ) (ends : List Bool) (C kinds : List ℕ) (T : Term) (P : Pattern) (Q : List Kind) (es : List Expression) (cs : List Constraint) : Type 0 where

@@ -1,7 +1,7 @@
 -- The levels of the search: each has asked for a variable and goes through its values.
 use Prim.Native.Nat.{ℕ, suc, _+_, _-_, _<_, _≤_}
 use mathlib.Core.Path.{_≡_, refl, ap, _∙_, sym}
-use mathlib.Core.List.{List, [], _∷_, _++_}
+use mathlib.Core.List.{List}
 use lib.ListN.{length, take, getD, set, length-set}
 use lib.Seq.{getD-set-same, getD-set-other, take-at, take-set-le, length-take-le}
 use native.Mathlib.Omega.{arith}
@@ -12,7 +12,6 @@ use Rattle.meaning.specs.Value.{Value, kinds}
 use Rattle.meaning.specs.Record.{Entry, values}
 use Rattle.meaning.specs.Reached.{Begins}
 use Rattle.meaning.proofs.Walk.{need, walk}
-use Rattle.meaning.proofs.Lists.{look-old}
 use Rattle.meaning.proofs.Steps.{kinds-length, values-length}
 use Rattle.meaning.proofs.Asked.{asked-reached, asked-picked}
 use Rattle.meaning.proofs.Tame.{weight, count, asked-next, picked-many}
@@ -54,9 +53,6 @@ module _ (Allowed : ℕ → Value → Type 0) (allowed? : (x : ℕ) (v : Value) 
     -- as many choices were made as there are such variables before it
     pub level-count : length cs ≡ count (take x Q)
     level-count = ap length (asked-picked Allowed allowed? T g (v .asked)) ∙ picked-many (v .bound) ∙ ap count kinds-are
-
-    pub level-within : x < length Q
-    level-within = look-old Q x (level-kind .0) (level-kind .1)
 
   -- the levels below depth
   pub record Levels (vals variables starts nexts lefts : List ℕ) (depth : ℕ) : Type 0 where

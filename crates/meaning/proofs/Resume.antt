@@ -2,7 +2,7 @@
 -- stands in, the rest of the list that its holder stands in, and so on up to the root.
 use Prim.Native.Nat.{ℕ, _+_, _-_}
 use mathlib.Core.Path.{_≡_, refl, ap, _∙_, sym}
-use mathlib.Core.List.{List, [], _∷_, _++_, append-assoc}
+use mathlib.Core.List.{List, [], _∷_, _++_}
 use native.Mathlib.Decide.{ℕ-discrete, decLe}
 use Rattle.meaning.specs.Forest.{Forest, none, some, Term, term, rows, terms, size}
 use Rattle.meaning.specs.Read.{takeT, cut}

@@ -1,22 +1,15 @@
 -- The numbers that are kept of a path.
 use Prim.Native.Nat.{ℕ, _+_, _-_, _*_, _<_, _≤_}
-use mathlib.Core.Path.{_≡_, refl, ap, _∙_, sym, subst}
+use mathlib.Core.Path.{_≡_, refl, _∙_}
 use mathlib.Core.Logic.{_≢_}
 use mathlib.Core.Bool.{Bool, true, false}
-use mathlib.Core.List.{List, [], _∷_, _++_}
+use mathlib.Core.List.{List}
 use lib.Dec.{eqb}
 use lib.ListN.{length, getD, set, length-set}
 use lib.Seq.{getD-set-same, getD-set-other}
 use native.Mathlib.Omega.{arith}
-use native.Mathlib.Decide.{ℕ-discrete, decLe}
-use Rattle.meaning.specs.Forest.{Context}
-use Rattle.tree.specs.Places.{ContextAt}
-use Rattle.tree.specs.Helpers.{ChildPre}
-use Rattle.constraint.specs.Word.{path}
-use Rattle.constraint.specs.Reading.{PathPre, After}
-use Rattle.constraint.proofs.Readings.{Begun, Stepped, after-none, after-more}
-use Rattle.paths.specs.Paths.{From, Entry, Place, Places, Remembers, noted, put, ChildFromPre, ChildFromPost, HoldingPre, HoldingPost, Standing, RecallPre, RecallPost, AcceptedPre, AcceptedPost}
-use Rattle.paths.proofs.Steps.{context-next, context-in, from-first, through-first, through-child, through-all}
+use native.Mathlib.Decide.{ℕ-discrete}
+use Rattle.paths.specs.Paths.{From, Entry, Place, Places, noted, put}
 
 -- a list with the number at k changed has the others
 other : (P : List ℕ) (k v i : ℕ) → i ≢ k → getD (set P k v) i 0 ≡ getD P i 0

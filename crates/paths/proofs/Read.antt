@@ -1,6 +1,6 @@
 -- A path is recalled, goes on to the hole, and is kept.
 use Prim.Native.Nat.{ℕ, _+_, _-_, _*_, _<_, _≤_}
-use mathlib.Core.Path.{_≡_, refl, ap, _∙_, sym, subst}
+use mathlib.Core.Path.{_≡_, _∙_, sym, subst}
 use mathlib.Core.Logic.{_≢_}
 use mathlib.Core.Bool.{Bool}
 use mathlib.Core.List.{List, []}
@@ -11,11 +11,10 @@ use native.Mathlib.Omega.{arith}
 use native.Mathlib.Decide.{decLt}
 use Rattle.meaning.specs.Forest.{Context}
 use Rattle.tree.specs.Places.{ContextAt}
-use Rattle.tree.specs.Helpers.{ChildPre}
 use Rattle.constraint.specs.Word.{path}
 use Rattle.constraint.specs.Reading.{PathPre, After}
 use Rattle.constraint.proofs.Readings.{Begun, Stepped, after-none, after-more}
-use Rattle.paths.specs.Paths.{Entry, Places, Remembers, put, ChildFromPre, ChildFromPost, HoldingPre, HoldingPost, Standing, RecallPre, RecallPost, AcceptedPre, AcceptedPost}
+use Rattle.paths.specs.Paths.{Entry, Places, Remembers, put, ChildFromPre, ChildFromPost, HoldingPre, HoldingPost, Standing, RecallPre, RecallPost}
 use Rattle.paths.proofs.Steps.{context-next, context-in, from-first, through-first, through-child, through-all}
 use Rattle.paths.proofs.Numbers.{put-row, put-other, places-more, places-first, places-fewer, places-noted, places-child}
 

@@ -1,5 +1,5 @@
 -- The rows of a path: where it goes on, and what is read of it.
-use Prim.Native.Nat.{ℕ, _+_, _*_, _<_, _≤_}
+use Prim.Native.Nat.{ℕ, _+_, _<_, _≤_}
 use mathlib.Core.Path.{_≡_, refl, ap, _∙_, sym}
 use mathlib.Core.Logic.{_≢_}
 use mathlib.Core.Bool.{Bool}
@@ -7,15 +7,14 @@ use mathlib.Core.List.{List, [], _∷_, _++_, append-assoc, append-nil}
 use lib.ListN.{length, getD}
 use native.Mathlib.Omega.{arith}
 use native.Mathlib.Decide.{decLe}
-use Rattle.meaning.specs.Forest.{Forest, Context, hole, node}
+use Rattle.meaning.specs.Forest.{Forest, Context, node}
 use Rattle.tree.specs.Places.{Next, ContextAt, at-hole, at-node}
 use Rattle.tree.specs.Helpers.{ChildPre}
 use Rattle.tree.proofs.Terms.{terms-le}
 use Rattle.tree.proofs.Ways.{context-le, hole-here, a-node, ahead-first, ahead-next, ahead-more, ahead-found}
 use Rattle.constraint.specs.Word.{path}
-use Rattle.constraint.specs.Reading.{PathPre, After}
-use Rattle.constraint.proofs.Readings.{Stepped, after-more}
-use Rattle.paths.specs.Paths.{Through, From, Entry, ChildFromPre, ChildFromPost}
+use Rattle.constraint.specs.Reading.{After}
+use Rattle.paths.specs.Paths.{Through, From, ChildFromPre, ChildFromPost}
 
 -- what a context stands at
 pub context-next : {L S : List ℕ} {a b : ℕ} {c : Context} → ContextAt L S a b c → Next L S a

@@ -10,7 +10,7 @@ use native.Mathlib.Numerals.{add-one}
 use Rattle.meaning.specs.Forest.{Term, size, rows}
 use Rattle.meaning.specs.Pattern.{Pattern, Kind}
 use Rattle.meaning.specs.Record.{Entry, numbers}
-use Rattle.meaning.proofs.Walk.{need, ok, walkT, walk}
+use Rattle.meaning.proofs.Walk.{ok, walkT, walk}
 use Rattle.meaning.proofs.Next.{Any, any?}
 use Rattle.meaning.proofs.Tame.{count, tame-need}
 use Rattle.tree.specs.Good.{GoodTree}
@@ -23,7 +23,7 @@ use Rattle.walk.specs.Taken.{Answers}
 use Rattle.walk.specs.declared.Out.{Out}
 use Rattle.walk.specs.declared.Out.the-variants as answer
 use Rattle.walk.proofs.Answered.{failed, matched}
-use Rattle.choice.specs.Stops.{many, StopAt, LeastPost, FurtherPre, FurtherPost, Before, MorePre, MorePost}
+use Rattle.choice.specs.Stops.{StopAt, LeastPost, FurtherPre, FurtherPost, Before, MorePre, MorePost}
 use Rattle.choice.specs.Runs.{LevelPre, SkipPost}
 use Rattle.choice.proofs.Stops.{many-range, at-room}
 use Rattle.listing.proofs.Events as events

@@ -1,28 +1,15 @@
 -- Not needed to believe the promise: what the search's private functions ask and answer.
-use Prim.Native.Nat.{ℕ, suc, _+_, _-_, _*_, _<_, _≤_}
+use Prim.Native.Nat.{ℕ, _+_, _-_, _*_, _≤_}
 use mathlib.Core.Path.{_≡_}
 use mathlib.Core.Bool.{Bool}
-use mathlib.Core.List.{List, [], _∷_, _++_}
-use lib.ListN.{length, getD, take}
-use Rattle.meaning.specs.Forest.{none, Term, _◂_}
-use Rattle.meaning.specs.Pattern.{Pattern, Kind, old, look}
-use Rattle.meaning.specs.Read.{valueAt}
-use Rattle.meaning.specs.GoodRecord.{Fits}
-use Rattle.meaning.proofs.Walk.{Res, walkT}
-use Rattle.meaning.proofs.Next.{Any, any?}
+use mathlib.Core.List.{List}
+use lib.ListN.{length}
+use Rattle.meaning.specs.Forest.{Term}
+use Rattle.meaning.specs.Pattern.{Pattern, Kind}
 use Rattle.meaning.proofs.Tame.{count}
-use Rattle.pattern.specs.Good.{GoodPattern}
 use Rattle.expression.specs.Expression.{Expression}
 use Rattle.constraint.specs.Obeys.{Constraint, Allowed}
 use Rattle.constraint.proofs.Allowed.{allowed?}
-use Rattle.problem.specs.Judge.{Judging}
-use Rattle.walk.specs.Packed.{Packed}
-use Rattle.walk.specs.Above.{Marks, Unchanged}
-use Rattle.walk.specs.Cycle.{Needs, Agree}
-use Rattle.walk.specs.Onward.{Lands}
-use Rattle.walk.specs.Taken.{TakeAsked}
-use Rattle.walk.specs.declared.Out.{Out}
-use Rattle.walk.specs.declared.Out.the-variants as out
 use Rattle.listing.proofs.Fill.{fill, rest}
 use Rattle.listing.proofs.Levels.{Levels}
 use Rattle.listing.proofs.Whole.{walked}

@@ -1,17 +1,16 @@
 -- The walk with the choices of a record: each variable that is asked for takes its own second number.
 use Prim.Native.Nat.{ℕ, zero, suc, _+_, _-_, _*_, _<_, _≤_}
 use mathlib.Core.Path.{_≡_, refl, ap, _∙_, sym, subst}
-use mathlib.Core.Logic.{_≢_}
-use mathlib.Core.Bool.{Bool, true, false}
+use mathlib.Core.Bool.{true, false}
 use mathlib.Core.List.{List, [], _∷_, _++_, append-assoc, append-nil}
 use lib.ListN.{length, getD, take, length-append}
 use native.Mathlib.Omega.{arith}
 use native.Mathlib.Decide.{decLe}
 use Rattle.meaning.specs.Forest.{none, Term, _◂_}
 use Rattle.meaning.specs.Pattern.{Pattern, Kind, anIndividual, aSequence, aFunction, aContext, old, look}
-use Rattle.meaning.specs.Record.{Entry, numbers}
+use Rattle.meaning.specs.Record.{numbers}
 use Rattle.meaning.specs.Order.{choices}
-use Rattle.meaning.proofs.Walk.{Res, fail, ok, over, when, walkT, walk}
+use Rattle.meaning.proofs.Walk.{Res, fail, over, when, walkT, walk}
 use Rattle.meaning.proofs.Resume.{least, largest, then-done}
 use Rattle.meaning.proofs.Next.{Any, any?}
 use Rattle.meaning.proofs.Tame.{count, choices-few, numbers-double, tame-ok, tame-need}
@@ -25,13 +24,12 @@ use Rattle.walk.specs.Taken.{TakeAsked, TakePre, TakePost}
 use Rattle.walk.specs.declared.Out.{Out}
 use Rattle.walk.specs.declared.Out.the-variants as out
 use Rattle.walk.proofs.Views.{fail-agree, need-agree, ok-agree, agree-same}
-use Rattle.walk.proofs.Marks.{marks-kept}
 use Rattle.choice.specs.Stops.{StopAt, AtStop, LeastPost, ValuesPost, LandingPre, LandingPost}
 use Rattle.choice.proofs.Stops.{many-range, at-room}
 use Rattle.listing.proofs.Given.{Chosen}
 use Rattle.listing.proofs.Levels.{Level, level-kind, level-count}
 use Rattle.test.specs.Inside.{Walkable}
-use Rattle.test.specs.Followed.{FollowPre, FollowPost, Followed, lost, found}
+use Rattle.test.specs.Followed.{FollowPre, FollowPost, lost, found}
 
 -- the choice of one variable among those of a record
 choices-at : (Q : List Kind) (list : List ℕ) (x : ℕ) (k : Kind) → look Q x ≡ old k → Chosen k → length list ≡ length Q + length Q

@@ -8,7 +8,7 @@ use native.Mathlib.Omega.{arith}
 use Rattle.meaning.specs.Says.{Says}
 use Rattle.meaning.specs.Forest.{none, Term, _◂_}
 use Rattle.meaning.specs.Pattern.{Pattern, Kind}
-use Rattle.meaning.specs.Record.{Entry, numbers}
+use Rattle.meaning.specs.Record.{numbers}
 use Rattle.meaning.specs.Order.{choices}
 use Rattle.meaning.specs.Matcher.{IsRecord}
 use Rattle.meaning.proofs.Walk.{Res, fail, ok}

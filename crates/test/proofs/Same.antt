@@ -3,8 +3,8 @@ use Prim.Native.Nat.{ℕ, _+_, _<_, _≤_}
 use mathlib.Core.Path.{_≡_, refl, ap, _∙_, sym}
 use mathlib.Core.Bool.{false}
 use mathlib.Core.List.{List}
-use lib.ListN.{length, getD, take, set, length-set}
-use lib.Seq.{take-suc, take-suc-set, take-all, getD-take}
+use lib.ListN.{length, getD, take}
+use lib.Seq.{take-suc, take-all, getD-take}
 use native.Mathlib.Omega.{arith}
 use native.Mathlib.Numerals.{add-one}
 use Rattle.meaning.specs.Says.{Says}
@@ -19,14 +19,6 @@ pub record Same (list found : List ℕ) (i : ℕ) : Type 0 where
 
 pub same-none : {list found : List ℕ} → length found ≡ 32 → Same list found 0
 same-none h = record { low = omega arith; long = h; same = refl }
-
-pub same-set : {list found : List ℕ} {i : ℕ} → Same list found i → length list ≤ 32 → i < length list → Same list (set found i (getD list i 0)) (i + 1)
-same-set {list} {found} {i} s h l =
-    record {
-      low = omega arith;
-      long = length-set found i (getD list i 0) ∙ s .long;
-      same = rw (add-one i, take-suc-set found i (getD list i 0) (omega (arith, s .long)), take-suc list i 0 l, s .same);
-    }
 
 pub same-more : {list found : List ℕ} {i : ℕ} → Same list found i → length list ≤ 32 → i < length list → getD found i 0 ≡ getD list i 0 → Same list found (i + 1)
 same-more {list} {found} {i} s h l e =

@@ -11,8 +11,7 @@ use Rattle.meaning.specs.Pattern.{Kind, aContext, Comes}
 use Rattle.meaning.specs.Value.{Value, ofContext, kind}
 use Rattle.meaning.specs.Record.{Entry, second, span}
 use Rattle.meaning.proofs.Laws.{cut-plugs, plug-cut}
-use Rattle.tree.specs.Places.{TermAt, ContextAt, Next}
-use Rattle.tree.proofs.Terms.{term-next}
+use Rattle.tree.specs.Places.{TermAt, ContextAt}
 use Rattle.compare.specs.Appear.{Fits, misfit, fitting, FitsPre, FitsPost}
 use Rattle.compare.specs.declared.Found.{Found}
 use Rattle.compare.specs.declared.Found.the-variants as found
@@ -48,9 +47,6 @@ module _ {L S R : List ℕ} {x n a b : ℕ} (f : x ≢ n) (ea : a ≡ getD R (x 
       (w, v .0, v .1, rw ea (subst (λ (i : ℕ). ContextAt L S (getD R (x + x) 0) i (v .0)) y (v .2)))
 
 module _ {L S R : List ℕ} {x t n : ℕ} where
-  pub context-row : ContextPre L S R x t n → Next L S t
-  context-row p = term-next (p .tree .2)
-
   pub context-needs : x ≡ n → ContextPost L S R x t n step.Need
   context-needs f = record { is = λ Q T B H comes state. chose-need f }
 

@@ -19,7 +19,7 @@ use Rattle.tree.specs.Places.{TermsAt}
 use Rattle.tree.proofs.Terms.{terms-le, none-at, first-at, FirstAt, term-next}
 use Rattle.pattern.specs.Places.{PatternsAt}
 use Rattle.meaning.proofs.Next.{Any, any?}
-use Rattle.variable.specs.State.{State, Kept}
+use Rattle.variable.specs.State.{Kept}
 use Rattle.variable.specs.Steps.{SequencePre, SequencePost}
 use Rattle.walk.specs.Above.{Came, Unchanged, in-list, before-terms}
 use Rattle.walk.specs.Cycle.{Agree, both-fail, both-need, both-ok, TermAsked, TermPre, TermPost, ListAsked, ListPre, ListPost}

@@ -1,7 +1,6 @@
 -- Laws of the rows that a walk has come to, and of what is left behind them.
 use Prim.Native.Nat.{ℕ, _+_, _*_, _<_, _≤_}
 use mathlib.Core.Path.{_≡_, refl, _∙_}
-use mathlib.Core.Logic.{_≢_}
 use mathlib.Core.List.{List, [], _∷_}
 use lib.ListN.{length, getD, set, length-set}
 use lib.Seq.{getD-set-same, getD-set-other}
@@ -9,7 +8,7 @@ use native.Mathlib.Omega.{arith}
 use Rattle.meaning.specs.Forest.{Forest}
 use Rattle.meaning.specs.Pattern.{Patterns, Kind}
 use Rattle.meaning.proofs.Walk.{Res, andThen, walkF}
-use Rattle.meaning.proofs.Resume.{Frame, frame, Stop, run, then-then}
+use Rattle.meaning.proofs.Resume.{Frame, frame, run, then-then}
 use Rattle.meaning.proofs.Next.{Any, any?}
 use Rattle.walk.specs.Above.{Marks, Marked, Came, Unchanged, Behind, at-root, in-list, in-context, Held}
 use Rattle.walk.specs.Cycle.{Needs}

@@ -1,6 +1,6 @@
 -- The walk goes on from a stop.
 use Prim.Native.Nat.{ℕ, _+_, _*_, _<_, _≤_}
-use mathlib.Core.Path.{_≡_, refl, ap, _∙_, sym, subst}
+use mathlib.Core.Path.{_≡_, ap, _∙_, sym, subst}
 use mathlib.Core.Logic.{_≢_}
 use mathlib.Core.List.{List, []}
 use lib.ListN.{length, getD}

@@ -2,25 +2,25 @@
 use Prim.Native.Nat.{ℕ, _+_, _-_, _*_, _<_, _≤_}
 use mathlib.Core.Path.{_≡_, refl, ap, _∙_, sym, subst}
 use mathlib.Core.List.{List, [], _∷_, _++_}
-use lib.ListN.{length, getD, take, set}
+use lib.ListN.{length, set}
 use native.Mathlib.Omega.{arith}
 use native.Mathlib.Decide.{decLe}
-use Rattle.meaning.specs.Forest.{Forest, Term, rows, terms, holeRow}
-use Rattle.meaning.specs.Read.{takeT, cut}
-use Rattle.meaning.specs.Pattern.{Pattern, Patterns, Kind, aSequence, aContext, old, look, Comes}
-use Rattle.meaning.specs.Value.{Value, ofSequence, ofContext, kind}
+use Rattle.meaning.specs.Forest.{holeRow}
+use Rattle.meaning.specs.Read.{cut}
+use Rattle.meaning.specs.Pattern.{Kind, aSequence, aContext, Comes}
+use Rattle.meaning.specs.Value.{kind}
 use Rattle.meaning.specs.Record.{Entry, entry, second}
 use Rattle.meaning.proofs.Laws.{terms-take, terms-few, cut-holds}
 use Rattle.meaning.proofs.Walk.{Res, when}
 use Rattle.meaning.proofs.Steps.{when-yes}
 use Rattle.meaning.proofs.Resume.{Frame, Stop, least, largest, taken, onward, then-done}
 use Rattle.meaning.proofs.Next.{Any, any?}
-use Rattle.tree.specs.Places.{TermsAt, TermAt, ContextAt}
+use Rattle.tree.specs.Places.{ContextAt}
 use Rattle.tree.proofs.Terms.{terms-le, terms-end, terms-rows, split-at, term-next}
 use Rattle.tree.proofs.Cuts.{cut-at}
-use Rattle.variable.specs.State.{ValueAt, some-terms, a-context, State, Kept, Written, row-of, zero-of-individual, zero-of-function}
+use Rattle.variable.specs.State.{ValueAt, some-terms, a-context, Written, row-of, zero-of-individual, zero-of-function}
 use Rattle.variable.proofs.Lists.{same-before}
-use Rattle.variable.proofs.States.{Put, put-both, state-more}
+use Rattle.variable.proofs.States.{put-both, state-more}
 use Rattle.walk.specs.Above.{Unchanged, Stands, before-terms, over-term}
 use Rattle.walk.specs.Cycle.{Needs}
 use Rattle.walk.specs.Onward.{Lands, at-terms, at-hole, ResumeAsked, ResumePre, ResumePost}

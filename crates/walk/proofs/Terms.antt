@@ -13,7 +13,7 @@ use Rattle.meaning.specs.Value.{ofFunction}
 use Rattle.meaning.specs.Record.{Entry}
 use Rattle.meaning.proofs.Laws.{rows-of, cut-plugs}
 use Rattle.meaning.proofs.Lists.{look-old}
-use Rattle.meaning.proofs.Walk.{Res, need, ok, when, andThen, meet, walkT, walkF}
+use Rattle.meaning.proofs.Walk.{Res, ok, when, andThen, meet, walkT, walkF}
 use Rattle.meaning.proofs.Resume.{Frame, at-context}
 use Rattle.tree.specs.Places.{TermsAt, Next}
 use Rattle.tree.proofs.Terms.{term-next, term-size}

@@ -6,20 +6,20 @@ use mathlib.Core.List.{List, [], _∷_}
 use lib.ListN.{length, getD}
 use native.Mathlib.Omega.{arith}
 use Rattle.meaning.specs.Forest.{Forest, Term}
-use Rattle.meaning.specs.Pattern.{Pattern, Patterns, Kind, GoodF, afterT, afterF}
+use Rattle.meaning.specs.Pattern.{Pattern, Patterns, Kind, GoodF, afterF}
 use Rattle.meaning.specs.Record.{Entry}
 use Rattle.meaning.proofs.Lists.{look-old}
 use Rattle.meaning.proofs.Complete.{after-geF}
-use Rattle.meaning.proofs.Walk.{Res, fail, ok, andThen, walkT, walkF}
+use Rattle.meaning.proofs.Walk.{Res, fail, ok, andThen, walkF}
 use Rattle.meaning.proofs.Resume.{Frame, frame, run, then-done}
 use Rattle.meaning.proofs.Next.{Any, any?}
 use Rattle.tree.specs.Places.{TermsAt}
 use Rattle.tree.proofs.Unique.{good-term}
 use Rattle.pattern.specs.Places.{PatternsAt, at-nil, at-cons, at-sequence}
 use Rattle.pattern.proofs.Placed.{good-placed}
-use Rattle.variable.specs.State.{State, Kept}
+use Rattle.variable.specs.State.{Kept}
 use Rattle.variable.proofs.States.{kept-same, kept-then}
-use Rattle.walk.specs.Above.{Marks, Marked, Unchanged, Behind, at-root, in-list, in-context}
+use Rattle.walk.specs.Above.{Marked, Unchanged, Behind, at-root, in-list, in-context}
 use Rattle.walk.specs.Cycle.{Needs, Agree, both-fail, both-need, both-ok, TermAsked, TermPre, TermPost, ListAsked, ListPre, ListPost}
 use Rattle.walk.specs.Onward.{UpAsked, UpPre, UpPost, Problem, BeginPre, BeginPost}
 use Rattle.walk.specs.declared.Out.{Out}

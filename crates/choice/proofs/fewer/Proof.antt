@@ -1,4 +1,4 @@
-use Prim.Native.Nat.{_≤_, _-_}
+use Prim.Native.Nat.{_-_}
 use native.Mathlib.Omega.{arith}
 use Rattle.choice.specs.Stops.{elsewhere}
 use Rattle.choice.proofs.Counts.{Leaving, leaving-all, leaving-next, leaving-more, leaving-there}

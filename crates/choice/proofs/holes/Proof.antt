@@ -1,4 +1,4 @@
-use Prim.Native.Nat.{_≤_, _-_}
+use Prim.Native.Nat.{_-_}
 use native.Mathlib.Omega.{arith}
 use Rattle.choice.specs.Runs.{HolesPost}
 use Rattle.choice.proofs.Runs.{holes-none, holes-more}

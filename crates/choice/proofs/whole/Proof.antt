@@ -1,6 +1,5 @@
 use native.Mathlib.Omega.{arith}
 use Rattle.choice.proofs.Runs.{whole-end, whole-pre, whole-past}
-use mathlib.Core.Path.{sym}
 use Rattle.choice.proofs.whole.Statement.{statement}
 use Rattle.choice.proofs.whole.Tie as tie
 

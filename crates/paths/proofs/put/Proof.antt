@@ -1,6 +1,5 @@
 use borrow.Author.Needs.{needs}
 use native.Mathlib.Omega.{arith}
-use lib.ListN.{length-set}
 use Rattle.paths.proofs.put.Statement.{statement}
 use Rattle.paths.proofs.put.Tie as tie
 

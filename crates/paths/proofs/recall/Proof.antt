@@ -1,7 +1,5 @@
 use borrow.Author.Needs.{needs}
-use native.Mathlib.Omega.{arith}
 use Rattle.paths.proofs.Read.{recall-rows, recall-again, recall-new}
-use lib.ListN.{length-set}
 use Rattle.paths.proofs.recall.Statement.{statement}
 use Rattle.paths.proofs.recall.Tie as tie
 

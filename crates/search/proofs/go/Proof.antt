@@ -1,6 +1,6 @@
 use Prim.Native.Nat.{_+_, _-_, _*_, _<_, _≤_}
 use native.Mathlib.Omega.{arith}
-use mathlib.Core.Path.{_≡_, refl}
+use mathlib.Core.Path.{_≡_}
 use lib.ListN.{length, getD, set}
 use Rattle.search.proofs.Turns.{Input, given, Placed, Going, Ready, Passing, Tried}
 use Rattle.search.proofs.Turns.{going-start, going-depth, going-long, going-back, going-end, going-ready, going-spent}
