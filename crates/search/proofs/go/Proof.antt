@@ -38,7 +38,7 @@ abbrev begun : tie.At-loop Inv-loop μ-loop → tie.Start Inv-loop μ-loop
 begun h = h .before .before .before .before .before
 
 abbrev head : tie.After-attempt Inv-loop μ-loop → tie.At-loop Inv-loop μ-loop
-head t = t .before .before .before .before .before .before .before .before .before .before .before .before
+head t = t .before .before .before .before .before .before .before .before .before .before .before .before .before
 
 -- a turn's out is as long as the one that was lent
 kept : (h : tie.At-loop Inv-loop μ-loop) → length (h .loop .out) ≡ length (begun h .args .out .now)
@@ -84,15 +84,15 @@ small c =
 -- a turn that has tried the level's next value
 tried : (c : tie.After-attempt Inv-loop μ-loop) →
     let l = head c .loop in
-    let depth = c .before .before .before .before .before .before .before .before .before .before .back .result in
-    let failed = c .before .before .before .before .before .skip .result .count in
+    let depth = c .before .before .before .before .before .before .before .before .before .before .before .back .result in
+    let failed = c .before .before .before .before .before .before .skip .result .count in
     Tried (input (begun (head c))) (l .out) (c .attempt .last .1 .1 .1 .1 .1 .1 .1 .1 .1 .1 .0) (c .attempt .last .1 .1 .1 .1 .1 .1 .1 .1 .1 .1 .1 .0) (l .places) (l .variables) (l .starts)
-    (set (l .rows) (depth - 1) (c .before .before .before .before .further .result)) (set (l .nexts) (depth - 1) (getD (l .nexts) (depth - 1) 0 + failed + 1)) (set (l .lefts) (depth - 1) (getD (l .lefts) (depth - 1) 0 - failed - 1))
-    depth (l .count) (l .tries + failed + 1) (c .before .before .before .before .before .skip .result .row) (getD (l .lefts) (depth - 1) 0 - failed - 1) (c .attempt .result)
-tried c = passed-tried (passing (c .before .before .before .before .before)) (c .before .before .before .before .further .ensures) (c .attempt .ensures .0)
+    (set (l .rows) (depth - 1) (c .before .before .before .before .before .further .result)) (set (l .nexts) (depth - 1) (getD (l .nexts) (depth - 1) 0 + failed + 1)) (set (l .lefts) (depth - 1) (getD (l .lefts) (depth - 1) 0 - failed - 1))
+    depth (l .count) (l .tries + failed + 1) (c .before .before .before .before .before .before .skip .result .row) (getD (l .lefts) (depth - 1) 0 - failed - 1) (c .attempt .result)
+tried c = passed-tried (passing (c .before .before .before .before .before .before)) (c .before .before .before .before .before .further .ensures) (c .attempt .ensures .0)
 
 -- the walk needs a choice: there is a place for one more level
-next-level : (c : tie.After-known-told Inv-loop μ-loop) → c .before .before .before .before .before .before .before .before .before .before .before .before .before .back .result < 16
+next-level : (c : tie.After-known-told Inv-loop μ-loop) → c .before .before .before .before .before .before .before .before .before .before .before .before .before .before .back .result < 16
 next-level c = need-fits (tried (c .before .before .before)) (c .before .p .given .1) (begun (head (c .before .before .before)) .pre)
 
 -- the walk is done, and there is room for the record
@@ -103,7 +103,7 @@ room-left : (c : tie.Else3 Inv-loop μ-loop) →
 room-left c = put-asked (tried (c .before .before .before)) (c .before .enum-told2 .given .1) (begun (head (c .before .before .before)) .pre) (c .if3 .left)
 
 loop-holds : tie.Need-loop-holds Inv-loop μ-loop
-loop-holds c = (going-start (c .before .before .before .before .pre), record { sequences = blank _ _ _ _ _ _ _ _; contexts = paths.blank refl refl })
+loop-holds c = (going-start (c .before .before .before .before .pre), record { sequences = blank _ _ _ _ _ _ _ _; contexts = paths.blank _ _ _ _ _ _ _ _ })
 
 back-requires : tie.Need-back-requires Inv-loop μ-loop
 back-requires c κs = (going-depth (c .before .loop .inv .0) (begun (c .before) .pre), c .before .loop .inv .0 .long .lefts-long)
@@ -232,7 +232,7 @@ array-read-attempt-3 : tie.Need-array-read-attempt-3 Inv-loop μ-loop
 array-read-attempt-3 c = omega (arith, small (c .before .before .before))
 
 attempt-requires : tie.Need-attempt-requires Inv-loop μ-loop
-attempt-requires c κs = (passed-asked (passing (c .before .before .before .before)), c .before .before .before .before .before .before .before .before .before .before .before .loop .inv .1)
+attempt-requires c κs = (passed-asked (passing (c .before .before .before .before .before)), c .before .before .before .before .before .before .before .before .before .before .before .before .loop .inv .1)
 
 enum-told : tie.Need-enum-told Inv-loop μ-loop
 enum-told c = search needs
@@ -256,10 +256,10 @@ array-write-nexts-2 : tie.Need-array-write-nexts-2 Inv-loop μ-loop
 array-write-nexts-2 c = omega (arith, next-level (c .before))
 
 mul-more-values : tie.Need-mul-more-values Inv-loop μ-loop
-mul-more-values c = omega (arith, small (c .before .before .before .before .before .before .before .before .before .before))
+mul-more-values c = omega (arith, small (c .before .before .before .before .before .before .before .before .before .before .before))
 
 array-read-more-values : tie.Need-array-read-more-values Inv-loop μ-loop
-array-read-more-values c = omega (arith, small (c .before .before .before .before .before .before .before .before .before .before))
+array-read-more-values c = omega (arith, small (c .before .before .before .before .before .before .before .before .before .before .before))
 
 more-values-requires : tie.Need-more-values-requires Inv-loop μ-loop
 more-values-requires c κs = more-asked (tried (c .before .before .before .before .before)) (c .before .before .before .p .given .1) (begun (head (c .before .before .before .before .before)) .pre)
@@ -302,7 +302,7 @@ loop-less-2 c = omega (arith, tried (c .before .before .before .before .before .
 
 loop-again-2 : tie.Need-loop-again-2 Inv-loop μ-loop
 loop-again-2 c = (
-  tried-need (tried (c .before .before .before .before .before .before)) (c .before .before .before .before .p .given .1) (c .before .before .least .ensures) (c .more-values .ensures) (begun (head (c .before .before .before .before .before .before)) .pre) (passing (c .before .before .before .before .before .before .before .before .before .before .before) .ready .some),
+  tried-need (tried (c .before .before .before .before .before .before)) (c .before .before .before .before .p .given .1) (c .before .before .least .ensures) (c .more-values .ensures) (begun (head (c .before .before .before .before .before .before)) .pre) (passing (c .before .before .before .before .before .before .before .before .before .before .before .before) .ready .some),
   c .before .before .before .before .before .before .attempt .ensures .1,
 )
 
