@@ -3,11 +3,11 @@
 #include "compare.h"
 
 static const group GROUPS[] = {
-    /* name, problems, shape, rows of values, tree and pattern, variables, rows of an expression, all candidates */
-    {"small problem", 3600, MIXED, 7, 9, 7, 4, 10, true},
-    {"larger problem", 1200, MIXED, 10, 24, 14, 7, 16, false},
-    {"wide problem", 150, WIDE, 16, 40, 6, 4, 64, false},
-    {"deep problem", 150, DEEP, 16, 40, 6, 4, 64, false},
+    /* name, problems, shape, favourite, rows of values, tree and pattern, variables, rows of an expression, all candidates */
+    {"small problem", 3600, MIXED, KINDS, 7, 9, 7, 4, 10, true},
+    {"larger problem", 1500, MIXED, KINDS, 10, 24, 14, 7, 16, false},
+    {"wide problem", 400, WIDE, SEQUENCE, 16, 40, 6, 4, 64, false},
+    {"deep problem", 400, DEEP, CONTEXT, 16, 40, 6, 4, 64, false},
 };
 
 /* How often a problem is damaged, and how often a record. */

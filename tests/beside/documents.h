@@ -55,4 +55,9 @@ void make_dictionary(chance *chance, bytes *out);
 /* Changes, adds or drops some bytes. */
 void damage_bytes(chance *chance, bytes *bytes);
 
+/* ---- Comparing ---- */
+
+/* The check, the reader and the spelling lookup on one dictionary and one document. */
+void compare_both(chance *chance, const bytes *dictionary, const bytes *document);
+
 #endif

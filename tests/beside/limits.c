@@ -23,15 +23,17 @@ static void put_pattern(rows *pattern, size_t count, bool deep, uint32_t kind, s
     }
 }
 
-/* Nested concatenations, ended by a letter: so many rows, which are odd in number. */
-static void put_expression(rows *table, size_t count) {
+/* Letters one after another, and a repetition around them where the rows are even in number. How many letters. */
+static size_t put_expression(rows *table, size_t count) {
+    size_t above = count % 2 == 0, letters = 0;
     table->kind.n = table->name.n = table->size.n = count;
     for (size_t row = 0; row < count; row++) {
-        bool letter = row % 2 == 1 || row + 1 == count;
-        table->kind.at[row] = letter ? LETTER : CONCATENATION;
-        table->name.at[row] = letter ? row % 3 : 0;
+        bool letter = row >= above && ((row - above) % 2 == 1 || row + 1 == count);
+        table->kind.at[row] = letter ? LETTER : row < above ? REPETITION : CONCATENATION;
+        table->name.at[row] = letter ? letters++ % 3 : 0;
         table->size.at[row] = letter ? 1 : count - row;
     }
+    return letters;
 }
 
 static void clear_constraints(problem *problem, size_t different) {
@@ -62,35 +64,44 @@ static void compare_shapes(chance *chance, problem *problem, list *record) {
         }
 }
 
+/* So many different variables of one kind, side by side or each around the next. */
+static void put_variables(problem *problem, uint32_t kind, size_t different) {
+    bool around = kind == CONTEXT;
+    put_tree(&problem->tree, kind == SEQUENCE || around ? 2 : different + 1, false);
+    put_pattern(&problem->pattern, different + 1 + around, around, kind, different);
+    if (around) problem->pattern.kind.at[different + 1] = SYMBOL;
+    if (around) problem->pattern.name.at[different + 1] = 1;
+    clear_constraints(problem, different);
+}
+
 static void compare_variables(chance *chance, problem *problem, list *record) {
     for (size_t different = 1; different <= VARIABLES + 1; different++)
-        for (uint32_t kind = INDIVIDUAL; kind <= FUNCTION; kind += 1) {
-            put_tree(&problem->tree, kind == SEQUENCE ? 2 : different + 1, false);
-            put_pattern(&problem->pattern, different + 1, false, kind, different);
-            clear_constraints(problem, different);
+        for (uint32_t kind = INDIVIDUAL; kind < KINDS; kind++) {
+            put_variables(problem, kind, different);
             record->n = 2 * different;
             for (size_t v = 0; v < different; v++) {
-                record->at[2 * v] = v == 0 || kind != SEQUENCE ? v + 1 : 2;
-                record->at[2 * v + 1] = v == 0 && kind == SEQUENCE;
+                record->at[2 * v] = kind == CONTEXT ? 1 : v == 0 || kind != SEQUENCE ? v + 1 : 2;
+                record->at[2 * v + 1] = kind == CONTEXT || (v == 0 && kind == SEQUENCE);
             }
             compare_all(chance, problem, record);
         }
 }
 
+/* The whole list of arguments is the word, or that without its last letter. */
 static void compare_expressions(chance *chance, problem *problem, list *record) {
-    for (size_t count = 1; count <= EXPRESSION_ROWS + 3; count += 2) {
-        put_tree(&problem->tree, 2 + count / 2, false);
-        for (size_t row = 1; row < problem->tree.label.n; row++) problem->tree.label.at[row] = (2 * row - 1) % 3;
-        put_pattern(&problem->pattern, 2, false, SEQUENCE, 1);
-        put_expression(&problem->expression, count);
-        if (count > 1) problem->tree.label.at[problem->tree.label.n - 1] = (count - 1) % 3;
-        clear_constraints(problem, 1);
-        problem->constraint.at[0] = 1;
-        record->n = 2;
-        record->at[0] = 1;
-        record->at[1] = problem->tree.size.n - 1;
-        compare_all(chance, problem, record);
-    }
+    put_pattern(&problem->pattern, 2, false, SEQUENCE, 1);
+    clear_constraints(problem, 1);
+    problem->constraint.at[0] = 1;
+    record->n = 2;
+    record->at[0] = 1;
+    for (size_t count = 1; count <= EXPRESSION_ROWS + 2; count++)
+        for (size_t less = 0; less < 2; less++) {
+            size_t letters = put_expression(&problem->expression, count);
+            put_tree(&problem->tree, letters + 1 - less, false);
+            for (size_t row = 1; row < problem->tree.label.n; row++) problem->tree.label.at[row] = (row - 1) % 3;
+            record->at[1] = letters - less;
+            compare_all(chance, problem, record);
+        }
 }
 
 /* Instances around the limit: a variable's value many times, below a symbol or around each other. */

@@ -26,12 +26,13 @@ typedef struct {
     const char *name;
     uint32_t problems;
     enum shape shape;
-    uint32_t value_rows;    /* of the tree that values are taken from, at most */
-    uint32_t tree_rows;     /* at most */
-    uint32_t pattern_rows;  /* at most */
-    uint32_t variables;     /* at most */
-    uint32_t expression_rows; /* of one expression, at most */
-    bool all_candidates;    /* are all records gone through, or only those that tries reach? */
+    uint32_t favourite;       /* the kind that half of a pattern's rows get, or KINDS for one by chance */
+    uint32_t value_rows;      /* of the tree that values are taken from, at most */
+    uint32_t tree_rows;       /* at most, as all below */
+    uint32_t pattern_rows;
+    uint32_t variables;
+    uint32_t expression_rows; /* of one expression */
+    bool all_candidates;      /* are all records gone through, or only those that tries reach? */
 } group;
 
 /* The labels of a problem: so many, from a first one on. */

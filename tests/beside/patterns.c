@@ -62,7 +62,8 @@ static void put_term(maker *m, bool in_list) {
 }
 
 void make_pattern(chance *chance, const group *group, alphabet alphabet, rows *out) {
-    maker m = {chance, group, alphabet, out, between(chance, 1, group->pattern_rows), draw(chance, KINDS), 0, {0}};
+    uint32_t favourite = group->favourite == KINDS ? draw(chance, KINDS) : group->favourite;
+    maker m = {chance, group, alphabet, out, between(chance, 1, group->pattern_rows), favourite, 0, {0}};
     out->kind.n = 0;
     put_term(&m, false);
 }

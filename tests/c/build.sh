@@ -19,29 +19,39 @@ reach() {
   done
 }
 
+# The archive of the crates in the folder $1.
 archive() {
   local words=() crate
   reach site
-  for crate in $reached; do words+=(--lib "$crate=crates/$crate/src/lib.rt"); done
-  "$on/bin/rattle-cases" --toolchain "$tools" --staticlib "$out/libsite.a" crates/site/src/lib.rt --crate-name site \
+  for crate in $reached; do words+=(--lib "$crate=$1/$crate/src/lib.rt"); done
+  "$on/bin/rattle-cases" --toolchain "$tools" --staticlib "$out/libsite.a" "$1/site/src/lib.rt" --crate-name site \
     --lib "std=$kit/libs/std/src/lib.rt" "${words[@]}"
 }
 
-# C files to the program $1. The kit has a C library and no headers, so those of tests/c/kit stand in.
-program() {
-  local name=$1 file objects=()
+# C files to the objects of the program $1. The kit has a C library and no headers, so those of tests/c/kit stand in.
+compile() {
+  local name=$1 file
   shift
   for file in "$@"; do
-    objects+=("$out/$name.$(basename "$file" .c).o")
     "$tools/bin/clang" --target=$target --no-default-config -nostdinc -isystem tests/c/kit -I include -std=c11 -Wall -Wextra -Werror \
-      -O2 -fPIE -c "$file" -o "${objects[-1]}"
+      -O2 -fPIE -c "$file" -o "$out/$name.$(basename "$file" .c).o"
   done
-  "$on/bin/rattle-link" --target $target --toolchain "$tools" -o "$out/$name" "${objects[@]}" "$out/libsite.a" 2>"$out/$name.log" ||
-    { cat "$out/$name.log" >&2; return 1; }
 }
 
+link_with_archive() {
+  "$on/bin/rattle-link" --target $target --toolchain "$tools" -o "$out/$1" "$out/$1".*.o "$out/libsite.a" 2>"$out/$1.log" ||
+    { cat "$out/$1.log" >&2; return 1; }
+}
+
+program() {
+  compile "$@"
+  link_with_archive "$1"
+}
+
+# Runs a program; `limit` may hold a command that ends it after some time.
+limit=
 execute() {
   local emulator=$tools/bin/qemu-x86_64
   [ -x "$emulator" ] || emulator=
-  ${emulator:+"$emulator"} "$tools/lib/ld-linux-x86-64.so.2" --library-path "$tools/lib" "$out/$1"
+  $limit ${emulator:+"$emulator"} "$tools/lib/ld-linux-x86-64.so.2" --library-path "$tools/lib" "$out/$1"
 }
