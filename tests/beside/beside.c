@@ -30,28 +30,23 @@ static void compare_listed(chance *chance, const problem *problem, const listing
     for (size_t number = 0; number < all->records && number < 20; number++) {
         for (size_t k = 0; k < record.n; k++) record.at[k] = all->record[number][k];
         compare_rooms(problem, &record);
-        compare_record(chance, problem, &record, TEST, INSTANCE);
+        compare_record(chance, problem, ACCEPTED, &record, TEST, INSTANCE);
         for (size_t k = 0; k < record.n; k++) {
             record.at[k] += one_in(chance, 2) ? 1 : -1;
-            compare_record(chance, problem, &record, TEST, INSTANCE);
+            compare_record(chance, problem, ACCEPTED, &record, TEST, INSTANCE);
             record.at[k] = all->record[number][k];
         }
     }
 }
 
-static void compare_damaged(chance *chance, const problem *whole) {
+static void compare_damages(chance *chance, const problem *whole) {
     static problem damaged;
-    static listing all;
     static list record;
     for (size_t k = 0; k < DAMAGES; k++) {
         damaged = *whole;
         make_record(chance, &whole->tree, &whole->pattern, &record);
         for (uint32_t many = between(chance, 1, 3); many > 0; many--) damage(chance, &damaged, &record);
-        all.too_long = false;
-        if (code_of_problem(&damaged) == ACCEPTED) list_all(&damaged, &all);
-        if (all.too_long || all.records * 2 * VARIABLES > 64) continue;
-        compare_damaged_list(&damaged, &all);
-        compare_record(chance, &damaged, &record, DAMAGED_TEST, DAMAGED_INSTANCE);
+        compare_damaged(chance, &damaged, &record);
     }
 }
 
@@ -66,7 +61,7 @@ static void compare_problem(chance *chance, const group *group, uint32_t number)
     if (group->all_candidates) compare_candidates(chance, &problem, &all);
     compare_listed(chance, &problem, &all);
     compare_lists(chance, &problem, &all);
-    compare_damaged(chance, &problem);
+    compare_damages(chance, &problem);
     if (group->all_candidates) compare_documents(chance, &problem.tree, number);
 }
 

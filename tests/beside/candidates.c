@@ -64,8 +64,7 @@ void compare_candidates(chance *chance, const problem *problem, const listing *a
     record.n = 2 * variables(&problem->pattern);
     for (size_t k = 0; k < many; k++) {
         put_record(&candidates, k, &record);
-        compare_record(chance, problem, &record, TEST, INSTANCE);
-        if (!good_record(problem, &record) || !is_matcher(problem, record.at)) continue;
+        if (!compare_record(chance, problem, ACCEPTED, &record, TEST, INSTANCE)) continue;
         same = same && found < all->records && is_record(all, found, &record);
         found++;
     }

@@ -145,9 +145,3 @@ bool good_record(const problem *problem, const list *record) {
         if (!good_pair(&problem->tree.size, kind_of(&problem->pattern, k / 2), record->at[k], record->at[k + 1])) return false;
     return true;
 }
-
-uint32_t code_of_making(const problem *problem, const list *record) {
-    if (!good_tree(&problem->tree)) return BAD_TREE;
-    if (!good_pattern(&problem->pattern)) return BAD_PATTERN;
-    return good_record(problem, record) ? ACCEPTED : BAD_RECORD;
-}

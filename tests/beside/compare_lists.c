@@ -5,7 +5,8 @@
 enum {
     OUT = MOST_RECORDS * 2 * VARIABLES + 64,
     MOST_PAIRS = 300, /* up to so many pairs of a room and a budget all are compared */
-    MANY = 60         /* of more rooms or budgets than these not all are */
+    MANY = 60,        /* of more rooms or budgets than these not all are */
+    DAMAGED_ROOM = 64
 };
 
 #define UNLIMITED 4294967295u
@@ -82,15 +83,20 @@ void compare_lists(chance *chance, const problem *problem, const listing *all) {
     else compare_borders(chance, problem, all);
 }
 
-void compare_damaged_list(const problem *problem, const listing *all) {
-    static uint32_t out[64 + BEYOND];
-    uint32_t code = code_of_problem(problem);
-    if (code == ACCEPTED) {
-        compare_list(problem, all, 64, UNLIMITED, DAMAGED_LIST);
-        return;
-    }
-    mark(out, 64 + BEYOND);
-    khargovsun_listing got = call_list(problem, UNLIMITED, out, 64);
-    compare(DAMAGED_LIST, got.code == code && got.ending == 0 && got.records == 0 && got.tries == 0 && begins_with(out, 64 + BEYOND, NULL, 0));
+static void compare_refused_list(const problem *problem, uint32_t code) {
+    static uint32_t out[DAMAGED_ROOM + BEYOND];
+    mark(out, DAMAGED_ROOM + BEYOND);
+    khargovsun_listing got = call_list(problem, UNLIMITED, out, DAMAGED_ROOM);
+    bool zeros = got.ending == 0 && got.records == 0 && got.tries == 0;
+    compare(DAMAGED_LIST, got.code == code && zeros && begins_with(out, DAMAGED_ROOM + BEYOND, NULL, 0));
     count_code(code);
+}
+
+void compare_damaged(chance *chance, const problem *problem, const list *record) {
+    static listing all;
+    uint32_t code = code_of_problem(problem);
+    if (code == ACCEPTED) list_all(problem, &all);
+    if (code != ACCEPTED) compare_refused_list(problem, code);
+    else if (!all.too_long) compare_list(problem, &all, DAMAGED_ROOM, UNLIMITED, DAMAGED_LIST);
+    compare_record(chance, problem, code, record, DAMAGED_TEST, DAMAGED_INSTANCE);
 }

@@ -2,10 +2,7 @@
 #include "calls.h"
 #include "compare.h"
 
-static void compare_test(const problem *problem, const list *record, enum comparison what) {
-    uint32_t code = code_of_problem(problem);
-    if (code == ACCEPTED && !good_record(problem, record)) code = BAD_RECORD;
-    uint32_t yes = code == ACCEPTED && is_matcher(problem, record->at);
+static void compare_test(const problem *problem, const list *record, uint32_t code, bool yes, enum comparison what) {
     khargovsun_testing got = call_test(problem, record);
     compare(what, got.code == code && got.yes == yes);
     count_code(code);
@@ -41,13 +38,19 @@ static size_t some_room(chance *chance, size_t rows) {
     return one_in(chance, 6) ? draw(chance, rows + 1) : rows + draw(chance, 3);
 }
 
-void compare_record(chance *chance, const problem *problem, const list *record, enum comparison test, enum comparison making) {
+bool compare_record(chance *chance, const problem *problem, uint32_t code, const list *record, enum comparison test,
+                    enum comparison making) {
     static instance built;
-    uint32_t code = code_of_making(problem, record);
+    bool bad_lists = code == BAD_TREE || code == BAD_PATTERN;
+    uint32_t code_of_record = bad_lists || good_record(problem, record) ? ACCEPTED : BAD_RECORD;
     built.rows = 0;
-    if (code == ACCEPTED) build(&problem->tree, &problem->pattern, record->at, &built);
-    compare_test(problem, record, test);
-    compare_making(problem, record, code, &built, some_room(chance, built.rows), some_room(chance, built.rows), making);
+    if (!bad_lists && code_of_record == ACCEPTED) build(&problem->tree, &problem->pattern, record->at, &built);
+    uint32_t code_of_test = code != ACCEPTED ? code : code_of_record;
+    bool yes = code_of_test == ACCEPTED && is_matcher(problem, record->at, &built);
+    compare_test(problem, record, code_of_test, yes, test);
+    compare_making(problem, record, bad_lists ? code : code_of_record, &built, some_room(chance, built.rows),
+                   some_room(chance, built.rows), making);
+    return yes;
 }
 
 void compare_rooms(const problem *problem, const list *record) {

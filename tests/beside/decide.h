@@ -9,9 +9,6 @@
 /* The lowest code of 11 to 14, or 0. */
 uint32_t code_of_problem(const problem *problem);
 
-/* The lowest code of 11, 12 and 15, or 0: what the instance maker looks at, but for the size of what it makes. */
-uint32_t code_of_making(const problem *problem, const list *record);
-
 /* Is the record good? The tree and the pattern have to be. */
 bool good_record(const problem *problem, const list *record);
 
@@ -49,8 +46,8 @@ bool is_tree(const instance *instance, const tree *tree);
 
 /* ---- Matchers, and the list of them ---- */
 
-/* Is the good record a matcher's? */
-bool is_matcher(const problem *problem, const uint32_t *record);
+/* Is the good record a matcher's? The instance is that of the pattern under it. */
+bool is_matcher(const problem *problem, const uint32_t *record, const instance *under);
 
 enum { MOST_RECORDS = 1500, MOST_TRIES = 6000 };
 

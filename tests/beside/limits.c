@@ -41,14 +41,6 @@ static void clear_constraints(problem *problem, size_t different) {
     for (size_t k = 0; k < 2 * different; k++) problem->constraint.at[k] = 0;
 }
 
-/* Compares all three functions on the problem, with one record. */
-static void compare_all(chance *chance, const problem *problem, const list *record) {
-    static listing all;
-    if (code_of_problem(problem) == ACCEPTED) list_all(problem, &all);
-    compare_damaged_list(problem, &all);
-    compare_record(chance, problem, record, DAMAGED_TEST, DAMAGED_INSTANCE);
-}
-
 /* Patterns that are their trees, around the limits of rows and depth. */
 static void compare_shapes(chance *chance, problem *problem, list *record) {
     static const size_t COUNT[] = {1, 2, DEPTH, DEPTH + 1, PATTERN_ROWS, PATTERN_ROWS + 1, TREE_ROWS, TREE_ROWS + 1};
@@ -60,7 +52,7 @@ static void compare_shapes(chance *chance, problem *problem, list *record) {
             size_t count = COUNT[k] <= PATTERN_ROWS + 1 ? COUNT[k] : 1;
             put_tree(&problem->tree, COUNT[k], deep & 1);
             put_pattern(&problem->pattern, count, deep & 2, SYMBOL, 0);
-            compare_all(chance, problem, record);
+            compare_damaged(chance, problem, record);
         }
 }
 
@@ -83,7 +75,7 @@ static void compare_variables(chance *chance, problem *problem, list *record) {
                 record->at[2 * v] = kind == CONTEXT ? 1 : v == 0 || kind != SEQUENCE ? v + 1 : 2;
                 record->at[2 * v + 1] = kind == CONTEXT || (v == 0 && kind == SEQUENCE);
             }
-            compare_all(chance, problem, record);
+            compare_damaged(chance, problem, record);
         }
 }
 
@@ -100,7 +92,7 @@ static void compare_expressions(chance *chance, problem *problem, list *record) 
             put_tree(&problem->tree, letters + 1 - less, false);
             for (size_t row = 1; row < problem->tree.label.n; row++) problem->tree.label.at[row] = (row - 1) % 3;
             record->at[1] = letters - less;
-            compare_all(chance, problem, record);
+            compare_damaged(chance, problem, record);
         }
 }
 
@@ -122,7 +114,7 @@ static void compare_instances(chance *chance, problem *problem, list *record) {
                 record->at[0] = kind == SEQUENCE;
                 record->at[1] = kind == SEQUENCE || kind == CONTEXT ? SIZES[k].tree_rows - 1 : 0;
                 if (more > 0) record->at[1] -= is_choice(kind);
-                compare_record(chance, problem, record, DAMAGED_TEST, DAMAGED_INSTANCE);
+                compare_damaged(chance, problem, record);
             }
 }
 

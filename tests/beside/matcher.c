@@ -8,10 +8,8 @@ static bool in_place(const rows *pattern, const uint32_t *record, const instance
     return true;
 }
 
-bool is_matcher(const problem *problem, const uint32_t *record) {
-    static instance under;
-    build(&problem->tree, &problem->pattern, record, &under);
-    if (!is_tree(&under, &problem->tree) || !in_place(&problem->pattern, record, &under)) return false;
+bool is_matcher(const problem *problem, const uint32_t *record, const instance *under) {
+    if (!is_tree(under, &problem->tree) || !in_place(&problem->pattern, record, under)) return false;
     for (uint32_t v = 0; v < variables(&problem->pattern); v++)
         if (!obeys(problem, record, v)) return false;
     return true;
@@ -64,7 +62,8 @@ static void reach(walk *w) {
     listing *out = w->out;
     size_t numbers = 2 * variables(&w->problem->pattern);
     if (!is_reached(w, PATTERN_ROWS)) return;
-    if (!is_matcher(w->problem, w->record)) return;
+    build(&w->problem->tree, &w->problem->pattern, w->record, &w->under);
+    if (!is_matcher(w->problem, w->record, &w->under)) return;
     if (out->records == MOST_RECORDS) {
         out->too_long = true;
         return;
