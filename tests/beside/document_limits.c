@@ -6,19 +6,19 @@ static void repeat(bytes *to, const char *text, size_t times) {
     for (size_t k = 0; k < times; k++) append(to, text);
 }
 
-/* An element of this depth inside of others, with a text in it or not. */
-static void nest(bytes *to, size_t depth, const char *text) {
+/* An element of this depth inside of others, and what stands in it. */
+static void nest(bytes *to, size_t depth, const char *inside) {
     to->n = 0;
     repeat(to, "<a>", depth);
-    append(to, text);
+    append(to, inside);
     repeat(to, "</a>", depth);
 }
 
 static void compare_depths(chance *chance, const bytes *dictionary, bytes *document) {
-    static const char *const TEXTS[] = {"", " ", "b"};
+    static const char *const INSIDE[] = {"", " ", "b", "<b/>", "<b></b>"};
     for (size_t depth = DEPTH - 2; depth <= DEPTH + 2; depth++)
-        for (size_t text = 0; text < 3; text++) {
-            nest(document, depth, TEXTS[text]);
+        for (size_t k = 0; k < sizeof INSIDE / sizeof *INSIDE; k++) {
+            nest(document, depth, INSIDE[k]);
             compare_both(chance, dictionary, document);
             append_byte(document, '<');
             compare_both(chance, dictionary, document);
