@@ -5,9 +5,10 @@
 static const group GROUPS[] = {
     /* name, problems, shape, favourite, rows of values, tree and pattern, variables, rows of an expression, all candidates */
     {"small problem", 3600, MIXED, KINDS, 7, 9, 7, 4, 10, true},
-    {"larger problem", 1500, MIXED, KINDS, 10, 24, 14, 7, 16, false},
+    {"larger problem", 4000, MIXED, KINDS, 10, 24, 14, 7, 16, false},
     {"wide problem", 400, WIDE, SEQUENCE, 16, 40, 6, 4, 64, false},
     {"deep problem", 400, DEEP, CONTEXT, 16, 40, 6, 4, 64, false},
+    {"chain", 3000, DEEP, SEQUENCE, 6, 12, 5, 4, 6, false},
 };
 
 /* How often a problem is damaged, and how often a record. */

@@ -102,7 +102,7 @@ static void put_covering(maker *m, const uint32_t *word, size_t letters, size_t 
 
 /* The first row plus one of a new expression for the value. */
 static uint32_t new_expression(maker *m, const group *group, const uint32_t *word, size_t letters) {
-    size_t row = m->out->kind.n, most = between(m->chance, group->shape == MIXED ? 1 : EXPRESSION_ROWS / 2, group->expression_rows);
+    size_t row = m->out->kind.n, most = between(m->chance, 1 + group->expression_rows / 16, group->expression_rows);
     if (most > EXPRESSION_ROWS - row) most = EXPRESSION_ROWS - row;
     if (one_in(m->chance, 3)) put_any(m, most);
     else put_covering(m, word, letters, most);

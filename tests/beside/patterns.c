@@ -36,7 +36,7 @@ static uint32_t any_kind(maker *m) {
 static uint32_t fitting_kind(maker *m, bool in_list) {
     size_t row = m->out->kind.n;
     uint32_t kind = any_kind(m);
-    if (kind == SEQUENCE && !in_list) kind = row == 0 ? SYMBOL : INDIVIDUAL;
+    if (kind == SEQUENCE && !in_list) kind = one_in(m->chance, 2) ? SYMBOL : FUNCTION;
     if (kind == CONTEXT && row + 1 >= m->wanted) kind = INDIVIDUAL;
     if (kind == INDIVIDUAL && row == 0 && !one_in(m->chance, 16)) kind = FUNCTION;
     return kind;
