@@ -1,4 +1,4 @@
-/* Documents and dictionaries at the limits, and one beyond. */
+/* The rules' own documents, and documents and dictionaries at the limits and one beyond. */
 #include "compare.h"
 #include "documents.h"
 
@@ -98,10 +98,23 @@ static void compare_dictionaries(chance *chance, bytes *dictionary, bytes *docum
     }
 }
 
+static void compare_examples(chance *chance, bytes *dictionary, bytes *document) {
+    static const char *const EXAMPLES[] = {
+        "<g><f>a</f><f/>a</g>", "<g>", "<g></f>", "<g></gh>", "<g/><g/>", "<g>]]></g>", "", "<q/>",
+    };
+    dictionary->n = 0;
+    append(dictionary, "g\nf\nh\na\nb\n");
+    for (size_t k = 0; k < sizeof EXAMPLES / sizeof *EXAMPLES; k++) {
+        document->n = 0;
+        append(document, EXAMPLES[k]);
+        compare_both(chance, dictionary, document);
+    }
+}
+
 void compare_document_limits(chance *chance) {
     static bytes dictionary, document;
     set_case("document at a limit", 0, NULL);
-    append(&dictionary, "b\na\n");
+    compare_examples(chance, &dictionary, &document);
     compare_depths(chance, &dictionary, &document);
     compare_rows(chance, &dictionary, &document);
     compare_lengths(chance, &dictionary, &document);

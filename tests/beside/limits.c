@@ -100,20 +100,21 @@ static void compare_expressions(chance *chance, problem *problem, list *record) 
 static void compare_instances(chance *chance, problem *problem, list *record) {
     static const struct {
         size_t tree_rows, times;
-    } SIZES[] = {{23, 89}, {89, 23}, {8, 255}, {9, 227}, {9, 228}, {2047, 1}, {2048, 1}, {1024, 2}, {63, 33}};
+    } SIZES[] = {{23, 89}, {89, 23}, {8, 255}, {9, 227}, {9, 228}, {2047, 1}, {2048, 1}, {1024, 2},
+                 {63, 33}, {24, 89}, {90, 23}, {2048, 2}, {40, 53}};
     problem->expression.kind.n = problem->expression.name.n = problem->expression.size.n = 0;
     clear_constraints(problem, 1);
     record->n = 2;
     for (size_t k = 0; k < sizeof SIZES / sizeof *SIZES; k++)
         for (uint32_t kind = INDIVIDUAL; kind < KINDS; kind++)
-            for (size_t more = 0; more < 3; more++) {
-                size_t rows = SIZES[k].times + 1 <= DEPTH - 1 || kind != CONTEXT ? SIZES[k].times + 1 : DEPTH - 1;
+            for (uint32_t less = 0; less < 2; less++) {
+                bool around = kind == CONTEXT;
+                size_t rows = around && SIZES[k].times >= DEPTH ? DEPTH : SIZES[k].times + 1;
                 put_tree(&problem->tree, SIZES[k].tree_rows, false);
-                put_pattern(&problem->pattern, rows, kind == CONTEXT, kind, 1);
-                if (kind == CONTEXT) problem->pattern.kind.at[rows - 1] = SYMBOL;
+                put_pattern(&problem->pattern, rows, around, kind, 1);
+                if (around) problem->pattern.kind.at[rows - 1] = SYMBOL;
                 record->at[0] = kind == SEQUENCE;
-                record->at[1] = kind == SEQUENCE || kind == CONTEXT ? SIZES[k].tree_rows - 1 : 0;
-                if (more > 0) record->at[1] -= is_choice(kind);
+                record->at[1] = is_choice(kind) ? SIZES[k].tree_rows - 1 - less : 0;
                 compare_damaged(chance, problem, record);
             }
 }
