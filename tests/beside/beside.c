@@ -11,8 +11,11 @@ static const group GROUPS[] = {
     {"chain", 3000, DEEP, SEQUENCE, 6, 12, 5, 4, 6, false},
 };
 
-/* How often a problem is damaged, and how often a record. */
-enum { DAMAGES = 6, SEED = 2026 };
+enum {
+    SEED = 2026,
+    DAMAGES = 6, /* of each problem */
+    LISTED = 20  /* so many records of a list are tested and made with every room */
+};
 
 /* Would the problem have more records without its constraints? */
 static bool constraint_excludes(const problem *whole, const listing *all) {
@@ -28,7 +31,7 @@ static bool constraint_excludes(const problem *whole, const listing *all) {
 static void compare_listed(chance *chance, const problem *problem, const listing *all) {
     static list record;
     record.n = 2 * variables(&problem->pattern);
-    for (size_t number = 0; number < all->records && number < 20; number++) {
+    for (size_t number = 0; number < all->records && number < LISTED; number++) {
         for (size_t k = 0; k < record.n; k++) record.at[k] = all->record[number][k];
         compare_rooms(problem, &record);
         compare_record(chance, problem, ACCEPTED, &record, TEST, INSTANCE);

@@ -48,8 +48,8 @@ bool compare_record(chance *chance, const problem *problem, uint32_t code, const
     uint32_t code_of_test = code != ACCEPTED ? code : code_of_record;
     bool yes = code_of_test == ACCEPTED && is_matcher(problem, record->at, &built);
     compare_test(problem, record, code_of_test, yes, test);
-    compare_making(problem, record, bad_lists ? code : code_of_record, &built, some_room(chance, built.rows),
-                   some_room(chance, built.rows), making);
+    size_t labels = some_room(chance, built.rows), sizes = some_room(chance, built.rows);
+    compare_making(problem, record, bad_lists ? code : code_of_record, &built, labels, sizes, making);
     return yes;
 }
 
