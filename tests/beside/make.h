@@ -49,7 +49,7 @@ void make_pattern(chance *chance, const group *group, alphabet alphabet, rows *o
 /* A good record of the pattern on any tree. */
 void make_record(chance *chance, const tree *tree, const rows *pattern, list *out);
 
-/* Expressions and constraints. Half of the constraints hold for the values that the record has on the tree. */
+/* Expressions and constraints. Most constraints are made so that they hold for the values that the record has on the tree. */
 void make_constraints(chance *chance, const group *group, alphabet alphabet, const tree *values, const list *record, problem *out);
 
 /* The tree is the pattern under some record, or that with a row altered, or another tree. */
