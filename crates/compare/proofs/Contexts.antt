@@ -3,11 +3,12 @@ use Prim.Native.Nat.{ℕ, _+_, _<_, _≤_}
 use mathlib.Core.Path.{_≡_, refl, ap, _∙_, sym}
 use mathlib.Core.Logic.{_≢_}
 use mathlib.Core.List.{List}
+use lib.ListN.{length, getD}
 use native.Mathlib.Omega.{arith}
 use Rattle.meaning.specs.Forest.{Forest, Term, term, Context, hole, node, plug, holeRow}
 use Rattle.tree.specs.Places.{TermAt, Level, ContextAt, at-hole, at-node}
 use Rattle.tree.specs.Helpers.{ChildPre, ChildPost}
-use Rattle.tree.proofs.Terms.{terms-le}
+use Rattle.tree.proofs.Terms.{terms-le, term-next}
 use Rattle.tree.proofs.Ways.{context-le, hole-here}
 use Rattle.compare.proofs.Levels.{same-behind}
 use Rattle.compare.specs.Appear.{Fits, misfit, fitting, LevelPre, LevelPost, FitsPre, FitsPost}
@@ -35,6 +36,10 @@ under : (l : ℕ) (left : Forest) (c : Context) (right : Forest) (U : Term) → 
 unfolding plug
 under l left c right U = refl
 
+node-label : (l : ℕ) (left : Forest) (c : Context) (right : Forest) (U : Term) → l ≡ plug (node l left c right) U .label
+unfolding plug
+node-label l left c right U = refl
+
 same-child : (l : ℕ) (left right : Forest) (U W : Term) → plug (node l left hole right) U ≡ plug (node l left hole right) W → U ≡ W
 unfolding plug
 same-child l left right U W e = same-behind left U W right right (ap (λ (T : Term). T .args) e) .0
@@ -43,17 +48,22 @@ hole-under : (l : ℕ) (left : Forest) (c : Context) (right : Forest) (t : ℕ) 
 unfolding holeRow
 hole-under l left c right t = omega arith
 
--- a context that is more than its hole
-record Node (c : Context) : Type 0 where
+-- a context that is more than its hole, from row a on
+record Node (L : List ℕ) (a : ℕ) (c : Context) : Type 0 where
   label : ℕ
+  labelled : getD L a 0 ≡ label
   left : Forest
   inner : Context
   right : Forest
   is : c ≡ node label left inner right
 
-as-node : {L S : List ℕ} {a b : ℕ} {c : Context} → ContextAt L S a b c → a ≢ b → Node c
+as-node : {L S : List ℕ} {a b : ℕ} {c : Context} → ContextAt L S a b c → a ≢ b → Node L a c
 as-node (at-hole n e) f = absurd (f e)
-as-node (at-node {l = l} {left = left} {right = right} {c = d} x p q k) f = record { label = l; left = left; inner = d; right = right; is = refl }
+as-node (at-node {l = l} {left = left} {right = right} {c = d} x p q k) f = record { label = l; labelled = x .label; left = left; inner = d; right = right; is = refl }
+
+context-row : {L S : List ℕ} {a b : ℕ} {c : Context} → ContextAt L S a b c → a < length L
+context-row (at-hole n e) = n .labelled
+context-row (at-node x p q k) = x .here .labelled
 
 at-fits : {L S : List ℕ} {t h : ℕ} {c : Context} {T : Term} → Fits L S t c T (found.At h) → (U : Term) × (plug c U ≡ T) × (h ≡ t + holeRow c) × TermAt L S h (U .label) (U .args)
 at-fits (fitting U e r T) = (U, e, r, T)
@@ -78,19 +88,33 @@ module _ {L S : List ℕ} {a₀ b t₀ a t : ℕ} (fitted : Fitted L S a₀ b t�
             fitting {h = t} (w .part) (w .back (w .part) (ap (λ (d : Context). plug d (w .part)) h)) (omega (arith, w .hole-row, ap holeRow h)) (w .there);
       }
 
+  pub fitted-rows : FitsPre L S a₀ b t₀ → (a < length L) × (t < length L)
+  fitted-rows p = (context-row (whole p .here), term-next (whole p .there) .labelled)
+
+  pub fitted-labels : {x y : ℕ} → a ≢ b → x ≡ getD L a 0 → y ≡ getD L t 0 → x ≢ y → FitsPost L S a₀ b t₀ found.Fail
+  fitted-labels f ex ey g =
+      record {
+        is = λ c m us x T.
+            let w = fitted .is c m us x T in
+            let n = as-node (w .here) f in
+            misfit λ U e.
+            let z = node-label (n .label) (n .left) (n .inner) (n .right) U ∙ ap (λ (W : Term). W .label) (ap (λ (d : Context). plug d U) (sym (n .is)) ∙ w .forth U e) in
+            g (omega (arith, z, n .labelled, w .there .row .label));
+      }
+
   module _ {u : ℕ} (f : a ≢ b) (child : ChildPost S a b u) where
     -- the level that is compared next, and the context below it
-    next-level : {c : Context} {T : Term} (w : Left L S a b t t₀ c T) → (n : Node (w .inner)) × Level L S a u (n .label) (n .left) (n .right) × ContextAt L S u b (n .inner)
+    next-level : {c : Context} {T : Term} (w : Left L S a b t t₀ c T) → (n : Node L a (w .inner)) × Level L S a u (n .label) (n .left) (n .right) × ContextAt L S u b (n .inner)
     next-level w =
         let n = as-node (w .here) f in
         let x = child .is L (n .label) (n .left) (n .inner) (n .right) (rw (n .is) at (w .here)) in
         (n, x .0, x .1)
 
-    pub fitted-level-pre : FitsPre L S a₀ b t₀ → LevelPre L S a u t
-    fitted-level-pre p =
+    pub fitted-level-pre : {x y : ℕ} → x ≡ getD L a 0 → y ≡ getD L t 0 → x ≡ y → FitsPre L S a₀ b t₀ → LevelPre L S a u t
+    fitted-level-pre ex ey label p =
         let w = whole p in
         let n = next-level w in
-        record { here = (n .0 .label, n .0 .left, n .0 .right, n .1); there = (w .part .label, w .part .args, w .there) }
+        record { label = omega arith; here = (n .0 .label, n .0 .left, n .0 .right, n .1); there = (w .part .label, w .part .args, w .there) }
 
     pub fitted-less : FitsPre L S a₀ b t₀ → (a < u) × (u ≤ b)
     fitted-less p =

@@ -1,7 +1,6 @@
 -- One level of a context against a term.
 use Prim.Native.Nat.{ℕ, _+_, _-_, _<_, _≤_}
 use mathlib.Core.Path.{_≡_, ap, _∙_, sym}
-use mathlib.Core.Logic.{_≢_}
 use mathlib.Core.Bool.{Bool, true, false}
 use mathlib.Core.List.{List}
 use lib.ListN.{length, getD}
@@ -40,10 +39,6 @@ module _ {L S : List ℕ} {a u t : ℕ} where
 
   pub level-below : LevelPre L S a u t → (a < u) × (u < length L) × (u < length S)
   level-below p = let d = p .here .3 in (omega (arith, terms-le (d .before)), d .there .labelled, d .there .sized)
-
-  pub level-labels : {x y : ℕ} → x ≡ getD L a 0 → y ≡ getD L t 0 → x ≢ y → LevelPost L S a u t found.Fail
-  level-labels ex ey f =
-      record { is = λ l left right m us d T. misfit λ U e. f (omega (arith, fits-args left right U e .0, d .label, T .row .label)) }
 
   -- where the child of the level stands in the term
   module _ {v e : ℕ} (ev : v ≡ t + (u - a)) (ee : e ≡ t + getD S t 0) where
@@ -105,7 +100,7 @@ module _ {L S : List ℕ} {a u t : ℕ} where
               let b = begun (p .here .3) (p .there .2) in
               record { here = (p .here .2, rw (eu, ea) (p .here .3 .after)); there = (b .1, rw en (b .4)) }
 
-          module _ {y x : ℕ} (ex : x ≡ getD L a 0) (ey : y ≡ getD L t 0) (label : x ≡ y) {s : Bool} (alike : AlikePost L S nu na nv e s) where
+          module _ (label : getD L a 0 ≡ getD L t 0) {s : Bool} (alike : AlikePost L S nu na nv e s) where
             pub level-at : s ≡ true → LevelPost L S a u t (found.At v)
             unfolding holeRow
             level-at g =

@@ -1,3 +1,4 @@
 pub mod Stretches
+pub mod Sequences
 pub mod Levels
 pub mod Contexts

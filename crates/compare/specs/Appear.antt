@@ -1,9 +1,10 @@
 -- Not needed to believe the promise: what the comparisons of later appearances ask of the rows, and what they answer.
-use Prim.Native.Nat.{ℕ, _+_, _<_, _≤_}
+use Prim.Native.Nat.{ℕ, _+_}
 use mathlib.Core.Path.{_≡_}
 use mathlib.Core.Bool.{Bool}
 use mathlib.Core.List.{List}
 use mathlib.Core.Logic.{_≢_}
+use lib.ListN.{getD}
 use Rattle.meaning.specs.Says.{Says}
 use Rattle.meaning.specs.Forest.{Forest, Term, term, terms, Context, hole, node, plug, holeRow}
 use Rattle.meaning.specs.Read.{takeT}
@@ -20,21 +21,27 @@ pub record AlikePre (L S : List ℕ) (a b t u : ℕ) : Type 0 where
 pub record AlikePost (L S : List ℕ) (a b t u : ℕ) (r : Bool) : Type 0 where
   pub is : (f g : Forest) → TermsAt L S a b f → TermsAt L S t u g → Says r (f ≡ g)
 
--- pass: the row where the first c of the terms end and the others start
-pub data Passes (L S : List ℕ) (t e c : ℕ) (us : Forest) : Found → Type 0 where
-  too-few : terms us < c → Passes L S t e c us found.Fail
-  passes : {u : ℕ} → c ≤ terms us → TermsAt L S t u (takeT c us) → TermsAt L S u e (dropT c us) → Passes L S t e c us (found.At u)
+-- the sequence f, compared whole with the first terms of us, which start at row t: they are others, or the same up to the row u
+pub data Again (L S : List ℕ) (t e : ℕ) (f us : Forest) : Found → Type 0 where
+  another : f ≢ takeT (terms f) us → Again L S t e f us found.Fail
+  again : {u : ℕ} → f ≡ takeT (terms f) us → TermsAt L S t u (takeT (terms f) us) → TermsAt L S u e (dropT (terms f) us) → Again L S t e f us (found.At u)
 
-pub record PassPost (S : List ℕ) (t e c : ℕ) (o : Found) : Type 0 where
-  pub is : (L : List ℕ) (us : Forest) → TermsAt L S t e us → Passes L S t e c us o
+-- again: a sequence of c terms from row a on
+pub record AgainPre (L S : List ℕ) (a c t e : ℕ) : Type 0 where
+  pub earlier : (b : ℕ) × (f : Forest) × TermsAt L S a b f × (terms f ≡ c)
+  pub tree : (us : Forest) × TermsAt L S t e us
+
+pub record AgainPost (L S : List ℕ) (a c t e : ℕ) (o : Found) : Type 0 where
+  pub is : (b : ℕ) (f us : Forest) → TermsAt L S a b f → terms f ≡ c → TermsAt L S t e us → Again L S t e f us o
 
 -- the context c, compared whole with the term T at row t: nothing fills its hole so that it is T, or what stands at the row h does
 pub data Fits (L S : List ℕ) (t : ℕ) (c : Context) (T : Term) : Found → Type 0 where
   misfit : ((U : Term) → plug c U ≢ T) → Fits L S t c T found.Fail
   fitting : {h : ℕ} (U : Term) → plug c U ≡ T → h ≡ t + holeRow c → TermAt L S h (U .label) (U .args) → Fits L S t c T (found.At h)
 
--- level: one level of a context, the child at row u left out
+-- level: one level of a context, the child at row u left out; the labels are the same
 pub record LevelPre (L S : List ℕ) (a u t : ℕ) : Type 0 where
+  pub label : getD L a 0 ≡ getD L t 0
   pub here : (l : ℕ) × (left : Forest) × (right : Forest) × Level L S a u l left right
   pub there : (m : ℕ) × (us : Forest) × TermAt L S t m us
 

@@ -1,6 +1,5 @@
 // A variable's later appearance: what it stands for, at its place in the tree, against what stands where it appears again.
-ghost use Rattle.tree.specs.Helpers.{CountPre};
-ghost use Rattle.compare.specs.Appear.{AlikePre, AlikePost, PassPost, LevelPre, FitsPre, LevelPost, FitsPost};
+ghost use Rattle.compare.specs.Appear.{AlikePre, AlikePost, AgainPre, AgainPost, LevelPre, FitsPre, LevelPost, FitsPost};
 
 // A row that is looked for: where a sequence ends, or where a context has its hole.
 pub enum Found {
@@ -19,31 +18,37 @@ pub fn alike(label: &[u32], size: &[u32], a: usize, b: usize, t: usize, u: usize
     tree::same(label, size, a, t, u - t)
 }
 
-// The row after c of the terms from row t up to e, if there are so many.
-pub fn pass(size: &[u32], t: usize, e: usize, c: usize) -> Found
-    requires { ⌜ CountPre (now size) t e ⌝ }
-    ensures { λ r. ⌜ PassPost (now (size .entry)) t e c r ⌝ }
+// The c terms from row a on, again from row t on in a list that ends at e: the row behind them. Term by term, so that nothing is looked at
+// behind the first one that differs.
+pub fn again(label: &[u32], size: &[u32], a: usize, c: usize, t: usize, e: usize) -> Found
+    requires { ⌜ AgainPre (now label) (now size) a c t e ⌝ }
+    ensures { λ r. ⌜ AgainPost (now (label .entry)) (now (size .entry)) a c t e r ⌝ }
 {
-    let mut i = 0;
-    let mut u = t;
-    while i < c {
-        if u == e {
+    let mut here = a;
+    let mut there = t;
+    let mut left = c;
+    while left != 0 {
+        if there == e {
             return Found::Fail;
         }
-        u = tree::next(size, u);
-        i += 1;
+        let behind = tree::next(size, here);
+        let after = tree::next(size, there);
+        if alike(label, size, here, behind, there, after) {
+            here = behind;
+            there = after;
+            left -= 1;
+        } else {
+            return Found::Fail;
+        }
     }
-    Found::At(u)
+    Found::At(there)
 }
 
-// The term at row t against that at row a, all but a's child at row u: the row of what stands for the child.
+// The arguments of the term at row t against those of the term at row a, all but the one at row u: the row of what stands for that one.
 fn level(label: &[u32], size: &[u32], a: usize, u: usize, t: usize) -> Found
     requires { ⌜ LevelPre (now label) (now size) a u t ⌝ }
     ensures { λ r. ⌜ LevelPost (now (label .entry)) (now (size .entry)) a u t r ⌝ }
 {
-    if tree::at(label, a) != tree::at(label, t) {
-        return Found::Fail;
-    }
     let left = u - a;
     let v = t + left;
     let e = tree::next(size, t);
@@ -69,6 +74,10 @@ pub fn fits(label: &[u32], size: &[u32], a: usize, b: usize, t: usize) -> Found
     let mut from = a;
     let mut row = t;
     while from != b {
+        // Labels first: where they differ, the child need not be looked for among its neighbours.
+        if tree::at(label, from) != tree::at(label, row) {
+            return Found::Fail;
+        }
         let u = tree::child(size, from, b);
         match level(label, size, from, u, row) {
             Found::Fail => return Found::Fail,

@@ -1,6 +1,6 @@
 -- The first walk, before any choice, and what the search begins with.
-use Prim.Native.Nat.{ℕ, suc, _+_, _-_, _<_, _≤_}
-use mathlib.Core.Path.{_≡_, refl, ap, _∙_}
+use Prim.Native.Nat.{ℕ, suc, _+_, _-_, _*_, _<_, _≤_}
+use mathlib.Core.Path.{_≡_, refl, ap, _∙_, sym, subst}
 use mathlib.Core.Bool.{Bool}
 use mathlib.Core.List.{List, []}
 use lib.ListN.{length, take, set, replicate}
@@ -9,13 +9,13 @@ use native.Mathlib.Omega.{arith}
 use Rattle.meaning.specs.Forest.{Term, size}
 use Rattle.meaning.specs.Pattern.{Pattern, Kind}
 use Rattle.meaning.specs.Record.{Entry, numbers}
-use Rattle.meaning.proofs.Walk.{need, ok, walkT, walk}
+use Rattle.meaning.proofs.Walk.{need, ok, over, walkT, walk}
 use Rattle.meaning.proofs.Next.{Any, any?, first-free}
 use Rattle.meaning.proofs.Tame.{count, tame-need}
 use Rattle.expression.specs.Expression.{Expression}
 use Rattle.constraint.specs.Obeys.{Constraint, Allowed}
 use Rattle.constraint.proofs.Allowed.{allowed?}
-use Rattle.walk.specs.Above.{Marks}
+use Rattle.variable.proofs.States.{count-bound}
 use Rattle.walk.specs.Cycle.{Needs}
 use Rattle.walk.specs.Onward.{Problem}
 use Rattle.walk.specs.Onward as onward
@@ -24,16 +24,17 @@ use Rattle.walk.specs.declared.Out.{Out}
 use Rattle.walk.specs.declared.Out.the-variants as answer
 use Rattle.walk.proofs.Marks.{marks-kept}
 use Rattle.walk.proofs.Views.{need-agree}
-use Rattle.walk.proofs.Answered.{answers, failed, needed, matched}
+use Rattle.walk.proofs.Answered.{answers, failed, matched}
+use Rattle.choice.specs.Stops.{StopAt, AtStop, LeastPost, ValuesPost}
+use Rattle.choice.proofs.Stops.{many-range, at-room}
 use Rattle.listing.proofs.Fill.{fill}
 use Rattle.listing.proofs.Levels.{Levels, levels-need}
 use Rattle.listing.proofs.Loop.{Fixed, first-fail, first-need, first-full, first-done, first-room, first-deep}
 use Rattle.listing.proofs.Whole.{walked, outcome}
 use Rattle.search.specs.Search.{GoAsked, GoPre, GoPost}
 use Rattle.search.specs.declared.Found.{Found}
-use Rattle.search.proofs.Going.{is-fixed, individuals, functions}
-use Rattle.search.proofs.Turns.{tree-small}
-use Rattle.search.proofs.Pauses.{pauses-first}
+use Rattle.levels.proofs.Going.{is-fixed, individuals, functions}
+use Rattle.levels.proofs.Pauses.{pauses-first}
 use Rattle.lister.specs.Begun.{BeginAsked, BeginPre, BeginPost}
 
 -- the first walk was made: its answer o, the record R′ and the rows A′
@@ -103,69 +104,95 @@ module _ {L S M name first : List ℕ} {null : List Bool} {cont : List ℕ} {end
       pub begun-done : {budget : ℕ} → (room ≡ 0 → ⊥) → Post budget (record { ending = 0; records = 1; tries = 0 }) (paste before 0 R′ width)
       begun-done {budget} f = record { all = λ T P Q es cs a. let d = said a in first-done (fixed a) budget (numbers (d .0)) R′ (ap outcome (d .1)) (d .2) f }
 
-    module _ {p x s lo hi : ℕ} (e : o ≡ answer.Need p x s lo hi) where
-      need-said : {T : Term} {P : Pattern} {Q : List Kind} {es : List Expression} {cs : List Constraint} (a : Asked T P Q es cs)
-          → (B : List Entry) × (walk (Allowed cs) (allowed? cs) P T [] ≡ need B s lo hi) × (length B ≡ x) × (take (x + x) R′ ≡ numbers B)
-      need-said a = needed (rw e at (answered a))
+    module _ {p x s : ℕ} (e : o ≡ answer.Need p x s) where
+      needs : {T : Term} {P : Pattern} {Q : List Kind} {es : List Expression} {cs : List Constraint} (a : Asked T P Q es cs)
+          → (lo : ℕ) × (hi : ℕ) × Needs L S R′ A′ (a .search .K) (a .search .N) (a .search .Z) Q [] (walkT Any any? P T 0 []) p x s lo hi
+      unfolding problem
+      needs {T} {P} {Q} a = let n = need-agree (rw e at (b .walked .is T P Q (problem a (b .long) (b .rows-long)) .0)) in (n .1, n .2, n .3)
 
-      pub need-fits : (lo ≤ hi) × (hi < 2048)
-      need-fits =
-          let p = b .pre .some in
-          let a = p .5 in
-          let m = tame-need (Allowed (p .4)) (allowed? (p .4)) (p .0) _ (a .search .pattern .numbered) (need-said a .1) in
-          (m .1, omega (arith, m .2, tree-small (a .search .judging .tree)))
+      needed : {T : Term} {P : Pattern} {Q : List Kind} {es : List Expression} {cs : List Constraint} (a : Asked T P Q es cs)
+          → walk (Allowed cs) (allowed? cs) P T [] ≡ need (needs a .2 .bound) s (needs a .0) (needs a .1)
+      needed {T} {Q = Q} {cs = cs} a =
+          first-free (Allowed cs) (allowed? cs) Q (individuals (a .search)) (functions (a .search)) (a .search .pattern .numbered) T ∙ ap over (needs a .2 .asks)
+
+      -- where the walk stopped
+      stops : {T : Term} {P : Pattern} {Q : List Kind} {es : List Expression} {cs : List Constraint} (a : Asked T P Q es cs)
+          → StopAt L S M A′ p s (a .search .K) (a .search .N) (a .search .Z) Q x (needs a .2 .stop) (needs a .2 .frames)
+      stops {T} {P} {Q} a =
+          record {
+            packed = a .search .packed;
+            marks = marks-kept (b .walked .is T P Q (problem a (b .long) (b .rows-long)) .2) (record { few = a .search .pattern .few; long = b .rows-long });
+            stands = needs a .2 .stands;
+          }
+
+      pub at-stop : AtStop S M A′ p s
+      at-stop = let h = b .pre .some in let a = h .5 in record { some = (L, a .search .K, a .search .N, a .search .Z, h .2, x, needs a .2 .stop, needs a .2 .frames, stops a) }
+
+      pub need-room : 3 * p + 2 < length M
+      need-room = at-room (stops (b .pre .some .5)) .1
 
       -- the levels' lists with the first level in them
       abbrev level : ℕ → List ℕ
       level k = set (replicate 16 0) 0 k
 
-      asked : {T : Term} {P : Pattern} {Q : List Kind} {es : List Expression} {cs : List Constraint} (a : Asked T P Q es cs)
-          → GoAsked L S M name first null cont ends C kinds room width R′ A′ (level p) (level x) (level s) (level s) (level lo) (level (hi + 1 - lo)) 1 before T P Q es cs (replicate 16 0)
-      unfolding problem
-      asked {T} {P} {Q} {es} {cs} a =
-          let d = need-said a in
-          let y : hi + 1 - lo ≡ suc hi - lo = omega arith in
-          let none : List ℕ = replicate 16 0 in
-          let z : Levels (Allowed cs) (allowed? cs) (a .search .pattern .numbered) T none none none none none 0 =
-          record { long = omega arith; each = λ k l. absurd (omega arith) } in
-          let m = levels-need (Allowed cs) (allowed? cs) (a .search .pattern .numbered) T z (omega arith) (omega arith) (omega arith) (omega arith) (omega arith)
-          (d .1) (need-fits .0) in
-          let w = b .walked .is T P Q (problem a (b .long) (b .rows-long)) in
-          let n = need-agree (rw e at (w .0)) .1 in
-          record {
-            search = a .search;
-            wide = a .wide;
-            fits = a .fits;
-            vals-long = refl;
-            deep = omega (arith, first-deep (fixed a) lo (suc hi - lo) (ap outcome (d .1)));
-            levels = rw (y, ← (d .2)) m;
-            pauses =
-                pauses-first (replicate 16 0) (level p) (level x) (level s) (level s) (level lo) (level (hi + 1 - lo))
-                (marks-kept (w .2) (record { few = a .search .pattern .few; long = b .rows-long })) (need-fits .0) n refl refl refl refl refl y;
-          }
+      module _ {lo n : ℕ} (low : LeastPost M p s lo) (values : ValuesPost S M A′ p s n) where
+        -- they are the values that the walk asked for
+        values-are : {T : Term} {P : Pattern} {Q : List Kind} {es : List Expression} {cs : List Constraint} (a : Asked T P Q es cs) → (needs a .0 ≡ lo) × (suc (needs a .1) - lo ≡ n)
+        values-are a =
+            let w = needs a .2 in
+            let l = low .is L S A′ (a .search .K) (a .search .N) (a .search .Z) _ x (w .stop) (w .frames) (stops a) in
+            let m = values .is L (a .search .K) (a .search .N) (a .search .Z) _ x (w .stop) (w .frames) (stops a) in
+            (sym (w .low) ∙ sym l, omega (arith, l, m, many-range (w .stop) s, w .high))
 
-      pub go-asked : GoPre L S M name first null cont ends C kinds room width R′ A′ (level p) (level x) (level s) (level s) (level lo) (level (hi + 1 - lo)) 1 before
-      go-asked =
-          let h = b .pre .some in
-          record {
-            record-long = walked-long;
-            places-long = refl;
-            variables-long = refl;
-            starts-long = refl;
-            rows-long = refl;
-            nexts-long = refl;
-            lefts-long = refl;
-            some = (h .0, h .1, h .2, h .3, h .4, replicate 16 0, asked (h .5));
-          }
+        -- and the walk that asked for them
+        asks : {T : Term} {P : Pattern} {Q : List Kind} {es : List Expression} {cs : List Constraint} (a : Asked T P Q es cs)
+            → (hi : ℕ) × (suc hi - lo ≡ n) × (lo ≤ hi) × (walk (Allowed cs) (allowed? cs) P T [] ≡ need (needs a .2 .bound) s lo hi)
+            × Needs L S R′ A′ (a .search .K) (a .search .N) (a .search .Z) Q [] (walkT Any any? P T 0 []) p x s lo hi
+        asks {T} {P} {Q} {es} {cs} a =
+            let v = values-are a in
+            let m = tame-need (Allowed cs) (allowed? cs) T _ (a .search .pattern .numbered) (needed a) in
+            (needs a .1, v .1, omega (arith, m .1, v .0), rw (v .0) at (needed a), subst (λ (i : ℕ). Needs L S R′ A′ (a .search .K) (a .search .N) (a .search .Z) Q [] (walkT Any any? P T 0 []) p x s i (needs a .1)) (v .0) (needs a .2))
 
-      pub begun-need : {budget : ℕ} {r : Found} {after : List ℕ}
-          → GoPost L S M name first null cont ends C kinds budget room width R′ A′ (level p) (level x) (level s) (level s) (level lo) (level (hi + 1 - lo)) 1 before r after
-          → Post budget r after
-      begun-need {budget} post =
-          record {
-            all = λ T P Q es cs a.
-                let d = need-said a in
-                let y : hi + 1 - lo ≡ suc hi - lo = omega arith in
-                let w = first-need (fixed a) (replicate 16 0) (replicate 16 0) (replicate 16 0) lo (suc hi - lo) (omega arith) (omega arith) (ap outcome (d .1)) in
-                ap (fill budget room width 0 0 before) (rw (← y) at w) ∙ post .all T P Q es cs (replicate 16 0) (asked a);
-          }
+        asked : {T : Term} {P : Pattern} {Q : List Kind} {es : List Expression} {cs : List Constraint} (a : Asked T P Q es cs)
+            → GoAsked L S M name first null cont ends C kinds room width R′ A′ (level p) (level x) (level s) (level s) (level lo) (level n) 1 before T P Q es cs (replicate 16 0)
+        asked {T} {P} {Q} {es} {cs} a =
+            let d = asks a in
+            let none : List ℕ = replicate 16 0 in
+            let z : Levels (Allowed cs) (allowed? cs) (a .search .pattern .numbered) T none none none none none 0 =
+            record { long = omega arith; each = λ k l. absurd (omega arith) } in
+            let m = levels-need (Allowed cs) (allowed? cs) (a .search .pattern .numbered) T z (omega arith) (omega arith) (omega arith) (omega arith) (omega arith)
+            (d .3) (d .2) in
+            record {
+              search = a .search;
+              wide = a .wide;
+              fits = a .fits;
+              vals-long = refl;
+              deep = omega (arith, first-deep (fixed a) lo (suc (d .0) - lo) (ap outcome (d .3)));
+              levels = rw (d .1, count-bound (needs a .2 .state)) at m;
+              pauses = pauses-first (replicate 16 0) (level p) (level x) (level s) (level s) (level lo) (level n) (stops a .marks) (d .2) (d .4) refl refl refl refl refl (sym (d .1));
+            }
+
+        pub go-asked : GoPre L S M name first null cont ends C kinds room width R′ A′ (level p) (level x) (level s) (level s) (level lo) (level n) 1 before
+        go-asked =
+            let h = b .pre .some in
+            record {
+              record-long = walked-long;
+              places-long = refl;
+              variables-long = refl;
+              starts-long = refl;
+              rows-long = refl;
+              nexts-long = refl;
+              lefts-long = refl;
+              some = (h .0, h .1, h .2, h .3, h .4, replicate 16 0, asked (h .5));
+            }
+
+        pub begun-need : {budget : ℕ} {r : Found} {after : List ℕ}
+            → GoPost L S M name first null cont ends C kinds budget room width R′ A′ (level p) (level x) (level s) (level s) (level lo) (level n) 1 before r after
+            → Post budget r after
+        begun-need {budget} post =
+            record {
+              all = λ T P Q es cs a.
+                  let d = asks a in
+                  let w = first-need (fixed a) (replicate 16 0) (replicate 16 0) (replicate 16 0) lo (suc (d .0) - lo) (omega arith) (omega arith) (ap outcome (d .3)) in
+                  ap (fill budget room width 0 0 before) (rw (d .1) at w) ∙ post .all T P Q es cs (replicate 16 0) (asked a);
+            }

@@ -29,7 +29,7 @@ use Rattle.listing.proofs.Fill.{filled, room-fits}
 use Rattle.listing.proofs.Whole.{walked, meant}
 use Rattle.listing.proofs.Facts.{meant-unlimited}
 use Rattle.search.specs.declared.Found.{Found}
-use Rattle.search.proofs.Going.{is-fixed}
+use Rattle.levels.proofs.Going.{is-fixed}
 use Rattle.lister.specs.Begun.{BeginAsked, BeginPre, BeginPost}
 use Rattle.lister.specs.Listed.{Settled}
 

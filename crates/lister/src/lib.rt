@@ -48,7 +48,7 @@ fn begin(
             records: 0,
             tries: 0,
         },
-        walk::Out::Need(p, x, s, lo, hi) => {
+        walk::Out::Need(p, x, s) => {
             let mut places = [0usize; 16];
             let mut rows = [0usize; 16];
             let mut variables = [0usize; 16];
@@ -59,8 +59,8 @@ fn begin(
             rows[0] = s;
             variables[0] = x;
             starts[0] = s;
-            nexts[0] = lo;
-            lefts[0] = hi + 1 - lo;
+            nexts[0] = choice::least(pattern, p, s);
+            lefts[0] = choice::values(size, pattern, &at, p, s);
             search::go(
                 label,
                 size,

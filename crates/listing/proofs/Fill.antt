@@ -117,6 +117,21 @@ filled walk bound limit width budget room before after ending records tries t h 
           ∙ ap (λ (m : ℕ). joined (res .records) ++ drop m before) (zero-add (length (joined (res .records)))),
     )
 
+-- so many tries that fail are one step
+pub fill-skip : (budget room width : ℕ) (f : List ℕ → List Event) (p : List ℕ) (k lo m n t count : ℕ) (out : List ℕ) (es : List Event) → k + m ≡ n → t + k ≤ budget
+    → ((j : ℕ) → j < k → f (snoc p (lo + j)) ≡ []) → fill budget room width t count out (branch f p lo n ++ es) ≡ fill budget room width (t + k) count out (branch f p (lo + k) m ++ es)
+fill-skip budget room width f p zero lo m n t count out es hn hb fails =
+    let a : m ≡ n = omega arith in
+    rw (a, add-zero lo, add-zero t)
+fill-skip budget room width f p (suc k) lo m zero t count out es hn hb fails = absurd (omega arith)
+fill-skip budget room width f p (suc k) lo m (suc n) t count out es hn hb fails =
+    let first : f (snoc p lo) ≡ [] = rw (add-zero lo) at (fails 0 (omega arith)) in
+    let a : suc lo + k ≡ lo + suc k = omega arith in
+    let b : suc t + k ≡ t + suc k = omega arith in
+    let next : (j : ℕ) → j < k → f (snoc p (suc lo + j)) ≡ [] = λ j h. let c : lo + suc j ≡ suc lo + j = omega arith in rw c at (fails (suc j) (omega arith)) in
+    rw (lt-ltb t budget (omega arith), first, ← a, ← b)
+    (fill-skip budget room width f p k (suc lo) m n (suc t) count out es (omega arith) (omega arith) next)
+
 -- what is left of the levels below d: level k goes on after the choices before it, from nexts[k], lefts[k] of them
 module _ (walk : List ℕ → Outcome) (bound : ℕ) where
   abbrev pub rest : (vals nexts lefts : List ℕ) → ℕ → List Event
@@ -174,6 +189,14 @@ module _ (walk : List ℕ → Outcome) (bound : ℕ) where
 
   pub rest-back : (vals nexts lefts : List ℕ) (depth d : ℕ) → BackTo lefts depth d → rest vals nexts lefts depth ≡ rest vals nexts lefts d
   rest-back vals nexts lefts depth d b = rest-gone vals nexts lefts depth d (b .low) (b .gone)
+
+  -- the last level's next value is another
+  pub rest-level : (vals nexts lefts : List ℕ) (d v n : ℕ) → d < length nexts → d < length lefts
+      → rest vals (set nexts d v) (set lefts d n) (suc d) ≡ branch (events walk (bound - suc d)) (take d vals) v n ++ rest vals nexts lefts d
+  rest-level vals nexts lefts d v n hn hl =
+      let r : rest vals nexts lefts d ≡ rest vals (set nexts d v) (set lefts d n) d =
+      rest-ext d vals vals nexts (set nexts d v) lefts (set lefts d n) (λ k g. refl) (λ k g. sym (getD-set-other nexts d k v 0 (λ q. omega arith))) (λ k g. sym (getD-set-other lefts d k n 0 (λ q. omega arith))) in
+      rw (getD-set-same nexts d v 0 hn, getD-set-same lefts d n 0 hl, ← r)
 
   -- the next value of the last level
   pub rest-next : (vals nexts lefts : List ℕ) (d v n : ℕ) → d < length vals → d < length nexts → d < length lefts → getD nexts d 0 ≡ v → getD lefts d 0 ≡ suc n

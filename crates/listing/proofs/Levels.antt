@@ -106,6 +106,22 @@ module _ (Allowed : ℕ → Value → Type 0) (allowed? : (x : ℕ) (v : Value) 
             rw (e, take-set-le d vals d (getD nexts d 0) (omega arith), getD-set-same nexts d (getD nexts d 0 + 1) 0 hn, getD-set-same lefts d (getD lefts d 0 - 1) 0 hl)
             (record { bound = w .bound; lo = w .lo; hi = w .hi; asked = w .asked; its = w .its; low = omega (arith, w .low); high = omega (arith, w .high) })
 
+    -- the last level's next values are passed over
+    pub levels-skip : {d : ℕ} (k : ℕ) → Levels vals variables starts nexts lefts (suc d) → k ≤ getD lefts d 0 → d < length nexts → d < length lefts
+        → Levels vals variables starts (set nexts d (getD nexts d 0 + k)) (set lefts d (getD lefts d 0 - k)) (suc d)
+    levels-skip {d} j v live hn hl = record { long = v .long; each = λ k l. each k l (decLt k d) }
+      where
+        each : (k : ℕ) → k < suc d → Dec (k < d)
+            → Level (take k vals) (getD variables k 0) (getD starts k 0) (getD (set nexts d (getD nexts d 0 + j)) k 0) (getD (set lefts d (getD lefts d 0 - j)) k 0)
+        each k l (yes h) =
+            let z : k ≡ d → ⊥ = λ e. omega arith in
+            rw (getD-set-other nexts d k (getD nexts d 0 + j) 0 z, getD-set-other lefts d k (getD lefts d 0 - j) 0 z) (v .each k l)
+        each k l (no h) =
+            let e : k ≡ d = omega arith in
+            let w = v .each d (omega arith) in
+            rw (e, getD-set-same nexts d (getD nexts d 0 + j) 0 hn, getD-set-same lefts d (getD lefts d 0 - j) 0 hl)
+            (record { bound = w .bound; lo = w .lo; hi = w .hi; asked = w .asked; its = w .its; low = omega (arith, w .low); high = omega (arith, w .high) })
+
     -- one level more
     pub levels-need : {depth : ℕ} {B : List Entry} {t lo hi : ℕ} → Levels vals variables starts nexts lefts depth → depth < length vals
         → depth < length variables → depth < length starts → depth < length nexts → depth < length lefts

@@ -12,7 +12,7 @@ use borrow.Author.Tests.{lt-ltb, le-ltb}
 use Rattle.listing.proofs.Back.{BackTo}
 use Rattle.listing.proofs.Events.{Outcome, fail, need, done, Event, tried, snoc, events}
 use Rattle.listing.proofs.Run.{Tame}
-use Rattle.listing.proofs.Fill.{Filled, fill, splice, length-splice, rest, ahead, ahead-start, ahead-fail, ahead-match, ahead-need, events-fail, events-match, rest-back, rest-next}
+use Rattle.listing.proofs.Fill.{Filled, fill, splice, length-splice, fill-skip, rest, rest-level, ahead, ahead-start, ahead-fail, ahead-match, ahead-need, events-fail, events-match, rest-back, rest-next}
 
 -- what does not change
 pub record Fixed (walk : List ℕ → Outcome) (bound limit width room : ℕ) (before : List ℕ) : Type 0 where
@@ -201,6 +201,27 @@ module _ {walk : List ℕ → Outcome} {bound limit width budget room : ℕ} {be
           charged = more;
         })
 
+    -- its next k values fail
+    skip : (k : ℕ) → k ≤ getD lefts d 0 → tries + k ≤ budget → ((j : ℕ) → j < k → walk (snoc (take d vals) (getD nexts d 0 + j)) ≡ fail)
+        → At walk bound limit width budget room before F (rest walk bound vals (set nexts d (getD nexts d 0 + k)) (set lefts d (getD lefts d 0 - k)) (suc d))
+        out vals (set nexts d (getD nexts d 0 + k)) (set lefts d (getD lefts d 0 - k)) (suc d) count (tries + k)
+    skip k h b fails =
+        record {
+          total =
+              ap (fill budget room width (tries + k) count out) (rest-level walk bound vals nexts lefts d (getD nexts d 0 + k) (getD lefts d 0 - k) in-nexts in-lefts)
+              ∙ sym (fill-skip budget room width (events walk (bound - suc d)) (take d vals) k (getD nexts d 0) (getD lefts d 0 - k) (getD lefts d 0) tries count out (rest walk bound vals nexts lefts d) (omega arith) b
+              (λ j l. events-fail walk bound (bound - suc d) (snoc (take d vals) (getD nexts d 0 + j)) (fails j l)))
+              ∙ a .total;
+          deep = a .deep;
+          vals-long = a .vals-long;
+          nexts-long = length-set nexts d (getD nexts d 0 + k) ∙ a .nexts-long;
+          lefts-long = length-set lefts d (getD lefts d 0 - k) ∙ a .lefts-long;
+          out-long = a .out-long;
+          small = set-small nexts lefts d (getD nexts d 0 + k) (getD lefts d 0 - k) in-nexts in-lefts (omega (arith, a .small d (omega arith))) (λ j g. a .small j (omega arith));
+          counted = a .counted;
+          charged = b;
+        }
+
   -- the same, with d one below the depth
   module _ {out vals nexts lefts : List ℕ} {depth count tries : ℕ}
       (a : At walk bound limit width budget room before F (rest walk bound vals nexts lefts depth) out vals nexts lefts depth count tries) (pos : 0 < depth) (live : 0 < getD lefts (depth - 1) 0) where
@@ -219,6 +240,13 @@ module _ {walk : List ℕ → Outcome} {bound limit width budget room : ℕ} {be
     at-next h vals′ nexts′ lefts′ ev en el =
         subst (λ (k : ℕ). At walk bound limit width budget room before F (ahead walk bound vals′ nexts′ lefts′ k) out vals′ nexts′ lefts′ k count (tries + 1))
         (sym level) (rw (ev, en, el) (next a′ live h _ refl))
+
+    pub at-skip : (k : ℕ) → k ≤ getD lefts (depth - 1) 0 → tries + k ≤ budget → ((j : ℕ) → j < k → walk (snoc (take (depth - 1) vals) (getD nexts (depth - 1) 0 + j)) ≡ fail)
+        → (nexts′ lefts′ : List ℕ) → nexts′ ≡ set nexts (depth - 1) (getD nexts (depth - 1) 0 + k) → lefts′ ≡ set lefts (depth - 1) (getD lefts (depth - 1) 0 - k)
+        → At walk bound limit width budget room before F (rest walk bound vals nexts′ lefts′ depth) out vals nexts′ lefts′ depth count (tries + k)
+    at-skip k h b fails nexts′ lefts′ en el =
+        subst (λ (i : ℕ). At walk bound limit width budget room before F (rest walk bound vals nexts′ lefts′ i) out vals nexts′ lefts′ i count (tries + k))
+        (sym level) (rw (en, el) (skip a′ live k h b fails))
 
 -- the first walk, before any choice
 module _ {walk : List ℕ → Outcome} {bound limit width room : ℕ} {before : List ℕ} (fx : Fixed walk bound limit width room before) where

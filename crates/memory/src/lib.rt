@@ -135,6 +135,9 @@ pub fn judge(
     ensures { λ r. ⌜ GrowPost (now (label .entry)) (now (size .entry)) (now (name .entry)) (now (first .entry)) (now (null .entry)) (now (cont .entry)) (now (ends .entry)) (now (constraint .entry)) (now (kinds .entry)) x a b r (now (memory .exit)) ⌝ }
 {
     let start = constraint[x + x];
+    if start == 0 {
+        return true;
+    }
     let flag = constraint[x + x + 1];
     let kind = kinds[x];
     if kind != 2 {
@@ -152,9 +155,6 @@ pub fn judge(
             a,
             b,
         );
-    }
-    if start == 0 {
-        return true;
     }
     if constraint::forbidden(flag, kind, a, b) {
         return false;

@@ -1,4 +1,1 @@
-pub mod Pauses
-pub mod Tried
-pub mod Going
 pub mod Turns

@@ -4,7 +4,7 @@ use mathlib.Core.Path.{_≡_, refl, ap, _∙_, sym, subst}
 use mathlib.Core.Bool.{Bool}
 use mathlib.Core.List.{List, [], _++_}
 use lib.ListN.{length, getD, take, set, length-set}
-use lib.Seq.{paste}
+use lib.Seq.{paste, set-set, getD-set-same}
 use native.Mathlib.Omega.{arith}
 use native.Mathlib.Numerals.{add-one}
 use Rattle.meaning.specs.Forest.{Term, size, rows}
@@ -22,17 +22,21 @@ use Rattle.walk.specs.Cycle.{Needs}
 use Rattle.walk.specs.Taken.{Answers}
 use Rattle.walk.specs.declared.Out.{Out}
 use Rattle.walk.specs.declared.Out.the-variants as answer
-use Rattle.walk.proofs.Answered.{failed, needed, matched}
+use Rattle.walk.proofs.Answered.{failed, matched}
+use Rattle.choice.specs.Stops.{many, StopAt, LeastPost, FurtherPre, FurtherPost, Before, MorePre, MorePost}
+use Rattle.choice.specs.Runs.{LevelPre, SkipPost}
+use Rattle.choice.proofs.Stops.{many-range, at-room}
 use Rattle.listing.proofs.Events as events
 use Rattle.listing.proofs.Back.{BackTo}
 use Rattle.listing.proofs.Fill.{Filled, fill, rest, ahead}
 use Rattle.listing.proofs.Levels.{levels-back, levels-need}
-use Rattle.listing.proofs.Loop.{Fixed, At, at-rest, at-back, all-done, at-spent, at-next, at-fail, at-need, at-match, no-room, room-left, need-deep}
+use Rattle.listing.proofs.Loop.{Fixed, At, at-rest, at-back, all-done, at-spent, at-skip, at-next, at-fail, at-need, at-match, no-room, room-left, need-deep}
 use Rattle.listing.proofs.Whole.{outcome}
-use Rattle.search.specs.Search.{FurtherPre, FurtherPost, AttemptPre, AttemptPost, GoAsked, GoPre, GoPost}
+use Rattle.levels.specs.Levels.{AttemptPre, AttemptPost}
+use Rattle.search.specs.Search.{GoAsked, GoPre, GoPost}
 use Rattle.search.specs.declared.Found.{Found}
-use Rattle.search.proofs.Going.{few, Walked, is-fixed, Leveled, Paused, try-kind, try-taken, try-answered, further-asked}
-use Rattle.search.proofs.Pauses.{pauses-back, pauses-need}
+use Rattle.levels.proofs.Going.{few, Walked, is-fixed, Leveled, Paused, Asks, skip-asked, skip-fails, skip-levels, try-kind, try-taken, try-answered, further-asked}
+use Rattle.levels.proofs.Pauses.{pauses-back, pauses-need}
 
 pub tree-small : {L S : List ℕ} {T : Term} → GoodTree L S T → size T ≤ 2048
 unfolding rows
@@ -160,15 +164,23 @@ module _ (i : Input) where
     pub some : 0 < depth
     pub live : 0 < getD F (depth - 1) 0
 
-  -- a try was made: the answer o, and the record R
-  pub record Tried (out R A G X St U N F : List ℕ) (depth cnt tries : ℕ) (o : Out) : Type 0 where
+  -- a turn that has passed over values that fail: the next one's row is u
+  pub record Passing (out R A G X St U N F : List ℕ) (depth cnt tries limit failed u : ℕ) : Type 0 where
+    pub pre : Pre
+    pub ready : Ready out R A G X St U N F depth cnt tries
+    pub fewer : limit < getD F (depth - 1) 0
+    pub afford : tries + limit < i .budget
+    pub post : SkipPost (i .L) (i .S) (i .M) A (getD G (depth - 1) 0) (getD U (depth - 1) 0) (getD F (depth - 1) 0) limit failed u
+
+  -- a try was made, with which the walk went on at the row u, and left values come after it: the answer o, and the record R
+  pub record Tried (out R A G X St U N F : List ℕ) (depth cnt tries u left : ℕ) (o : Out) : Type 0 where
     pub long : Long R G X St U N F
     pub charged : tries ≤ i .budget
     pub each : {T : Term} {P : Pattern} {Q : List Kind} {es : List Expression} {cs : List Constraint} {vals₀ : List ℕ} (a : Asked T P Q es cs vals₀)
         → (vals : List ℕ) × Stand a out (ahead (Walked (a .search)) (count Q) vals N F depth) vals N F depth cnt tries
         × Answers R o (walk (Allowed cs) (allowed? cs) P T (take depth vals)) × Leveled (a .search) vals X St N F depth × Paused (a .search) R A vals G X St U N F depth
-        × ((p x s lo hi : ℕ) → o ≡ answer.Need p x s lo hi → (getD G (depth - 1) 0 + 1 ≤ p)
-        × Needs (i .L) (i .S) R A (a .search .K) (a .search .N) (a .search .Z) Q [] (λ ds. walkT Any any? P T 0 [] (take depth vals ++ ds)) p x s lo hi)
+        × Before (i .L) (i .S) A (getD G (depth - 1) 0) u left (a .search .K) (a .search .N) (a .search .Z) Q
+        × ((p x s : ℕ) → o ≡ answer.Need p x s → Asks (a .search) R A vals depth (getD G (depth - 1) 0) p x s)
 
 module _ {i : Input} where
   pub going-start : Pre i → Going i (i .before) (i .R) (i .A) (i .G) (i .X) (i .St) (i .U) (i .N) (i .F) (i .start) 0 0
@@ -233,6 +245,50 @@ module _ {i : Input} where
           subst (λ (n : ℕ). Paused (a .search) R A (g .each a .0) G X St U N F n) e (g .each a .3),
         )
 
+    pub level-asked : {limit : ℕ} → Pre i → limit < getD F (depth - 1) 0 → LevelPre (i .L) (i .S) (i .M) A (getD G (depth - 1) 0) (getD U (depth - 1) 0) (getD F (depth - 1) 0) limit
+    level-asked p fewer =
+        let a = p .some .6 in
+        let b = below a in
+        skip-asked (a .search) (b .0) (b .1) (r .live) fewer
+
+    -- values that fail are passed over, fewer than are left and than the budget allows
+    pub going-skip : {limit failed u : ℕ} → Pre i → limit < getD F (depth - 1) 0 → tries + limit < i .budget
+        → SkipPost (i .L) (i .S) (i .M) A (getD G (depth - 1) 0) (getD U (depth - 1) 0) (getD F (depth - 1) 0) limit failed u
+        → Ready i out R A G X St (set U (depth - 1) u) (set N (depth - 1) (getD N (depth - 1) 0 + failed)) (set F (depth - 1) (getD F (depth - 1) 0 - failed)) depth cnt (tries + failed)
+    going-skip {limit} {failed} {u} p fewer afford post =
+        record {
+          going =
+              record {
+                long = record {
+                  record-long = g .long .record-long;
+                  places-long = g .long .places-long;
+                  variables-long = g .long .variables-long;
+                  starts-long = g .long .starts-long;
+                  rows-long = length-set U (depth - 1) u ∙ g .long .rows-long;
+                  nexts-long = length-set N (depth - 1) (getD N (depth - 1) 0 + failed) ∙ g .long .nexts-long;
+                  lefts-long = length-set F (depth - 1) (getD F (depth - 1) 0 - failed) ∙ g .long .lefts-long;
+                };
+                charged = omega (arith, post .few);
+                each = λ {T} {P} {Q} {es} {cs} {vals₀} a.
+                    let h = g .each a in
+                    let e : suc (depth - 1) ≡ depth = omega (arith, r .some) in
+                    let deep = going-depth g p in
+                    let l = below a in
+                    let s = skip-levels (a .search) (l .0) (l .1) (r .live) fewer post (omega (arith, g .long .rows-long)) (omega (arith, g .long .nexts-long)) (omega (arith, g .long .lefts-long)) in (
+                      h .0,
+                      at-skip (fixed i a) (h .1) (r .some) (r .live) failed (omega (arith, post .few)) (omega (arith, post .few))
+                          (λ j o. ap outcome (skip-fails (a .search) (l .0) (l .1) (r .live) fewer post j o))
+                          (set N (depth - 1) (getD N (depth - 1) 0 + failed)) (set F (depth - 1) (getD F (depth - 1) 0 - failed)) refl refl,
+                      subst (λ (n : ℕ). Leveled (a .search) (h .0) X St (set N (depth - 1) (getD N (depth - 1) 0 + failed)) (set F (depth - 1) (getD F (depth - 1) 0 - failed)) n) e (s .0),
+                      subst (λ (n : ℕ). Paused (a .search) R A (h .0) G X St (set U (depth - 1) u) (set N (depth - 1) (getD N (depth - 1) 0 + failed)) (set F (depth - 1) (getD F (depth - 1) 0 - failed)) n) e (s .1),
+                    );
+              };
+          some = r .some;
+          live =
+              let deep = going-depth g p in
+              rw (getD-set-same F (depth - 1) (getD F (depth - 1) 0 - failed) 0 (omega (arith, g .long .lefts-long, r .some))) (omega (arith, post .few));
+        }
+
     pub attempt-asked : Pre i
         → AttemptPre (i .L) (i .S) (i .M) (i .name) (i .first) (i .null) (i .cont) (i .ends) (i .C) (i .kinds) R A
         (getD G (depth - 1) 0) (getD X (depth - 1) 0) (getD St (depth - 1) 0) (getD U (depth - 1) 0) (getD N (depth - 1) 0)
@@ -275,7 +331,7 @@ module _ {i : Input} where
         → FurtherPost (i .S) (i .M) (getD G (depth - 1) 0) (getD U (depth - 1) 0) (getD F (depth - 1) 0 - 1) u
         → AttemptPost (i .L) (i .S) (i .M) (i .name) (i .first) (i .null) (i .cont) (i .ends) (i .C) (i .kinds) R A
         (getD G (depth - 1) 0) (getD X (depth - 1) 0) (getD St (depth - 1) 0) (getD U (depth - 1) 0) (getD N (depth - 1) 0) o R′ A′
-        → Tried i out R′ A′ G X St (set U (depth - 1) u) N′ F′ depth cnt (tries + 1) o
+        → Tried i out R′ A′ G X St (set U (depth - 1) u) N′ F′ depth cnt (tries + 1) (getD U (depth - 1) 0) (getD F (depth - 1) 0 - 1) o
     going-try {o} {R′} {A′} {u} p b further post =
         record {
           long = record {
@@ -296,15 +352,15 @@ module _ {i : Input} where
               let l = below a in
               let t = try-answered (a .search) (l .0) (l .1) (r .live) (g .long .record-long) (omega (arith, g .long .rows-long)) (omega (arith, g .long .nexts-long)) (omega (arith, g .long .lefts-long)) further post in
               let t′ : Answered a vals depth = subst (λ (n : ℕ). Answered a vals n) e t in
-              (vals, at-next (fixed i a) (h .1) (r .some) (r .live) b vals N′ F′ refl refl refl, t′ .0, t′ .1, t′ .2, t′ .3);
+              (vals, at-next (fixed i a) (h .1) (r .some) (r .live) b vals N′ F′ refl refl refl, t′ .0, t′ .1, t′ .2, t′ .3, t′ .4);
         }
       where
         -- what a try comes to, with depth levels
         Answered : {T : Term} {P : Pattern} {Q : List Kind} {es : List Expression} {cs : List Constraint} {vals₀ : List ℕ} (a : Asked i T P Q es cs vals₀) → List ℕ → ℕ → Type 0
         Answered {T} {P} {Q} {es} {cs} a vals n =
             Answers R′ o (walk (Allowed cs) (allowed? cs) P T (take n vals)) × Leveled (a .search) vals X St N′ F′ n × Paused (a .search) R′ A′ vals G X St (set U (depth - 1) u) N′ F′ n
-            × ((p x s lo hi : ℕ) → o ≡ answer.Need p x s lo hi → (getD G (depth - 1) 0 + 1 ≤ p)
-            × Needs (i .L) (i .S) R′ A′ (a .search .K) (a .search .N) (a .search .Z) Q [] (λ ds. walkT Any any? P T 0 [] (take n vals ++ ds)) p x s lo hi)
+            × Before (i .L) (i .S) A′ (getD G (depth - 1) 0) (getD U (depth - 1) 0) (getD F (depth - 1) 0 - 1) (a .search .K) (a .search .N) (a .search .Z) Q
+            × ((p x s : ℕ) → o ≡ answer.Need p x s → Asks (a .search) R′ A′ vals n (getD G (depth - 1) 0) p x s)
 
         kept : length R′ ≡ length R
         kept =
@@ -315,7 +371,45 @@ module _ {i : Input} where
             let t = try-taken (a .search) (b .0) (b .1) (r .live) (g .long .record-long) in
             post .is (h .0) (h .1) (h .2) (h .3) (h .4) (k .0) (t .0) (t .1) (t .2) (a .search) (k .1) (k .2) (t .3) .2 .long
 
-  module _ {out R A G X St U N F : List ℕ} {depth cnt tries : ℕ} {o : Out} (t : Tried i out R A G X St U N F depth cnt tries o) where
+  module _ {out R A G X St U N F : List ℕ} {depth cnt tries limit failed u : ℕ} (g : Passing i out R A G X St U N F depth cnt tries limit failed u) where
+    ready : Ready i out R A G X St (set U (depth - 1) u) (set N (depth - 1) (getD N (depth - 1) 0 + failed)) (set F (depth - 1) (getD F (depth - 1) 0 - failed)) depth cnt (tries + failed)
+    ready = going-skip (g .ready) (g .pre) (g .fewer) (g .afford) (g .post)
+
+    inside : depth - 1 < 16
+    inside = omega (arith, going-depth (g .ready .going) (g .pre), g .ready .some)
+
+    row-is : getD (set U (depth - 1) u) (depth - 1) 0 ≡ u
+    row-is = getD-set-same U (depth - 1) u 0 (omega (arith, inside, g .ready .going .long .rows-long))
+
+    next-is : getD (set N (depth - 1) (getD N (depth - 1) 0 + failed)) (depth - 1) 0 ≡ getD N (depth - 1) 0 + failed
+    next-is = getD-set-same N (depth - 1) (getD N (depth - 1) 0 + failed) 0 (omega (arith, inside, g .ready .going .long .nexts-long))
+
+    left-is : getD (set F (depth - 1) (getD F (depth - 1) 0 - failed)) (depth - 1) 0 ≡ getD F (depth - 1) 0 - failed
+    left-is = getD-set-same F (depth - 1) (getD F (depth - 1) 0 - failed) 0 (omega (arith, inside, g .ready .going .long .lefts-long))
+
+    -- the numbers of the value that is tried
+    pub passed-small : (failed ≤ limit) × (depth ≤ 16) × (getD N (depth - 1) 0 + getD F (depth - 1) 0 ≤ 2049)
+    passed-small = let q = placed (g .ready) (g .pre) in (g .post .few, q .deep, q .small)
+
+    pub passed-asked : AttemptPre (i .L) (i .S) (i .M) (i .name) (i .first) (i .null) (i .cont) (i .ends) (i .C) (i .kinds) R A
+        (getD G (depth - 1) 0) (getD X (depth - 1) 0) (getD St (depth - 1) 0) u (getD N (depth - 1) 0 + failed)
+    passed-asked = rw (row-is, next-is) at (attempt-asked ready (g .pre))
+
+    pub passed-further : FurtherPre (i .S) (i .M) (getD G (depth - 1) 0) u (getD F (depth - 1) 0 - failed - 1)
+    passed-further = rw (row-is, left-is) at (further-pre ready (g .pre))
+
+    pub passed-tried : {o : Out} {R′ A′ : List ℕ} {r : ℕ}
+        → FurtherPost (i .S) (i .M) (getD G (depth - 1) 0) u (getD F (depth - 1) 0 - failed - 1) r
+        → AttemptPost (i .L) (i .S) (i .M) (i .name) (i .first) (i .null) (i .cont) (i .ends) (i .C) (i .kinds) R A
+        (getD G (depth - 1) 0) (getD X (depth - 1) 0) (getD St (depth - 1) 0) u (getD N (depth - 1) 0 + failed) o R′ A′
+        → Tried i out R′ A′ G X St (set U (depth - 1) r) (set N (depth - 1) (getD N (depth - 1) 0 + failed + 1)) (set F (depth - 1) (getD F (depth - 1) 0 - failed - 1)) depth cnt (tries + failed + 1) u (getD F (depth - 1) 0 - failed - 1) o
+    passed-tried {o} {R′} {A′} {r} further post =
+        let n = getD N (depth - 1) 0 + failed in
+        let l = getD F (depth - 1) 0 - failed in
+        rw (row-is, next-is, left-is, set-set U (depth - 1) u r, set-set N (depth - 1) n (n + 1), set-set F (depth - 1) l (l - 1)) at
+        (going-try ready {o = o} {R′ = R′} {A′ = A′} {u = r} (g .pre) (λ e. omega (arith, g .afford, g .post .few)) (rw (row-is, left-is) further) (rw (row-is, next-is) post))
+
+  module _ {out R A G X St U N F : List ℕ} {depth cnt tries u left : ℕ} {o : Out} (t : Tried i out R A G X St U N F depth cnt tries u left o) where
     pub tried-fail : o ≡ answer.Fail → Going i out R A G X St U N F depth cnt tries
     tried-fail e =
         record {
@@ -324,58 +418,79 @@ module _ {i : Input} where
           each = λ a. let h = t .each a in (h .0, at-fail (fixed i a) (h .1) (ap outcome (failed (rw e at (h .2)))), h .3, h .4);
         }
 
-    module _ {p₁ x s lo hi : ℕ} (e : o ≡ answer.Need p₁ x s lo hi) where
-      need-said : {T : Term} {P : Pattern} {Q : List Kind} {es : List Expression} {cs : List Constraint} {vals₀ : List ℕ} (a : Asked i T P Q es cs vals₀)
-          → (B : List Entry) × (walk (Allowed cs) (allowed? cs) P T (take depth (t .each a .0)) ≡ need B s lo hi) × (length B ≡ x) × (take (x + x) R ≡ numbers B)
-      need-said a = needed (rw e at (t .each a .2))
+    module _ {p₁ x s : ℕ} (e : o ≡ answer.Need p₁ x s) where
+      asks : {T : Term} {P : Pattern} {Q : List Kind} {es : List Expression} {cs : List Constraint} {vals₀ : List ℕ} (a : Asked i T P Q es cs vals₀)
+          → Asks (a .search) R A (t .each a .0) depth (getD G (depth - 1) 0) p₁ x s
+      asks a = t .each a .6 p₁ x s e
 
-      need-small : {T : Term} {P : Pattern} {Q : List Kind} {es : List Expression} {cs : List Constraint} {vals₀ : List ℕ} (a : Asked i T P Q es cs vals₀)
-          → (lo ≤ hi) × (hi < 2048) × (depth < count Q)
-      need-small {T} {cs = cs} a =
-          let n = need-said a in
-          let m = tame-need (Allowed cs) (allowed? cs) T _ (a .search .pattern .numbered) (n .1) in
-          (m .1, omega (arith, m .2, tree-small (a .search .judging .tree)), need-deep (fixed i a) (t .each a .1) lo (suc hi - lo) (ap outcome (n .1)) .0)
+      need-range : {T : Term} {P : Pattern} {Q : List Kind} {es : List Expression} {cs : List Constraint} {vals₀ : List ℕ} (a : Asked i T P Q es cs vals₀) → (asks a .lo ≤ asks a .hi) × (depth < count Q)
+      need-range {T} {cs = cs} a =
+          let n = asks a in
+          (tame-need (Allowed cs) (allowed? cs) T _ (a .search .pattern .numbered) (n .asked) .1, need-deep (fixed i a) (t .each a .1) (n .lo) (suc (n .hi) - n .lo) (ap outcome (n .asked)) .0)
 
-      pub need-fits : Pre i → (lo ≤ hi) × (hi < 2048) × (depth < 16)
+      pub need-fits : Pre i → depth < 16
       need-fits p =
           let a = p .some .6 in
-          let n = need-small a in
-          (n .0, n .1, omega (arith, n .2, few (p .some .2), a .search .judging .few))
+          omega (arith, need-range a .1, few (p .some .2), a .search .judging .few)
 
-      pub tried-need : Pre i → 0 < depth → {n : ℕ} → n ≡ hi + 1 - lo
-          → Going i out R A (set G depth p₁) (set X depth x) (set St depth s) (set U depth s) (set N depth lo) (set F depth n) (depth + 1) cnt tries
-      tried-need p some {n} en =
-          let q = need-fits p in
-          record {
-            long = record {
-              record-long = t .long .record-long;
-              places-long = length-set G depth p₁ ∙ t .long .places-long;
-              variables-long = length-set X depth x ∙ t .long .variables-long;
-              starts-long = length-set St depth s ∙ t .long .starts-long;
-              rows-long = length-set U depth s ∙ t .long .rows-long;
-              nexts-long = length-set N depth lo ∙ t .long .nexts-long;
-              lefts-long = length-set F depth n ∙ t .long .lefts-long;
-            };
-            charged = t .charged;
-            each = λ {T} {P} {Q} {es} {cs} {vals₀} a.
-                let h = t .each a in
-                let b = need-said a in
-                let y : n ≡ suc hi - lo = omega arith in
-                let m = levels-need (Allowed cs) (allowed? cs) (a .search .pattern .numbered) T (h .3) (omega (arith, h .1 .vals-long)) (omega (arith, t .long .variables-long))
-                (omega (arith, t .long .starts-long)) (omega (arith, t .long .nexts-long)) (omega (arith, t .long .lefts-long)) (b .1) (q .0) in
-                let f = h .5 p₁ x s lo hi e in
-                let z : suc (depth - 1) ≡ depth = omega arith in
-                let c : Paused (a .search) R A (h .0) (set G depth p₁) (set X depth x) (set St depth s) (set U depth s) (set N depth lo) (set F depth (suc hi - lo)) (suc depth) =
-                subst (More a (h .0)) z
-                (pauses-need (subst (λ (k : ℕ). Paused (a .search) R A (h .0) G X St U N F k) (sym z) (h .4)) (omega (arith, t .long .places-long)) (omega (arith, t .long .variables-long))
-                (omega (arith, t .long .starts-long)) (omega (arith, t .long .rows-long)) (omega (arith, t .long .nexts-long)) (omega (arith, t .long .lefts-long)) (f .0) (q .0)
-                (subst (λ (k : ℕ). Needs (i .L) (i .S) R A (a .search .K) (a .search .N) (a .search .Z) Q [] (λ ds. walkT Any any? P T 0 [] (take k (h .0) ++ ds)) p₁ x s lo hi) (sym z) (f .1)))
-                in
-                (h .0, rw y (at-need (fixed i a) (h .1) lo (suc hi - lo) (ap outcome (b .1))), rw (y, add-one depth, ← (b .2)) m, rw (y, add-one depth) c);
-          }
-        where
-          More : {T : Term} {P : Pattern} {Q : List Kind} {es : List Expression} {cs : List Constraint} {vals₀ : List ℕ} (a : Asked i T P Q es cs vals₀) → List ℕ → ℕ → Type 0
-          More a vals k = Paused (a .search) R A vals (set G k p₁) (set X k x) (set St k s) (set U k s) (set N k lo) (set F k (suc hi - lo)) (suc k)
+      -- where the walk stopped
+      need-stops : {T : Term} {P : Pattern} {Q : List Kind} {es : List Expression} {cs : List Constraint} {vals₀ : List ℕ} (a : Asked i T P Q es cs vals₀)
+          → StopAt (i .L) (i .S) (i .M) A p₁ s (a .search .K) (a .search .N) (a .search .Z) Q x (asks a .needs .stop) (asks a .needs .frames)
+      need-stops a = record { packed = a .search .packed; marks = t .each a .4 .marks; stands = asks a .needs .stands }
+
+      pub need-room : Pre i → 3 * p₁ + 2 < length (i .M)
+      need-room p = at-room (need-stops (p .some .6)) .1
+
+      pub more-asked : Pre i → MorePre (i .S) (i .M) A (getD G (depth - 1) 0) u left p₁ s
+      more-asked p =
+          let h = p .some in
+          let a = h .6 in
+          record { some = (i .L, a .search .K, a .search .N, a .search .Z, h .2, x, asks a .needs .stop, asks a .needs .frames, need-stops a, t .each a .5) }
+
+      module _ {lo n : ℕ} (low : LeastPost (i .M) p₁ s lo) (more : MorePost (i .S) (i .M) A (getD G (depth - 1) 0) u left p₁ s n) where
+        -- they are the values that the walk asked for
+        need-values : {T : Term} {P : Pattern} {Q : List Kind} {es : List Expression} {cs : List Constraint} {vals₀ : List ℕ} (a : Asked i T P Q es cs vals₀)
+            → (asks a .lo ≡ lo) × (suc (asks a .hi) - lo ≡ n)
+        need-values a =
+            let w = asks a .needs in
+            let l = low .is (i .L) (i .S) A (a .search .K) (a .search .N) (a .search .Z) _ x (w .stop) (w .frames) (need-stops a) in
+            let m = more .is (i .L) (a .search .K) (a .search .N) (a .search .Z) _ x (w .stop) (w .frames) (need-stops a) (t .each a .5) in
+            (sym (w .low) ∙ sym l, omega (arith, l, m, many-range (w .stop) s, w .high))
+
+        pub tried-need : Pre i → 0 < depth → Going i out R A (set G depth p₁) (set X depth x) (set St depth s) (set U depth s) (set N depth lo) (set F depth n) (depth + 1) cnt tries
+        tried-need p some =
+            let q = need-fits p in
+            record {
+              long = record {
+                record-long = t .long .record-long;
+                places-long = length-set G depth p₁ ∙ t .long .places-long;
+                variables-long = length-set X depth x ∙ t .long .variables-long;
+                starts-long = length-set St depth s ∙ t .long .starts-long;
+                rows-long = length-set U depth s ∙ t .long .rows-long;
+                nexts-long = length-set N depth lo ∙ t .long .nexts-long;
+                lefts-long = length-set F depth n ∙ t .long .lefts-long;
+              };
+              charged = t .charged;
+              each = λ {T} {P} {Q} {es} {cs} {vals₀} a.
+                  let h = t .each a in
+                  let b = asks a in
+                  let v = need-values a in
+                  let r = need-range a .0 in
+                  let m = levels-need (Allowed cs) (allowed? cs) (a .search .pattern .numbered) T (h .3) (omega (arith, h .1 .vals-long)) (omega (arith, t .long .variables-long))
+                  (omega (arith, t .long .starts-long)) (omega (arith, t .long .nexts-long)) (omega (arith, t .long .lefts-long)) (b .asked) r in
+                  let z : suc (depth - 1) ≡ depth = omega arith in
+                  let c : More a (h .0) (b .lo) (suc (b .hi) - b .lo) depth =
+                  subst (More a (h .0) (b .lo) (suc (b .hi) - b .lo)) z
+                  (pauses-need (subst (λ (k : ℕ). Paused (a .search) R A (h .0) G X St U N F k) (sym z) (h .4)) (omega (arith, t .long .places-long)) (omega (arith, t .long .variables-long))
+                  (omega (arith, t .long .starts-long)) (omega (arith, t .long .rows-long)) (omega (arith, t .long .nexts-long)) (omega (arith, t .long .lefts-long)) (b .later) r
+                  (subst (λ (k : ℕ). Needs (i .L) (i .S) R A (a .search .K) (a .search .N) (a .search .Z) Q [] (λ ds. walkT Any any? P T 0 [] (take k (h .0) ++ ds)) p₁ x s (b .lo) (b .hi)) (sym z) (b .needs)))
+                  in
+                  let d = at-need (fixed i a) (h .1) (b .lo) (suc (b .hi) - b .lo) (ap outcome (b .asked)) in
+                  (h .0, rw (v .0, v .1) at d, rw (v .0, v .1, b .its, ← (add-one depth)) at m, rw (v .0, v .1, ← (add-one depth)) at c);
+            }
+          where
+            More : {T : Term} {P : Pattern} {Q : List Kind} {es : List Expression} {cs : List Constraint} {vals₀ : List ℕ} (a : Asked i T P Q es cs vals₀) → List ℕ → ℕ → ℕ → ℕ → Type 0
+            More a vals lo n k = Paused (a .search) R A vals (set G k p₁) (set X k x) (set St k s) (set U k s) (set N k lo) (set F k n) (suc k)
 
     module _ {n : ℕ} (e : o ≡ answer.Ok n) where
       done-said : {T : Term} {P : Pattern} {Q : List Kind} {es : List Expression} {cs : List Constraint} {vals₀ : List ℕ} (a : Asked i T P Q es cs vals₀)

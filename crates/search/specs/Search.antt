@@ -1,7 +1,6 @@
 -- Not needed to believe the promise: what the search's private functions ask and answer.
 use Prim.Native.Nat.{ℕ, suc, _+_, _-_, _*_, _<_, _≤_}
 use mathlib.Core.Path.{_≡_}
-use mathlib.Core.Logic.{_≢_}
 use mathlib.Core.Bool.{Bool}
 use mathlib.Core.List.{List, [], _∷_, _++_}
 use lib.ListN.{length, getD, take}
@@ -27,56 +26,8 @@ use Rattle.walk.specs.declared.Out.the-variants as out
 use Rattle.listing.proofs.Fill.{fill, rest}
 use Rattle.listing.proofs.Levels.{Levels}
 use Rattle.listing.proofs.Whole.{walked}
+use Rattle.levels.specs.Levels.{Search, Pauses}
 use Rattle.search.specs.declared.Found.{Found}
-
--- the problem that is searched: the tree, the packed pattern, the constraints and the tables of the expressions
-pub record Search (L S M name first : List ℕ) (null : List Bool) (cont : List ℕ) (ends : List Bool) (C kinds : List ℕ) (T : Term) (P : Pattern) (Q : List Kind) (es : List Expression) (cs : List Constraint) : Type 0 where
-  pub K : List ℕ
-  pub N : List ℕ
-  pub Z : List ℕ
-  pub judging : Judging L S name first null cont ends C kinds T Q es cs
-  pub pattern : GoodPattern K N Z P Q
-  pub packed : Packed K N Z M
-
--- the row of a level's next value, where left values are left
-pub record FurtherPre (S M : List ℕ) (p u left : ℕ) : Type 0 where
-  pub room : 3 * p + 2 < length M
-  pub small : u < 4294967296
-  pub inside : 0 < left → getD M (3 * p) 0 ≡ 2 → u < length S
-
-pub record FurtherPost (S M : List ℕ) (p u left r : ℕ) : Type 0 where
-  pub terms : 0 < left → getD M (3 * p) 0 ≡ 2 → r ≡ u + getD S u 0
-  pub hole : 0 < left → getD M (3 * p) 0 ≢ 2 → r ≡ u + 1
-
--- one try: the value v of the variable x at the pattern row p, which starts at the row s; f is the walk that asked for it
-pub record AttemptPre (L S M name first : List ℕ) (null : List Bool) (cont : List ℕ) (ends : List Bool) (C kinds R A : List ℕ) (p x s u v : ℕ) : Type 0 where
-  pub long : length R ≡ 32
-  pub some : (T : Term) × (P : Pattern) × (Q : List Kind) × (es : List Expression) × (cs : List Constraint) × (k : Kind) × (f : List ℕ → Res) × (lo : ℕ) × (hi : ℕ)
-      × (w : Search L S M name first null cont ends C kinds T P Q es cs) × (look Q x ≡ old k) × Fits k (T ◂ none) s v × TakeAsked L S M R A p x s u v (w .K) (w .N) (w .Z) Q f lo hi
-
--- where the value is not allowed it fails; else the walk goes on with it. What stands before the variable is kept.
-pub record AttemptPost (L S M name first : List ℕ) (null : List Bool) (cont : List ℕ) (ends : List Bool) (C kinds R A : List ℕ) (p x s u v : ℕ) (o : Out) (R′ A′ : List ℕ) : Type 0 where
-  pub is : (T : Term) (P : Pattern) (Q : List Kind) (es : List Expression) (cs : List Constraint) (k : Kind) (f : List ℕ → Res) (lo hi : ℕ)
-      (w : Search L S M name first null cont ends C kinds T P Q es cs) → look Q x ≡ old k → Fits k (T ◂ none) s v → TakeAsked L S M R A p x s u v (w .K) (w .N) (w .Z) Q f lo hi
-      → ((Allowed cs x (valueAt k (T ◂ none) s v) → ⊥) → o ≡ out.Fail)
-      × (Allowed cs x (valueAt k (T ◂ none) s v) → (m : ℕ) × Agree L S R′ A′ (w .K) (w .N) (w .Z) Q (p + 1) m [] (λ ds. f (v ∷ ds)) o)
-      × Unchanged x R R′ × Unchanged (p + 1) A A′
-
--- a level: the walk f asked for the variable x, and goes on at the row u with the next value v; left values are left
-pub record Pause (L S R A K N Z : List ℕ) (Q : List Kind) (f : List ℕ → Res) (p x s u v left : ℕ) : Type 0 where
-  pub lo : ℕ
-  pub hi : ℕ
-  pub needs : Needs L S R A K N Z Q [] f p x s lo hi
-  pub low : lo ≤ v
-  pub high : v + left ≡ suc hi
-  pub lands : 0 < left → Lands L S s u (v - lo) (needs .stop)
-
--- the levels below depth, each after the choices of those before it, deeper ones further right in the pattern
-pub record Pauses (L S R A K N Z : List ℕ) (Q : List Kind) (P : Pattern) (T : Term) (vals places variables starts rows nexts lefts : List ℕ) (depth : ℕ) : Type 0 where
-  pub marks : Marks K A
-  pub each : (k : ℕ) → k < depth
-      → Pause L S R A K N Z Q (λ ds. walkT Any any? P T 0 [] (take k vals ++ ds)) (getD places k 0) (getD variables k 0) (getD starts k 0) (getD rows k 0) (getD nexts k 0) (getD lefts k 0)
-  pub rise : (j k : ℕ) → j < k → k < depth → getD places j 0 < getD places k 0
 
 -- levels that the search can go on from
 pub record GoAsked (L S M name first : List ℕ) (null : List Bool) (cont : List ℕ) (ends : List Bool) (C kinds : List ℕ) (room width : ℕ) (R A places variables starts rows nexts lefts : List ℕ) (depth : ℕ) (before : List ℕ)

@@ -1,10 +1,9 @@
 ghost use mathlib.Core.Path.{_≡_};
-ghost use Prim.Native.Nat.{_+_, _≤_};
+ghost use Prim.Native.Nat.{_+_, _<_, _≤_};
 ghost use lib.ListN.{length};
 ghost use lib.Seq.{paste};
-ghost use Rattle.memory.specs.Memory.{Remembers};
 ghost use Rattle.listing.proofs.Back.{BackTo};
-ghost use Rattle.search.specs.Search.{FurtherPre, FurtherPost, AttemptPre, AttemptPost, GoPre, GoPost};
+ghost use Rattle.search.specs.Search.{GoPre, GoPost};
 
 // What the search comes to: the ending, how many records were written, and the tries.
 pub struct Found {
@@ -40,65 +39,17 @@ fn back(lefts: &[usize; 16], depth: usize) -> usize
     0
 }
 
-// The row of a level's next value: behind one term more of a sequence, or one row further for a context's hole. The last stays.
-fn further(size: &[u32], pattern: &[u32; 768], p: usize, u: usize, left: usize) -> usize
-    requires { ⌜ FurtherPre (now size) (now pattern) p u left ⌝ }
-    ensures { λ r. ⌜ FurtherPost (now (size .entry)) (now (pattern .entry)) p u left r ⌝ }
+// How many values may be passed over before one is tried: fewer than are left, and than the budget allows.
+fn spare(left: usize, budget: u32, tries: u32) -> usize
+    requires { ⌜ (0 < left) × (tries < budget) ⌝ }
+    ensures { λ r. ⌜ (r < left) × (tries + r < budget) ⌝ }
 {
-    if left == 0 {
-        return u;
+    let more = budget - tries;
+    let allowed = more as usize;
+    if left < allowed {
+        return left - 1;
     }
-    if walk::kind(pattern, p) == 2 {
-        return tree::next(size, u);
-    }
-    u + 1
-}
-
-// One try: the variable x at the pattern row p, which starts at the row s, takes the value v. The constraint is judged before the
-// walk goes on, at the row u.
-fn attempt(
-    label: &[u32],
-    size: &[u32],
-    pattern: &[u32; 768],
-    name: &[u32; 64],
-    first: &[u64; 64],
-    null: &[bool; 64],
-    cont: &[u64; 64],
-    ends: &[bool; 64],
-    constraint: &[u32],
-    kinds: &[u32; 16],
-    record: &mut [u32; 32],
-    at: &mut [usize; 512],
-    p: usize,
-    x: usize,
-    s: usize,
-    u: usize,
-    v: usize,
-    memory: &mut [usize; 80],
-) -> walk::Out
-    requires { ⌜ AttemptPre (now label) (now size) (now pattern) (now name) (now first) (now null) (now cont) (now ends) (now constraint) (now kinds) (now «record») (now at) p x s u v
-        × Remembers (now label) (now size) (now name) (now first) (now null) (now cont) (now ends) (now constraint) (now memory) ⌝ }
-    ensures { λ r. ⌜ AttemptPost (now (label .entry)) (now (size .entry)) (now (pattern .entry)) (now (name .entry)) (now (first .entry)) (now (null .entry)) (now (cont .entry)) (now (ends .entry)) (now (constraint .entry)) (now (kinds .entry)) (now («record» .entry)) (now (at .entry)) p x s u v r (now («record» .exit)) (now (at .exit))
-        × Remembers (now (label .entry)) (now (size .entry)) (now (name .entry)) (now (first .entry)) (now (null .entry)) (now (cont .entry)) (now (ends .entry)) (now (constraint .entry)) (now (memory .exit)) ⌝ }
-{
-    if !memory::judge(
-        label,
-        size,
-        name,
-        first,
-        null,
-        cont,
-        ends,
-        constraint,
-        kinds,
-        x,
-        s,
-        v,
-        memory,
-    ) {
-        return walk::Out::Fail;
-    }
-    walk::take(label, size, pattern, record, at, p, x, s, u, v)
+    allowed - 1
 }
 
 // The search from levels that stand after some choices: the last level's next value is tried, and what the walk finds is noted.
@@ -150,15 +101,28 @@ pub fn go(
                 tries,
             };
         }
-        tries += 1;
         let last = depth - 1;
-        let v = nexts[last];
-        let u = rows[last];
-        let left = lefts[last] - 1;
+        let limit = spare(lefts[last], budget, tries);
+        let run = choice::skip(
+            label,
+            size,
+            pattern,
+            at,
+            places[last],
+            rows[last],
+            lefts[last],
+            limit,
+        );
+        let failed = run.count;
+        let u = run.row;
+        let v = nexts[last] + failed;
+        let left = lefts[last] - failed - 1;
+        let more = failed as u32;
+        tries = tries + more + 1;
         nexts[last] = v + 1;
         lefts[last] = left;
-        rows[last] = further(size, pattern, places[last], u, left);
-        match attempt(
+        rows[last] = choice::further(size, pattern, places[last], u, left);
+        match levels::attempt(
             label,
             size,
             pattern,
@@ -179,13 +143,13 @@ pub fn go(
             &mut memory,
         ) {
             walk::Out::Fail => {}
-            walk::Out::Need(p, x, s, lo, hi) => {
+            walk::Out::Need(p, x, s) => {
+                nexts[depth] = choice::least(pattern, p, s);
+                lefts[depth] = choice::more_values(size, pattern, at, places[last], u, left, p, s);
                 places[depth] = p;
                 variables[depth] = x;
                 starts[depth] = s;
                 rows[depth] = s;
-                nexts[depth] = lo;
-                lefts[depth] = hi + 1 - lo;
                 depth += 1;
             }
             walk::Out::Ok(_) => {

@@ -12,31 +12,26 @@ use Rattle.meaning.specs.Pattern.{Pattern, Kind, anIndividual, aSequence, aFunc
 use Rattle.meaning.specs.Record.{Entry, numbers}
 use Rattle.meaning.specs.Order.{choices}
 use Rattle.meaning.proofs.Walk.{Res, fail, ok, over, when, walkT, walk}
-use Rattle.meaning.proofs.Resume.{Frame, Stop, least, largest, then-done}
+use Rattle.meaning.proofs.Resume.{least, largest, then-done}
 use Rattle.meaning.proofs.Next.{Any, any?}
 use Rattle.meaning.proofs.Tame.{count, choices-few, numbers-double, tame-ok, tame-need}
 use Rattle.meaning.proofs.Steps.{values-length}
-use Rattle.tree.specs.Helpers.{PastPre, PastPost}
-use Rattle.tree.proofs.Terms.{terms-rows}
-use Rattle.tree.proofs.Counts.{past-at}
-use Rattle.tree.proofs.Cuts.{cut-at}
 use Rattle.record.proofs.Each.{good-long}
-use Rattle.variable.proofs.Choices.{when-no}
 use Rattle.variable.proofs.States.{count-bound}
 use Rattle.walk.specs.Packed.{Packed}
-use Rattle.walk.specs.Above.{Stands, before-terms, over-term}
 use Rattle.walk.specs.Cycle.{Needs, Agree, both-fail, both-need, both-ok}
-use Rattle.walk.specs.Onward.{Lands, at-terms, at-hole, Problem, BeginPre, BeginPost}
+use Rattle.walk.specs.Onward.{Lands, Problem, BeginPre, BeginPost}
 use Rattle.walk.specs.Taken.{TakeAsked, TakePre, TakePost}
 use Rattle.walk.specs.declared.Out.{Out}
 use Rattle.walk.specs.declared.Out.the-variants as out
 use Rattle.walk.proofs.Views.{fail-agree, need-agree, ok-agree, agree-same}
 use Rattle.walk.proofs.Marks.{marks-kept}
-use Rattle.walk.proofs.Resumes.{stop-row}
+use Rattle.choice.specs.Stops.{StopAt, AtStop, LeastPost, ValuesPost, LandingPre, LandingPost}
+use Rattle.choice.proofs.Stops.{many-range, at-room}
 use Rattle.listing.proofs.Given.{Chosen}
 use Rattle.listing.proofs.Levels.{Level, level-kind, level-count}
 use Rattle.test.specs.Inside.{Walkable}
-use Rattle.test.specs.Followed.{LandingPre, LandingPost, FollowPre, FollowPost, Followed, lost, found}
+use Rattle.test.specs.Followed.{FollowPre, FollowPost, Followed, lost, found}
 
 -- the choice of one variable among those of a record
 choices-at : (Q : List Kind) (list : List ℕ) (x : ℕ) (k : Kind) → look Q x ≡ old k → Chosen k → length list ≡ length Q + length Q
@@ -73,58 +68,10 @@ same-cut [] (y ∷ b) c d e l = absurd (omega arith)
 same-cut (x ∷ a) [] c d e l = absurd (omega arith)
 same-cut (x ∷ a) (y ∷ b) c d e l = same-cut a b c d (let z : a ++ c ≡ b ++ d = cc in z) (omega arith)
 
-module _ {S : List ℕ} {p t v : ℕ} where
-  lands-terms : {L A K N Z : List ℕ} {Q : List Kind} {x u : ℕ} {w : Stop} {fs : List Frame} → Stands L S A K N Z Q p x t w fs → getD K p 0 ≡ 2 → v ≤ largest w t → PastPost S t v u
-      → Lands L S t u (v - least w t) w
-  lands-terms (before-terms {te = te} {us = us} c k f h pt g tr hd) two b past =
-      let y = past-at past tr b in
-      let z : v - 0 ≡ v = omega arith in
-      at-terms {e = te} {us = us} (rw z (y .1, terms-rows (y .0)))
-  lands-terms (over-term c k z i g tr m b) two h past = absurd (omega arith)
-
-  lands-hole : {L A K N Z : List ℕ} {Q : List Kind} {x : ℕ} {w : Stop} {fs : List Frame} → Stands L S A K N Z Q p x t w fs → getD K p 0 ≢ 2 → least w t ≤ v → v ≤ largest w t
-      → Lands L S t v (v - least w t) w
-  lands-hole (before-terms c k f h pt g tr hd) two a b = absurd (two k)
-  lands-hole (over-term c k z i g tr m b) two a d =
-      let q = cut-at v tr a (omega (arith, tr .row .size)) in
-      at-hole (omega arith, q .1)
-
--- the row at which the walk goes on
-module _ {S M : List ℕ} {p t v : ℕ} where
-  pub landing-row : LandingPre S M p t v → 3 * p + 2 < length M
-  landing-row pre = let s = pre .some in omega (arith, stop-row (s .11) (s .12 .stands), s .11 .room)
-
-  pub landing-past : {k : ℕ} → LandingPre S M p t v → k ≡ getD M (3 * p) 0 → k ≡ 2 → PastPre S t v
-  landing-past pre ek two =
-      let s = pre .some in
-      let n = s .12 in
-      go (n .stands) (sym (s .11 .kinds p (stop-row (s .11) (n .stands))) ∙ sym ek ∙ two) (omega (arith, s .14, n .high))
-    where
-      go : {L A K N Z : List ℕ} {Q : List Kind} {x : ℕ} {w : Stop} {fs : List Frame} → Stands L S A K N Z Q p x t w fs → getD K p 0 ≡ 2 → v ≤ largest w t → PastPre S t v
-      go {L} (before-terms {te = e} {us = us} c k f h pt g tr hd) two b = record { some = (L, e, us, tr, b) }
-      go (over-term c k z i g tr m b) two h = absurd (omega arith)
-
-  module _ {k : ℕ} (ek : k ≡ getD M (3 * p) 0) where
-    pub landing-terms : {u : ℕ} → k ≡ 2 → PastPost S t v u → LandingPost S M p t v u
-    landing-terms {u} two past =
-        record {
-          is = λ L R A K N Z Q f x lo hi m n a b.
-              subst (λ (i : ℕ). Lands L S t u (v - i) (n .stop)) (n .low)
-              (lands-terms (n .stands) (sym (m .kinds p (stop-row m (n .stands))) ∙ sym ek ∙ two) (omega (arith, n .high)) past);
-        }
-
-    pub landing-hole : k ≢ 2 → LandingPost S M p t v v
-    landing-hole two =
-        record {
-          is = λ L R A K N Z Q f x lo hi m n a b.
-              subst (λ (i : ℕ). Lands L S t v (v - i) (n .stop)) (n .low)
-              (lands-hole (n .stands) (λ e. two (ek ∙ m .kinds p (stop-row m (n .stands)) ∙ e)) (omega (arith, n .low)) (omega (arith, n .high)));
-        }
-
 -- how many rows of the pattern are left where the walk asks
 abbrev pub left-over : Out → ℕ
 left-over out.Fail = 0
-left-over (out.Need p x t lo hi) = 257 - p
+left-over (out.Need p x t) = 257 - p
 left-over (out.Ok n) = 0
 
 fewer : {L S R A K N Z : List ℕ} {Q : List Kind} {p m : ℕ} {f : List ℕ → Res} {o : Out} → Agree L S R A K N Z Q (p + 1) m [] f o → p < 256 → left-over o < 257 - p
@@ -206,109 +153,157 @@ module _ {L S M list R A : List ℕ} {o : Out} (w : Following L S M list R A o) 
       no-more ds [] l = refl
       no-more ds (r ∷ rs) l = absurd (omega (arith, length-append ds (r ∷ rs)))
 
-  module _ {p x t lo hi : ℕ} (e : o ≡ out.Need p x t lo hi) where
-    needs : {K N Z : List ℕ} {T : Term} {P : Pattern} {Q : List Kind} (h : Made L S R A K N Z list T P Q o) → Needs L S R A K N Z Q [] (λ es. walkT Any any? P T 0 [] (h .ds ++ es)) p x t lo hi
-    needs {K} {N} {Z} {T} {P} {Q} h = need-agree (subst (λ (o : Out). Agree L S R A K N Z Q (h .p₀) (h .m) [] (λ es. walkT Any any? P T 0 [] (h .ds ++ es)) o) e (h .agrees)) .1
+  module _ {p x t : ℕ} (e : o ≡ out.Need p x t) where
+    needs : {K N Z : List ℕ} {T : Term} {P : Pattern} {Q : List Kind} (h : Made L S R A K N Z list T P Q o)
+        → (lo : ℕ) × (hi : ℕ) × Needs L S R A K N Z Q [] (λ es. walkT Any any? P T 0 [] (h .ds ++ es)) p x t lo hi
+    needs {K} {N} {Z} {T} {P} {Q} h =
+        let n = need-agree (subst (λ (o : Out). Agree L S R A K N Z Q (h .p₀) (h .m) [] (λ es. walkT Any any? P T 0 [] (h .ds ++ es)) o) e (h .agrees)) in
+        (n .1, n .2, n .3)
 
     -- the next choice is the variable's own
     next : {K N Z : List ℕ} {T : Term} {P : Pattern} {Q : List Kind} → Walkable L S K N Z list T P Q → (h : Made L S R A K N Z list T P Q o)
-        → (c : List ℕ) × (h .rs ≡ getD list (x + x + 1) 0 ∷ c) × (x + x + 1 < length list) × (lo ≤ hi)
+        → (c : List ℕ) × (h .rs ≡ getD list (x + x + 1) 0 ∷ c) × (x + x + 1 < length list)
     next {T = T} {P = P} {Q = Q} a h =
         let n = needs h in
         let g = a .pattern .numbered in
-        let asked = ap over (ap (walkT Any any? P T 0 []) (sym (append-nil (h .ds))) ∙ n .asks) in
+        let asked = ap over (ap (walkT Any any? P T 0 []) (sym (append-nil (h .ds))) ∙ n .2 .asks) in
         let r = tame-need Any any? T (h .ds) g asked in
-        let v : Level Any any? g T (h .ds) x t lo (suc hi - lo) =
-        record { bound = n .bound; lo = lo; hi = hi; asked = asked; its = values-length (n .bound) ∙ count-bound (n .state); low = omega arith; high = omega (arith, r .1) }
+        let v : Level Any any? g T (h .ds) x t (n .0) (suc (n .1) - n .0) =
+        record { bound = n .2 .bound; lo = n .0; hi = n .1; asked = asked; its = values-length (n .2 .bound) ∙ count-bound (n .2 .state); low = omega arith; high = omega (arith, r .1) }
         in
         let k = level-kind Any any? g T v in
         let l = good-long Q (T ◂ none) list (a .good) in
         let c = choices-at Q list x (k .0) (k .1) (k .2) (omega (arith, l)) in
-        (c .1, same-cut (h .ds) (c .0) (h .rs) _ (sym (h .all) ∙ c .2) (level-count Any any? g T v ∙ sym (c .3)), omega (arith, l, n .within), r .1)
+        (c .1, same-cut (h .ds) (c .0) (h .rs) _ (sym (h .all) ∙ c .2) (level-count Any any? g T v ∙ sym (c .3)), omega (arith, l, n .2 .within))
+
+    -- where the walk stopped
+    stops : {K N Z : List ℕ} {T : Term} {P : Pattern} {Q : List Kind} → Walkable L S K N Z list T P Q → Packed K N Z M → (h : Made L S R A K N Z list T P Q o)
+        → StopAt L S M A p t K N Z Q x (needs h .2 .stop) (needs h .2 .frames)
+    stops a m h = record { packed = m; marks = record { few = a .pattern .few; long = w .rows-long }; stands = needs h .2 .stands }
 
     -- a value out of range
-    out-of-range : {K N Z : List ℕ} {T : Term} {P : Pattern} {Q : List Kind} {v : ℕ} (h : Made L S R A K N Z list T P Q o) → ((lo ≤ v) × (v ≤ hi) → ⊥) → (cs : List ℕ)
+    out-of-range : {K N Z : List ℕ} {T : Term} {P : Pattern} {Q : List Kind} {v : ℕ} (h : Made L S R A K N Z list T P Q o) → ((least (needs h .2 .stop) t ≤ v) × (v ≤ largest (needs h .2 .stop) t) → ⊥) → (cs : List ℕ)
         → walkT Any any? P T 0 [] (h .ds ++ (v ∷ cs)) ≡ fail
     out-of-range {v = v} h f cs =
-        let n = needs h in
+        let n = needs h .2 in
         let s = n .stop in
-        sym (then-done Any any? _) ∙ n .goes v cs ∙ go _ (decLe (least s t) v) (decLe v (largest s t)) (λ g. f (omega (arith, g .0, n .low), omega (arith, g .1, n .high)))
+        sym (then-done Any any? _) ∙ n .goes v cs ∙ go _ (decLe (least s t) v) (decLe v (largest s t)) f
       where
         go : {X Y : Type 0} (r : Res) (a : Dec X) (b : Dec Y) → (X × Y → ⊥) → when a (when b r) ≡ fail
         go r (yes a) (yes b) g = absurd (g (a, b))
         go r (yes a) (no b) g = refl
         go r (no a) b g = refl
 
-    module _ {v : ℕ} (ev : v ≡ getD list (x + x + 1) 0) where
-      pub follow-out : ((lo ≤ v) × (v ≤ hi) → ⊥) → FollowPost L S M list false R
-      follow-out f =
+    -- the walk stands for what the caller has
+    made : (pre : FollowPre L S M list R) → let s = pre .some in
+        Made L S R A (s .0) (s .1) (s .2) list (s .3) (s .4) (s .5) o
+    made pre = let s = pre .some in w .is (s .0) (s .1) (s .2) (s .3) (s .4) (s .5) (s .6) (s .7)
+
+    pub follow-stop : FollowPre L S M list R → AtStop S M A p t
+    follow-stop pre =
+        let s = pre .some in
+        let h = made pre in
+        record { some = (L, s .0, s .1, s .2, s .5, x, needs h .2 .stop, needs h .2 .frames, stops (s .6) (s .7) h) }
+
+    pub follow-room : FollowPre L S M list R → 3 * p + 2 < length M
+    follow-room pre = let s = pre .some in at-room (stops (s .6) (s .7) (made pre)) .1
+
+    pub follow-read : FollowPre L S M list R → x + x + 1 < length list
+    follow-read pre = let s = pre .some in next (s .6) (made pre) .2
+
+    module _ {v lo : ℕ} (ev : v ≡ getD list (x + x + 1) 0) (least-is : LeastPost M p t lo) where
+      low-of : {K N Z : List ℕ} {T : Term} {P : Pattern} {Q : List Kind} → Walkable L S K N Z list T P Q → Packed K N Z M → (h : Made L S R A K N Z list T P Q o) → lo ≡ least (needs h .2 .stop) t
+      low-of {K} {N} {Z} {Q = Q} a m h = least-is .is L S A K N Z Q x (needs h .2 .stop) (needs h .2 .frames) (stops a m h)
+
+      lost-there : ((K N Z : List ℕ) (T : Term) (P : Pattern) (Q : List Kind) → Walkable L S K N Z list T P Q → Packed K N Z M → (h : Made L S R A K N Z list T P Q o)
+          → (least (needs h .2 .stop) t ≤ v) × (v ≤ largest (needs h .2 .stop) t) → ⊥) → FollowPost L S M list false R
+      lost-there f =
           record {
             long = w .long;
             is = λ K N Z T P Q a m.
                 let h = w .is K N Z T P Q a m in
                 let c = next a h in
                 let z : h .rs ≡ v ∷ c .0 = c .1 ∙ ap (λ (i : ℕ). i ∷ c .0) (sym ev) in
-                rw (whole h, z, out-of-range h f (c .0)) lost;
+                rw (whole h, z, out-of-range h (f K N Z T P Q a m h) (c .0)) lost;
           }
 
-      module _ (low : lo ≤ v) (high : v ≤ hi) where
-        pub follow-landing : FollowPre L S M list R → LandingPre S M p t v
-        follow-landing pre =
-            let s = pre .some in
-            record { some = (L, R, A, s .0, s .1, s .2, s .5, _, x, lo, hi, s .7, needs (w .is (s .0) (s .1) (s .2) (s .3) (s .4) (s .5) (s .6) (s .7)), low, high) }
+      pub follow-low : v < lo → FollowPost L S M list false R
+      follow-low l = lost-there λ K N Z T P Q a m h g. omega (arith, g .0, low-of a m h)
 
-        module _ {u : ℕ} (lands : LandingPost S M p t v u) where
-          taking : {K N Z : List ℕ} {T : Term} {P : Pattern} {Q : List Kind} → Walkable L S K N Z list T P Q → Packed K N Z M → (h : Made L S R A K N Z list T P Q o)
-              → TakeAsked L S M R A p x t u v K N Z Q (λ es. walkT Any any? P T 0 [] (h .ds ++ es)) lo hi
-          taking {K} {N} {Z} {T} {P} {Q} a m h =
-              record {
-                packed = m;
-                long = w .long;
-                marks = record { few = a .pattern .few; long = w .rows-long };
-                needs = needs h;
-                low = low;
-                high = high;
-                lands = lands .is L R A K N Z Q _ x lo hi m (needs h) low high;
-              }
+      module _ {n : ℕ} (values : ValuesPost S M A p t n) (low : lo ≤ v) where
+        many-of : {K N Z : List ℕ} {T : Term} {P : Pattern} {Q : List Kind} → Walkable L S K N Z list T P Q → Packed K N Z M → (h : Made L S R A K N Z list T P Q o) → lo + n ≡ suc (largest (needs h .2 .stop) t)
+        many-of {K} {N} {Z} {Q = Q} a m h =
+            let s = needs h .2 .stop in
+            omega (arith, low-of a m h, values .is L K N Z Q x s (needs h .2 .frames) (stops a m h), many-range s t)
 
-          pub follow-takes : FollowPre L S M list R → TakePre L S M R A p x t u v
-          follow-takes pre =
+        pub follow-high : n ≤ v - lo → FollowPost L S M list false R
+        follow-high l = lost-there λ K N Z T P Q a m h g. omega (arith, g .1, many-of a m h)
+
+        module _ (high : v - lo < n) where
+          ranged : {K N Z : List ℕ} {T : Term} {P : Pattern} {Q : List Kind} → Walkable L S K N Z list T P Q → Packed K N Z M → (h : Made L S R A K N Z list T P Q o)
+              → (least (needs h .2 .stop) t ≤ v) × (v ≤ largest (needs h .2 .stop) t)
+          ranged a m h = (omega (arith, low-of a m h), omega (arith, many-of a m h))
+
+          pub follow-landing : FollowPre L S M list R → LandingPre S M p t v
+          follow-landing pre =
               let s = pre .some in
-              record { some = (s .0, s .1, s .2, s .5, _, lo, hi, taking (s .6) (s .7) (w .is (s .0) (s .1) (s .2) (s .3) (s .4) (s .5) (s .6) (s .7))) }
+              let h = made pre in
+              let r = ranged (s .6) (s .7) h in
+              record { some = (L, A, s .0, s .1, s .2, s .5, x, needs h .2 .stop, needs h .2 .frames, stops (s .6) (s .7) h, r .0, r .1) }
 
-          pub follow-goes : {o₁ : Out} {R₁ A₁ : List ℕ} → FollowPre L S M list R → TakePost L S M R A p x t u v o₁ R₁ A₁ → Following L S M list R₁ A₁ o₁
-          follow-goes {o₁} {R₁} {A₁} pre post =
-              let s = pre .some in
-              let h = w .is (s .0) (s .1) (s .2) (s .3) (s .4) (s .5) (s .6) (s .7) in
-              let y = post .is (s .0) (s .1) (s .2) (s .5) _ lo hi (taking (s .6) (s .7) h) in
-              record {
-                long = y .2 .long ∙ w .long;
-                rows-long = y .3 .long ∙ w .rows-long;
-                is = λ K N Z T P Q a m.
-                    let h = w .is K N Z T P Q a m in
-                    let c = next a h in
-                    let z : h .rs ≡ v ∷ c .0 = c .1 ∙ ap (λ (i : ℕ). i ∷ c .0) (sym ev) in
-                    let y = post .is K N Z Q _ lo hi (taking a m h) in
-                    record {
-                      ds = h .ds ++ (v ∷ []);
-                      rs = c .0;
-                      all = h .all ∙ ap (λ (l : List ℕ). h .ds ++ l) z ∙ sym (append-assoc (h .ds) (v ∷ []) (c .0));
-                      p₀ = p + 1;
-                      m = y .0;
-                      agrees = agree-same (λ es. ap (walkT Any any? P T 0 []) (append-assoc (h .ds) (v ∷ []) es)) (y .1);
-                    };
-              }
+          module _ {u : ℕ} (lands : LandingPost S M p t v u) where
+            taking : {K N Z : List ℕ} {T : Term} {P : Pattern} {Q : List Kind} → Walkable L S K N Z list T P Q → Packed K N Z M → (h : Made L S R A K N Z list T P Q o)
+                → TakeAsked L S M R A p x t u v K N Z Q (λ es. walkT Any any? P T 0 [] (h .ds ++ es)) (needs h .0) (needs h .1)
+            taking {K} {N} {Z} {T} {P} {Q} a m h =
+                let n = needs h .2 in
+                let r = ranged a m h in
+                record {
+                  packed = m;
+                  long = w .long;
+                  marks = record { few = a .pattern .few; long = w .rows-long };
+                  needs = n;
+                  low = omega (arith, r .0, n .low);
+                  high = omega (arith, r .1, n .high);
+                  lands =
+                      subst (λ (i : ℕ). Lands L S t u (v - i) (n .stop)) (n .low) (lands .is L A K N Z Q x (n .stop) (n .frames) (stops a m h) (r .0) (r .1));
+                }
 
-          -- it asks further right, if it asks
-          pub follow-right : {o₁ : Out} {R₁ A₁ : List ℕ} → FollowPre L S M list R → TakePost L S M R A p x t u v o₁ R₁ A₁ → left-over o₁ < left-over (out.Need p x t lo hi)
-          follow-right {o₁} pre post =
-              let s = pre .some in
-              let h = w .is (s .0) (s .1) (s .2) (s .3) (s .4) (s .5) (s .6) (s .7) in
-              let y = post .is (s .0) (s .1) (s .2) (s .5) _ lo hi (taking (s .6) (s .7) h) in
-              fewer (y .1) (omega (arith, stop-row (s .7) (needs h .stands), s .6 .pattern .few))
+            pub follow-takes : FollowPre L S M list R → TakePre L S M R A p x t u v
+            follow-takes pre =
+                let s = pre .some in
+                let h = made pre in
+                record { some = (s .0, s .1, s .2, s .5, _, needs h .0, needs h .1, taking (s .6) (s .7) h) }
 
-    pub follow-read : FollowPre L S M list R → x + x + 1 < length list
-    follow-read pre = let s = pre .some in next (s .6) (w .is (s .0) (s .1) (s .2) (s .3) (s .4) (s .5) (s .6) (s .7)) .2
+            pub follow-goes : {o₁ : Out} {R₁ A₁ : List ℕ} → FollowPre L S M list R → TakePost L S M R A p x t u v o₁ R₁ A₁ → Following L S M list R₁ A₁ o₁
+            follow-goes {o₁} {R₁} {A₁} pre post =
+                let s = pre .some in
+                let h = made pre in
+                let y = post .is (s .0) (s .1) (s .2) (s .5) _ (needs h .0) (needs h .1) (taking (s .6) (s .7) h) in
+                record {
+                  long = y .2 .long ∙ w .long;
+                  rows-long = y .3 .long ∙ w .rows-long;
+                  is = λ K N Z T P Q a m.
+                      let h = w .is K N Z T P Q a m in
+                      let c = next a h in
+                      let z : h .rs ≡ v ∷ c .0 = c .1 ∙ ap (λ (i : ℕ). i ∷ c .0) (sym ev) in
+                      let y = post .is K N Z Q _ (needs h .0) (needs h .1) (taking a m h) in
+                      record {
+                        ds = h .ds ++ (v ∷ []);
+                        rs = c .0;
+                        all = h .all ∙ ap (λ (l : List ℕ). h .ds ++ l) z ∙ sym (append-assoc (h .ds) (v ∷ []) (c .0));
+                        p₀ = p + 1;
+                        m = y .0;
+                        agrees = agree-same (λ es. ap (walkT Any any? P T 0 []) (append-assoc (h .ds) (v ∷ []) es)) (y .1);
+                      };
+                }
+
+            -- it asks further right, if it asks
+            pub follow-right : {o₁ : Out} {R₁ A₁ : List ℕ} → FollowPre L S M list R → TakePost L S M R A p x t u v o₁ R₁ A₁ → left-over o₁ < left-over (out.Need p x t)
+            follow-right {o₁} pre post =
+                let s = pre .some in
+                let h = made pre in
+                let y = post .is (s .0) (s .1) (s .2) (s .5) _ (needs h .0) (needs h .1) (taking (s .6) (s .7) h) in
+                fewer (y .1) (at-room (stops (s .6) (s .7) h) .0)
 
 -- what is asked stays
 pub follow-still : {L S M list R₀ R A : List ℕ} {o : Out} → Following L S M list R A o → FollowPre L S M list R₀ → FollowPre L S M list R

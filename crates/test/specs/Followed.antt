@@ -1,5 +1,5 @@
 -- Not needed to believe the promise: the walk with the choices of a record.
-use Prim.Native.Nat.{ℕ, _-_, _≤_}
+use Prim.Native.Nat.{ℕ}
 use mathlib.Core.Path.{_≡_}
 use mathlib.Core.Bool.{Bool, true, false}
 use mathlib.Core.List.{List, []}
@@ -11,18 +11,7 @@ use Rattle.meaning.specs.Order.{choices}
 use Rattle.meaning.proofs.Walk.{Res, fail, ok, walk}
 use Rattle.meaning.proofs.Next.{Any, any?}
 use Rattle.walk.specs.Packed.{Packed}
-use Rattle.walk.specs.Cycle.{Needs}
-use Rattle.walk.specs.Onward.{Lands}
 use Rattle.test.specs.Inside.{Walkable}
-
--- the walk asks for a variable at the pattern row p and the row t, and v is one of its values
-pub record LandingPre (S M : List ℕ) (p t v : ℕ) : Type 0 where
-  pub some : (L : List ℕ) × (R : List ℕ) × (A : List ℕ) × (K : List ℕ) × (N : List ℕ) × (Z : List ℕ) × (Q : List Kind) × (f : List ℕ → Res) × (x : ℕ) × (lo : ℕ) × (hi : ℕ)
-      × Packed K N Z M × Needs L S R A K N Z Q [] f p x t lo hi × (lo ≤ v) × (v ≤ hi)
-
-pub record LandingPost (S M : List ℕ) (p t v u : ℕ) : Type 0 where
-  pub is : (L R A K N Z : List ℕ) (Q : List Kind) (f : List ℕ → Res) (x lo hi : ℕ) → Packed K N Z M → (n : Needs L S R A K N Z Q [] f p x t lo hi) → lo ≤ v → v ≤ hi
-      → Lands L S t u (v - lo) (n .stop)
 
 pub record FollowPre (L S M list R : List ℕ) : Type 0 where
   pub long : length R ≡ 32

@@ -3,7 +3,7 @@ ghost use Prim.Native.Nat.{_≤_};
 ghost use lib.ListN.{length};
 ghost use Rattle.meaning.specs.Says.{Says};
 ghost use Rattle.test.specs.Tested.{Settled};
-ghost use Rattle.test.specs.Followed.{LandingPre, LandingPost, FollowPre, FollowPost};
+ghost use Rattle.test.specs.Followed.{FollowPre, FollowPost};
 ghost use Rattle.test.specs.Inside.{Copied, WalkablePre, PlacedPost, ConstrainedPre, ObeyedPost, AllPre, AllPost};
 
 // What the test of one record answers.
@@ -28,17 +28,6 @@ fn equal(found: &[u32; 32], list: &[u32]) -> bool
     true
 }
 
-// The row at which the walk goes on where the variable at the pattern row p, which starts at the row t, has the value v.
-fn landing(size: &[u32], pattern: &[u32; 768], p: usize, t: usize, v: usize) -> usize
-    requires { ⌜ LandingPre (now size) (now pattern) p t v ⌝ }
-    ensures { λ r. ⌜ LandingPost (now (size .entry)) (now (pattern .entry)) p t v r ⌝ }
-{
-    if walk::kind(pattern, p) == 2 {
-        return tree::past(size, t, v);
-    }
-    v
-}
-
 // The walk with the choices of the list: a variable that is asked for takes the second number that the list has for it.
 fn follow(
     label: &[u32],
@@ -56,15 +45,16 @@ fn follow(
         match o {
             walk::Out::Fail => return false,
             walk::Out::Ok(_) => return true,
-            walk::Out::Need(p, x, t, lo, hi) => {
+            walk::Out::Need(p, x, t) => {
                 let v = tree::at(list, x + x + 1);
+                let lo = choice::least(pattern, p, t);
                 if v < lo {
                     return false;
                 }
-                if hi < v {
+                if choice::values(size, pattern, &at, p, t) <= v - lo {
                     return false;
                 }
-                let u = landing(size, pattern, p, t, v);
+                let u = choice::landing(size, pattern, p, t, v);
                 o = walk::take(label, size, pattern, found, &mut at, p, x, t, u, v);
             }
         }

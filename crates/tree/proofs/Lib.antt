@@ -3,6 +3,7 @@ pub mod Compare
 pub mod Lists
 pub mod Unique
 pub mod Open
+pub mod Endings
 pub mod Turns
 pub mod Cuts
 pub mod Counts

@@ -1,5 +1,5 @@
 -- The check of the sizes: what is left to see while some rows are open.
-use Prim.Native.Nat.{ℕ, zero, suc, _+_, _<_, _≤_}
+use Prim.Native.Nat.{ℕ, zero, suc, _+_, _-_, _<_, _≤_}
 use mathlib.Core.Path.{_≡_, refl, ap, _∙_, sym}
 use mathlib.Core.Logic.{_≢_}
 use mathlib.Core.List.{List, [], _∷_}
@@ -10,7 +10,8 @@ use Rattle.meaning.specs.Forest.{Forest, none, some, Term, term, _◂_, rows}
 use Rattle.tree.specs.Rows.{depth}
 use Rattle.tree.specs.Shape.{Shape}
 use Rattle.tree.specs.Places.{TermsAt, stop, step}
-use Rattle.tree.proofs.Terms.{terms-rows}
+use Rattle.tree.specs.Endings.{Within}
+use Rattle.tree.proofs.Terms.{terms-rows, terms-within}
 use Rattle.tree.proofs.Lists.{sizes-rows, all-at, at-all, relabelled}
 
 -- the ends of the n open rows in the array E, innermost first
@@ -28,6 +29,11 @@ unfolding stack
 stack-set E zero j v h = refl
 stack-set E (suc n) j v h = rw (getD-set-other E j n v 0 (λ e. omega arith), stack-set E n j v (omega arith))
 
+pub stack-top : (E : List ℕ) (n : ℕ) → n ≢ 0 → stack E n ≡ getD E (n - 1) 0 ∷ stack E (n - 1)
+unfolding stack
+stack-top E zero h = absurd (h refl)
+stack-top E (suc n) h = let z : suc n - 1 ≡ n = omega arith in rw z
+
 -- from the row t on each list of open arguments is filled up to its end, not too deep
 pub data Rest (S : List ℕ) : ℕ → List ℕ → Type 0 where
   done : {t : ℕ} → Rest S t []
@@ -38,7 +44,7 @@ pub data Ends (n : ℕ) : ℕ → List ℕ → Type 0 where
   outer : {t : ℕ} → t ≡ n → Ends n t []
   inner : {t e : ℕ} {es : List ℕ} → t ≤ e → Ends n e es → Ends n t (e ∷ es)
 
-ends-le : {n t : ℕ} {es : List ℕ} → Ends n t es → t ≤ n
+pub ends-le : {n t : ℕ} {es : List ℕ} → Ends n t es → t ≤ n
 ends-le (outer h) = omega arith
 ends-le (inner h k) = omega (arith, ends-le k)
 
@@ -49,6 +55,13 @@ close-forth (fill x d r) = r
 close-back : {S : List ℕ} {t e : ℕ} {es : List ℕ} → t ≡ e → e ≤ length S → suc (length es) ≤ 64 → Rest S e es → Rest S t (e ∷ es)
 unfolding depth
 close-back {es = es} h b d r = fill {es = es} (stop h b b) (omega arith) r
+
+-- at the list's end nothing is left
+pub none-left : {S : List ℕ} {t : ℕ} {es : List ℕ} → Ends (length S) t es → length S ≤ t → length es ≤ 64 → Rest S t es
+none-left (outer h) f d = done
+none-left {S} {t} (inner {e = e} h k) f d =
+    let z : t ≡ e = omega (arith, ends-le k) in
+    close-back z (ends-le k) d (none-left k (omega arith) (omega arith))
 
 -- opening the next row
 module _ {S : List ℕ} {t e : ℕ} {es : List ℕ} (inside : t < e) where
@@ -64,10 +77,6 @@ module _ {S : List ℕ} {t e : ℕ} {es : List ℕ} (inside : t < e) where
       fill {es = es} (step {e = e} {l = getD S t 0} (record { label = refl; size = z }) (rw z at i) (omega arith) (rw z at k)) (omega arith) r
 
   -- what is refused
-  pub not-empty : Rest S t (e ∷ es) → getD S t 0 ≢ 0
-  not-empty (fill (stop h a b) d r) z = omega arith
-  not-empty (fill (step w i b k) d r) z = omega (arith, w .size)
-
   pub not-beyond : Rest S t (e ∷ es) → t + getD S t 0 ≤ e
   not-beyond (fill (stop h a b) d r) = absurd (omega arith)
   not-beyond (fill (step w i b k) d r) = omega (arith, w .size)
@@ -77,16 +86,23 @@ module _ {S : List ℕ} {t e : ℕ} {es : List ℕ} (inside : t < e) where
   not-deep (fill (stop h a b) d r) = absurd (omega arith)
   not-deep (fill (step w i b k) d r) = omega arith
 
--- the root is open: its arguments are left
-pub root-forth : {S : List ℕ} → Shape S → (getD S 0 0 ≡ length S) × Rest S 1 (length S ∷ [])
-unfolding depth
-root-forth {S} (T, p, d) =
+-- the term of the sizes, with the sizes for its labels
+shape-at : {S : List ℕ} → Shape S → (U : Term) × TermsAt S S 0 (length S) (U ◂ none) × (depth (U ◂ none) ≤ 64)
+shape-at {S} (T, p, d) =
     let z : length S ≡ rows (T ◂ none) = ap length p ∙ sizes-rows (T ◂ none) in
     let w = relabelled T S z in
-    go (w .0) (all-at (w .0 ◂ none) (sym (w .1)) (p ∙ sym (w .2))) (omega (arith, w .3))
-  where
-    go : (U : Term) → TermsAt S S 0 (length S) (U ◂ none) → depth (U ◂ none) ≤ 64 → (getD S 0 0 ≡ length S) × Rest S 1 (length S ∷ [])
-    go U (step r i b (stop h _ _)) d = (r .size ∙ omega arith, fill {es = []} (rw h at i) (omega arith) done)
+    (w .0, all-at (w .0 ◂ none) (sym (w .1)) (p ∙ sym (w .2)), omega (arith, w .3))
+
+pub shape-within : {S : List ℕ} → Shape S → Within S
+shape-within s = record { each = λ i h. terms-within (shape-at s .1) i (omega arith) h }
+
+-- the root is open: its arguments are left
+root-at : {S : List ℕ} (U : Term) → TermsAt S S 0 (length S) (U ◂ none) → depth (U ◂ none) ≤ 64 → (getD S 0 0 ≡ length S) × Rest S 1 (length S ∷ [])
+unfolding depth
+root-at U (step r i b (stop h _ _)) d = (r .size ∙ omega arith, fill {es = []} (rw h at i) (omega arith) done)
+
+pub root-forth : {S : List ℕ} → Shape S → (getD S 0 0 ≡ length S) × Rest S 1 (length S ∷ [])
+root-forth s = let u = shape-at s in root-at (u .0) (u .1) (u .2)
 
 root-back : {S : List ℕ} → getD S 0 0 ≡ length S → length S ≢ 0 → Rest S 1 (length S ∷ []) → Shape S
 unfolding depth
@@ -114,7 +130,7 @@ whole-root {S} p q =
 pub within : {n t e : ℕ} {es : List ℕ} → Ends n t (e ∷ es) → (t ≤ e) × (e ≤ n)
 within (inner h k) = (h, ends-le k)
 
-without : {n t e : ℕ} {es : List ℕ} → Ends n t (e ∷ es) → Ends n e es
+pub without : {n t e : ℕ} {es : List ℕ} → Ends n t (e ∷ es) → Ends n e es
 without (inner h k) = k
 
 pub whole-close : {S : List ℕ} {t e : ℕ} {es : List ℕ} → Whole S t (e ∷ es) → t ≡ e → length es < 64 → Whole S t es

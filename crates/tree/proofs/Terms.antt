@@ -1,9 +1,11 @@
 -- Laws of sequences in rows.
 use Prim.Native.Nat.{ℕ, zero, suc, _+_, _<_, _≤_}
 use mathlib.Core.Path.{_≡_, refl}
+use mathlib.Core.Logic.{_≢_}
 use mathlib.Core.List.{List}
 use lib.ListN.{length, getD}
 use native.Mathlib.Omega.{arith}
+use native.Mathlib.Decide.{ℕ-discrete, decLt}
 use Rattle.meaning.specs.Forest.{Forest, none, some, rows}
 use Rattle.meaning.specs.Read.{takeT}
 use Rattle.meaning.proofs.Laws.{dropT}
@@ -21,6 +23,18 @@ pub terms-rows : {L S : List ℕ} {t e : ℕ} {f : Forest} → TermsAt L S t e f
 unfolding rows
 terms-rows (stop h a b) = omega arith
 terms-rows (step r i b k) = omega (arith, terms-rows i, terms-rows k)
+
+-- every row of a sequence has a size, and ends within it
+pub terms-within : {L S : List ℕ} {t e : ℕ} {f : Forest} → TermsAt L S t e f → (i : ℕ) → t ≤ i → i < e → (getD S i 0 ≢ 0) × (i + getD S i 0 ≤ e)
+terms-within (stop h a b) i p q = absurd (omega arith)
+terms-within {L} {S} {t} {e} (step {us = us} r x b k) i p q =
+    elim (ℕ-discrete t i) [
+      | yes z ↦ let s = rw z at (r .size) in (omega arith, omega arith)
+      | no z ↦ elim (decLt i (t + suc (rows us))) [
+        | yes y ↦ let w = terms-within x i (omega arith) y in (w .0, omega arith)
+        | no y ↦ terms-within k i (omega arith) q
+      ]
+    ]
 
 -- no terms, where the lists go on to t
 pub nothing-at : {L S : List ℕ} (t : ℕ) → t ≤ length L → t ≤ length S → TermsAt L S t t none

@@ -3,3 +3,4 @@ pub mod Good
 pub mod Shape
 pub mod Places
 pub mod Helpers
+pub mod Endings

@@ -1,9 +1,10 @@
 ghost use mathlib.Core.Path.{_≡_};
-ghost use Prim.Native.Nat.{_+_, _<_};
+ghost use Prim.Native.Nat.{_+_, _<_, _≤_};
 ghost use lib.ListN.{length, getD};
 ghost use Rattle.meaning.specs.Says.{Says};
 ghost use Rattle.tree.specs.Good.{Below, Good};
 ghost use Rattle.tree.specs.Shape.{Shape};
+ghost use Rattle.tree.specs.Endings.{Told, EndingPost, NestedPre};
 ghost use Rattle.tree.specs.Places.{SameRows};
 ghost use Rattle.tree.specs.Helpers.{SamePre, CountPre, CountPost, PastPre, PastPost, ChildPre, ChildPost, ListPre, ListPost};
 
@@ -15,6 +16,13 @@ pub fn at(s: &[u32], i: usize) -> usize
     s[i] as usize
 }
 
+// The number, wider.
+fn wide(x: u16) -> usize
+    ensures { λ r. ⌜ r ≡ x ⌝ }
+{
+    x as usize
+}
+
 // The row after the term at the row.
 pub fn next(size: &[u32], row: usize) -> usize
     requires { ⌜ row < length (now size) ⌝ }
@@ -23,59 +31,89 @@ pub fn next(size: &[u32], row: usize) -> usize
     row + at(size, row)
 }
 
-// Whether the sizes are those of a term that is at most 64 deep. A turn closes a row or opens one: at most two turns a row.
-pub fn shape(size: &[u32]) -> bool
+// Whether every row has a size and ends within the rows. Counts how many end at each place, into a list that is lent full of zeros.
+fn ending(size: &[u32], closing: &mut [u16; 2049]) -> bool
+    requires { ⌜ Told (now size) (now closing) 0 ⌝ }
+    ensures { λ r. ⌜ EndingPost (now (size .entry)) (now (closing .exit)) r ⌝ }
+{
+    let rows = size.len();
+    let mut row = 0;
+    while row < rows {
+        let after = next(size, row);
+        if after == row {
+            return false;
+        }
+        if rows < after {
+            return false;
+        }
+        closing[after] += 1;
+        row += 1;
+    }
+    true
+}
+
+// Whether each row ends within the row that holds it, and none is deeper than 64. How many rows are closed is read and not found out by
+// comparing ends, so that no branch depends on the tree.
+fn nested(size: &[u32], closing: &[u16; 2049]) -> bool
+    requires { ⌜ NestedPre (now size) (now closing) ⌝ }
     ensures { λ r. ⌜ Says r (Shape (now (size .entry))) ⌝ }
+{
+    let rows = size.len();
+    // The ends of the open rows, the root's first.
+    let mut ends = [0usize; 64];
+    ends[0] = rows;
+    let mut opened = 1;
+    let mut row = 1;
+    while row < rows {
+        let depth = opened - wide(closing[row]);
+        let after = next(size, row);
+        if ends[depth - 1] < after {
+            return false;
+        }
+        if depth == 64 {
+            return false;
+        }
+        ends[depth] = after;
+        opened = depth + 1;
+        row += 1;
+    }
+    true
+}
+
+// Whether the sizes are those of a term that has at most 2,048 rows and is at most 64 deep. What ends where is counted first: a loop
+// that would read what it has just written takes twice as long as the two.
+pub fn shape(size: &[u32]) -> bool
+    ensures { λ r. ⌜ Says r (Shape (now (size .entry)) × (length (now (size .entry)) ≤ 2048)) ⌝ }
 {
     let rows = size.len();
     if rows == 0 {
         return false;
     }
+    if 2048 < rows {
+        return false;
+    }
     if at(size, 0) != rows {
         return false;
     }
-    // The ends of the open rows, the root's first: the row to look at stands in the list of the last of them.
-    let mut ends = [0usize; 64];
-    ends[0] = rows;
-    let mut top = 0;
-    let mut row = 1;
-    loop {
-        let end = ends[top];
-        if row == end {
-            if top == 0 {
-                return true;
-            }
-            top -= 1;
-        } else {
-            let after = next(size, row);
-            if after == row {
-                return false;
-            }
-            if end < after {
-                return false;
-            }
-            if top == 63 {
-                return false;
-            }
-            top += 1;
-            ends[top] = after;
-            row += 1;
-        }
+    let mut closing = [0u16; 2049];
+    if ending(size, &mut closing) {
+        return nested(size, &closing);
     }
+    false
 }
 
 // Whether every number is below the limit.
-pub fn below(s: &[u32], limit: usize) -> bool
+pub fn below(s: &[u32], limit: u32) -> bool
     ensures { λ r. ⌜ Says r (Below limit (now (s .entry))) ⌝ }
 {
+    // No branch depends on a number, so that many are compared at once.
+    let mut all = true;
     let mut i = 0;
     while i < s.len() {
-        if limit <= at(s, i) {
-            return false;
-        }
+        all = all & (s[i] < limit);
         i += 1;
     }
-    true
+    all
 }
 
 // The tree check.
@@ -83,9 +121,6 @@ pub fn good(label: &[u32], size: &[u32]) -> bool
     ensures { λ r. ⌜ Says r (Good (now (label .entry)) (now (size .entry))) ⌝ }
 {
     if label.len() != size.len() {
-        return false;
-    }
-    if 2048 < label.len() {
         return false;
     }
     if below(label, 65536) {

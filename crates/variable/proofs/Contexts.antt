@@ -51,8 +51,8 @@ module _ {L S R : List ℕ} {x t n : ℕ} where
   pub context-row : ContextPre L S R x t n → Next L S t
   context-row p = term-next (p .tree .2)
 
-  pub context-needs : {e : ℕ} → x ≡ n → e ≡ t + getD S t 0 → ContextPost L S R x t n (step.Need t (e - 1))
-  context-needs {e} f ee = record { is = λ Q T B H comes state. let y : t + rows (T .args) ≡ e - 1 = omega (arith, H .row .size) in chose-need refl y f }
+  pub context-needs : x ≡ n → ContextPost L S R x t n step.Need
+  context-needs f = record { is = λ Q T B H comes state. chose-need f }
 
   pub context-room : ContextPre L S R x t n → x + x + 1 < length R
   context-room p = let s = p .variable .some in in-room (s .2) (s .3)

@@ -14,8 +14,6 @@ use Rattle.meaning.proofs.Laws.{dropT}
 use Rattle.meaning.proofs.Walk.{Res, fail, ok, when, meet, choose}
 use Rattle.meaning.proofs.Next.{Any, any?}
 use Rattle.tree.specs.Places.{TermsAt, TermAt}
-use Rattle.compare.specs.declared.Found.{Found}
-use Rattle.compare.specs.declared.Found.the-variants as found
 use Rattle.variable.specs.State.{State, Kept}
 use Rattle.variable.specs.declared.Bound.{Bound}
 use Rattle.variable.specs.declared.Bound.the-variants as bound
@@ -32,7 +30,7 @@ pub data Meets (L S R : List ℕ) (Q : List Kind) (m : ℕ) (f : List ℕ → Re
 -- Where x comes first, it has to be chosen.
 pub data Chose (n x lo hi t : ℕ) (g : ℕ → Value) (B : List Entry) (There : ℕ → ℕ → Type 0) : Step → Type 0 where
   chose-fail : ((cs : List ℕ) (k : ℕ → List Entry → List ℕ → Res) → choose Any any? x lo hi t g B cs k ≡ fail) → Chose n x lo hi t g B There step.Fail
-  chose-need : {lo′ hi′ : ℕ} → lo ≡ lo′ → hi ≡ hi′ → x ≡ n → Chose n x lo hi t g B There (step.Need lo′ hi′)
+  chose-need : x ≡ n → Chose n x lo hi t g B There step.Need
   chose-go : {u : ℕ} (d : ℕ) → ((cs : List ℕ) (k : ℕ → List Entry → List ℕ → Res) → choose Any any? x lo hi t g B cs k ≡ k d B cs) → x < n → There u d
       → Chose n x lo hi t g B There (step.Go u)
 
@@ -82,19 +80,6 @@ pub record SequencePre (L S R : List ℕ) (x t e n : ℕ) : Type 0 where
 pub record SequencePost (L S R : List ℕ) (x t e n : ℕ) (o : Step) : Type 0 where
   pub is : (Q : List Kind) (us : Forest) (B : List Entry) → TermsAt L S t e us → Comes Q x aSequence n → State L S R Q n B
       → Chose n x 0 (terms us) t (firstTerms us) B (Behind L S t e us) o
-
--- the sequence f, compared whole with the first terms of us
-pub data Again (L S : List ℕ) (t e : ℕ) (f us : Forest) : Found → Type 0 where
-  another : f ≢ takeT (terms f) us → Again L S t e f us found.Fail
-  again : {u : ℕ} → f ≡ takeT (terms f) us → TermsAt L S t u (takeT (terms f) us) → TermsAt L S u e (dropT (terms f) us) → Again L S t e f us (found.At u)
-
-pub record LaterSequencePre (L S R : List ℕ) (x t e : ℕ) : Type 0 where
-  pub inside : x + x + 1 < length R
-  pub earlier : (b : ℕ) × (f : Forest) × TermsAt L S (getD R (x + x) 0) b f × (terms f ≡ getD R (x + x + 1) 0)
-  pub tree : (us : Forest) × TermsAt L S t e us
-
-pub record LaterSequencePost (L S R : List ℕ) (x t e : ℕ) (o : Found) : Type 0 where
-  pub is : (b : ℕ) (f us : Forest) → TermsAt L S (getD R (x + x) 0) b f → terms f ≡ getD R (x + x + 1) 0 → TermsAt L S t e us → Again L S t e f us o
 
 -- context: at the term at row t
 pub record ContextPre (L S R : List ℕ) (x t n : ℕ) : Type 0 where

@@ -4,7 +4,7 @@
 ghost use mathlib.Core.Path.{_≡_};
 ghost use Prim.Native.Nat.{_+_, _<_};
 ghost use lib.ListN.{length, set};
-ghost use Rattle.variable.specs.Steps.{IndividualPre, IndividualPost, HeadPre, HeadPost, LaterSequencePre, LaterSequencePost, SequencePre, SequencePost, ContextPre, ContextPost};
+ghost use Rattle.variable.specs.Steps.{IndividualPre, IndividualPost, HeadPre, HeadPost, SequencePre, SequencePost, ContextPre, ContextPost};
 
 // What an individual variable and the head of a term answer: no match, or one with so many variables bound.
 pub enum Bound {
@@ -12,11 +12,11 @@ pub enum Bound {
     Ok(usize),
 }
 
-// What a sequence or context variable answers: where it comes first, its least and largest value; otherwise the row at which the
-// walk goes on.
+// What a sequence or context variable answers: where it comes first, that a value is needed; otherwise the row at which the walk
+// goes on.
 pub enum Step {
     Fail,
-    Need(usize, usize),
+    Need,
     Go(usize),
 }
 
@@ -75,32 +75,6 @@ pub fn head(label: &[u32], record: &mut [u32], kind: usize, x: usize, t: usize, 
     }
 }
 
-// The sequence variable x, which has appeared before, again before row t of a list that ends at e: the row behind it.
-fn later_sequence(
-    label: &[u32],
-    size: &[u32],
-    record: &[u32],
-    x: usize,
-    t: usize,
-    e: usize,
-) -> compare::Found
-    requires { ⌜ LaterSequencePre (now label) (now size) (now «record») x t e ⌝ }
-    ensures { λ r. ⌜ LaterSequencePost (now (label .entry)) (now (size .entry)) (now («record» .entry)) x t e r ⌝ }
-{
-    let a = tree::at(record, x + x);
-    let c = tree::at(record, x + x + 1);
-    match compare::pass(size, t, e, c) {
-        compare::Found::Fail => compare::Found::Fail,
-        compare::Found::At(u) => {
-            if compare::alike(label, size, a, tree::past(size, a, c), t, u) {
-                compare::Found::At(u)
-            } else {
-                compare::Found::Fail
-            }
-        }
-    }
-}
-
 // The sequence variable x before row t of a list that ends at e.
 pub fn sequence(
     label: &[u32],
@@ -115,9 +89,11 @@ pub fn sequence(
     ensures { λ r. ⌜ SequencePost (now (label .entry)) (now (size .entry)) (now («record» .entry)) x t e n r ⌝ }
 {
     if x == n {
-        return Step::Need(0, tree::count(size, t, e));
+        return Step::Need;
     }
-    match later_sequence(label, size, record, x, t, e) {
+    let a = tree::at(record, x + x);
+    let c = tree::at(record, x + x + 1);
+    match compare::again(label, size, a, c, t, e) {
         compare::Found::Fail => Step::Fail,
         compare::Found::At(u) => Step::Go(u),
     }
@@ -129,7 +105,7 @@ pub fn context(label: &[u32], size: &[u32], record: &[u32], x: usize, t: usize, 
     ensures { λ r. ⌜ ContextPost (now (label .entry)) (now (size .entry)) (now («record» .entry)) x t n r ⌝ }
 {
     if x == n {
-        return Step::Need(t, tree::next(size, t) - 1);
+        return Step::Need;
     }
     let a = tree::at(record, x + x);
     let b = tree::at(record, x + x + 1);

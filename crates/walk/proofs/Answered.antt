@@ -17,8 +17,8 @@ use Rattle.walk.specs.declared.Out.the-variants as out
 pub failed : {R : List ℕ} {r : Res} → Answers R out.Fail r → r ≡ fail
 failed fails = refl
 
-pub needed : {R : List ℕ} {p x t lo hi : ℕ} {r : Res} → Answers R (out.Need p x t lo hi) r → (B : List Entry) × (r ≡ need B t lo hi) × (length B ≡ x) × (take (x + x) R ≡ numbers B)
-needed (needs {B = B} a b) = (B, refl, a, b)
+pub needed : {R : List ℕ} {p x t : ℕ} {r : Res} → Answers R (out.Need p x t) r → (B : List Entry) × (lo : ℕ) × (hi : ℕ) × (r ≡ need B t lo hi) × (length B ≡ x) × (take (x + x) R ≡ numbers B)
+needed (needs {B = B} {lo = lo} {hi = hi} a b) = (B, lo, hi, refl, a, b)
 
 pub matched : {R : List ℕ} {n : ℕ} {r : Res} → Answers R (out.Ok n) r → (B : List Entry) × (r ≡ ok B []) × (take (length (numbers B)) R ≡ numbers B)
 matched {n = n} (matches {B = B} a b) =

@@ -219,17 +219,16 @@ module _ {L S M R₀ R A₀ A : List ℕ} {h p₀ pe t₀ te n₀ p t n x : ℕ}
         let y = fail-chose (rw g at (post .is Q us B (a .tree) (w .comes) (a .state))) in
         (both-fail (λ cs. sequence-walk ps us t B cs x (w .rest) (w .is) ∙ y cs (λ d B′ cs′. walkF Any any? (w .rest) (dropT d us) (t + rows (takeT d us)) B′ cs′)), kept-same, unchanged-same)
 
-    pub list-sequence-needs : {lo hi : ℕ} {A₁ : List ℕ} → o ≡ step.Need lo hi → Came A p h t A₁ → ListPost L S M R₀ A₀ h p₀ pe t₀ te n₀ (out.Need p x t lo hi) R A₁
-    list-sequence-needs {lo} {hi} {A₁} g came =
-        answered (place .turn .walking) (out.Need p x t lo hi)
+    pub list-sequence-needs : {A₁ : List ℕ} → o ≡ step.Need → Came A p h t A₁ → ListPost L S M R₀ A₀ h p₀ pe t₀ te n₀ (out.Need p x t) R A₁
+    list-sequence-needs {A₁} g came =
+        answered (place .turn .walking) (out.Need p x t)
         λ K N Z Q ps us B fs a.
         let w = the-sequence a in
         let y = need-chose (rw g at (post .is Q us B (a .tree) (w .comes) (a .state))) in
-        let i = is-new (a .state) (y .2) in
+        let i = is-new (a .state) y in
         let s = list-seen (a .packed) (a .pattern) (place .turn .more) in
-        let z : after x n ≡ x + 1 = omega (arith, y .2) in
+        let z : after x n ≡ x + 1 = omega (arith, y) in
         let u = come-unchanged came in
-        let low : 0 ≡ lo = y .0 in
         let l : p ≤ p = omega arith in (
           both-need l
               (record {
@@ -237,12 +236,12 @@ module _ {L S M R₀ R A₀ A : List ℕ} {h p₀ pe t₀ te n₀ p t n x : ℕ}
                 stop = at-sequence (w .rest) us;
                 frames = fs;
                 within = look-old Q x aSequence (w .comes .kept);
-                state = rw (y .2) (a .state);
+                state = rw y (a .state);
                 stands = before-terms (w .comes .kept) (sym (a .packed .kinds p (s .inside)) ∙ place .kind) (come-holder came (omega (arith, s .inside, a .marks .few, a .marks .long))) (a .below) (w .behind)
                     (subst (GoodF Q (w .rest)) z (w .good)) (a .tree) (held-kept u (a .below) (rw (sym (sequence-after ps n x (w .rest) (w .is) ∙ ap (afterF (w .rest)) z)) (a .held)));
-                low = low;
-                high = y .1;
-                asks = sequence-asks us t B (w .is) i ∙ rw (low, y .1);
+                low = refl;
+                high = refl;
+                asks = sequence-asks us t B (w .is) i;
                 goes = λ v cs. sequence-goes us t B (w .is) i fs v cs;
               }),
           kept-same,
@@ -354,13 +353,13 @@ module _ {L S M R₀ R A₀ A : List ℕ} {h p₀ pe t₀ te n₀ p t n : ℕ} (
         let y = rw g at (first-walked a) in
         (both-fail (λ cs. list-step a cs ∙ rw (fail-agree (y .0) cs)), y .1, y .2)
 
-    pub list-term-needs : {r x s lo hi : ℕ} → o ≡ out.Need r x s lo hi → ListPost L S M R₀ A₀ h p₀ pe t₀ te n₀ (out.Need r x s lo hi) R₁ A₁
-    list-term-needs {r} {x} {s} {lo} {hi} g =
-        answered (place .turn .walking) (out.Need r x s lo hi)
+    pub list-term-needs : {r x s : ℕ} → o ≡ out.Need r x s → ListPost L S M R₀ A₀ h p₀ pe t₀ te n₀ (out.Need r x s) R₁ A₁
+    list-term-needs {r} {x} {s} g =
+        answered (place .turn .walking) (out.Need r x s)
         λ K N Z Q ps us B fs a.
         let y = rw g at (first-walked a) in
         let c = need-agree (y .0) in
-        (both-need (c .0) (needs-same (list-step a) (needs-then (the-term a .rest) (first-term a .rest) (t + getD S t 0) (c .1))), y .1, y .2)
+        (both-need (c .0) (needs-same (list-step a) (needs-then (the-term a .rest) (first-term a .rest) (t + getD S t 0) (c .3))), y .1, y .2)
 
     pub list-term-goes : {m q u : ℕ} → o ≡ out.Ok m → q ≡ p + getD M (3 * p + 2) 0 → u ≡ t + getD S t 0 → Walking L S M R₀ R₁ A₀ A₁ h p₀ pe t₀ te n₀ q u m
     list-term-goes {m} {q} {u} g eq eu =

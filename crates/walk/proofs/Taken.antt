@@ -101,6 +101,15 @@ small-value small (over-term c k z i g t m o) b = omega (arith, t .row .size, te
 in-range : {A B C : Type 0} (a : Dec A) (b : Dec B) (c : Dec C) (r : Res) → A → B → C → when a (when b (when c r)) ≡ r
 in-range a b c r x y z = when-yes a _ x ∙ when-yes b _ y ∙ when-yes c r z
 
+-- with a value as one more choice the walk goes on behind the stop
+pub needs-onward : {L S R A K N Z : List ℕ} {Q : List Kind} {f : List ℕ → Res} {p x s lo hi : ℕ} (n : Needs L S R A K N Z Q [] f p x s lo hi) (v : ℕ) → lo ≤ v → v ≤ hi → (cs : List ℕ)
+    → f (v ∷ cs) ≡ onward Any any? (n .stop) s (n .frames) (v - lo) (n .bound ++ (entry (taken (n .stop) (v - lo)) s ∷ [])) cs
+needs-onward {f = f} {x = x} {s = s} n v low high cs =
+    let w = n .stop in
+    sym (then-done Any any? (f (v ∷ cs))) ∙ n .goes v cs
+    ∙ in-range (decLe (least w s) v) (decLe v (largest w s)) (any? x (taken w (v - least w s))) _ (omega (arith, n .low)) (omega (arith, n .high)) tt
+    ∙ ap (λ (i : ℕ). onward Any any? w s (n .frames) (v - i) (n .bound ++ (entry (taken w (v - i)) s ∷ [])) cs) (n .low)
+
 module _ {L S M R A : List ℕ} {p x s u v : ℕ} where
   -- the value stands there, in the bounds that the stop has
   value : {K N Z : List ℕ} {Q : List Kind} {f : List ℕ → Res} {lo hi : ℕ} (a : TakeAsked L S M R A p x s u v K N Z Q f lo hi) → Value-at L S Q x s v (v - lo) (a .needs .stop)
@@ -123,13 +132,7 @@ module _ {L S M R A : List ℕ} {p x s u v : ℕ} where
   goes : {K N Z : List ℕ} {Q : List Kind} {f : List ℕ → Res} {lo hi : ℕ} (a : TakeAsked L S M R A p x s u v K N Z Q f lo hi) (cs : List ℕ)
       → f (v ∷ cs) ≡ onward Any any? (a .needs .stop) s (a .needs .frames) (v - lo) (bound a) cs
   unfolding bound
-  goes {f = f} {lo = lo} {hi = hi} a cs =
-      let n = a .needs in
-      let w = n .stop in
-      let l = n .low in
-      sym (then-done Any any? (f (v ∷ cs))) ∙ n .goes v cs
-      ∙ in-range (decLe (least w s) v) (decLe v (largest w s)) (any? x (taken w (v - least w s))) _ (omega (arith, a .low)) (omega (arith, a .high, n .high)) tt
-      ∙ ap (λ (i : ℕ). onward Any any? w s (n .frames) (v - i) (n .bound ++ (entry (taken w (v - i)) s ∷ [])) cs) l
+  goes a cs = needs-onward (a .needs) v (a .low) (a .high) cs
 
   module _ {R₁ : List ℕ} (er : R₁ ≡ set (set R (x + x) s) (x + x + 1) v) where
     resume-asked : {K N Z : List ℕ} {Q : List Kind} {f : List ℕ → Res} {lo hi : ℕ} (a : TakeAsked L S M R A p x s u v K N Z Q f lo hi)

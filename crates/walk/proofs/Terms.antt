@@ -179,15 +179,15 @@ module _ {L S M R A A₁ : List ℕ} {h p t n k x : ℕ} (row : AtRow L S M R A 
                 (both-fail (λ cs. rw (w .is) (y cs (λ d B′ cs′. walkT Any any? (w .inner) (cut T d .at) (t + d) B′ cs′))), kept-same, here);
           }
 
-      pub term-context-needs : {lo hi : ℕ} → o ≡ step.Need lo hi → TermPost L S M R A h p t n (out.Need p x t lo hi) R A₁
+      pub term-context-needs : o ≡ step.Need → TermPost L S M R A h p t n (out.Need p x t) R A₁
       unfolding afterT
-      term-context-needs {lo} {hi} g =
+      term-context-needs g =
           record {
             is = λ K N Z Q q T B fs a.
                 let w = as-context four (view a) in
                 let y = need-chose (rw g at (post .is Q T B (a .tree) (w .comes) (a .state))) in
-                let i = is-new (a .state) (y .2) in
-                let z : after x n ≡ x + 1 = omega (arith, y .2) in
+                let i = is-new (a .state) y in
+                let z : after x n ≡ x + 1 = omega (arith, y) in
                 let l : p ≤ p = omega arith in
                 let b : Behind L S A₁ K N Z Q h p (t + getD S t 0) (afterT (w .inner) (x + 1)) fs =
                 subst (λ (m : ℕ). Behind L S A₁ K N Z Q h p (t + getD S t 0) (afterT (w .inner) m) fs) z
@@ -199,11 +199,11 @@ module _ {L S M R A A₁ : List ℕ} {h p t n k x : ℕ} (row : AtRow L S M R A 
                         stop = at-context (w .inner) T;
                         frames = fs;
                         within = look-old Q x aContext (w .comes .kept);
-                        state = rw (y .2) (a .state);
+                        state = rw y (a .state);
                         stands = over-term (w .comes .kept) (kinded a ∙ four) (w .size) (w .here) (subst (GoodT Q (w .inner)) z (w .good)) (a .tree) (marked a) b;
-                        low = y .0;
-                        high = y .1;
-                        asks = context-asks T t B (w .is) i ∙ ap (need B t t) (y .1) ∙ ap (λ (i : ℕ). need B t i hi) (y .0);
+                        low = refl;
+                        high = refl;
+                        asks = context-asks T t B (w .is) i;
                         goes = λ v cs. context-goes T t B (w .is) i fs v cs;
                       }),
                   kept-same,

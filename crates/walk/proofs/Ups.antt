@@ -280,7 +280,7 @@ module _ {L S M R₀ R A₀ A : List ℕ} {p₀ n₀ q m : ℕ} (below : Below L
                     );
               }
 
-          pub up-needs : {i x s lo hi : ℕ} → o ≡ out.Need i x s lo hi → UpPost L S M R₀ A₀ p₀ n₀ (out.Need i x s lo hi) R₁ A₁
+          pub up-needs : {i x s : ℕ} → o ≡ out.Need i x s → UpPost L S M R₀ A₀ p₀ n₀ (out.Need i x s) R₁ A₁
           up-needs g =
               record {
                 is = λ K N Z Q B fs a.
@@ -289,7 +289,7 @@ module _ {L S M R₀ R A₀ A : List ℕ} {p₀ n₀ q m : ℕ} (below : Below L
                     let y = rw g at (walked (w .asked)) in
                     let c = need-agree (y .0) in (
                       m,
-                      agree-before (on w) (agree-same (λ cs. first w cs ∙ run-first (v .ps) (v .us) t (v .behind) (w .B) cs) (both-need (c .0) (needs-run (v .behind) (c .1)))),
+                      agree-before (on w) (agree-same (λ cs. first w cs ∙ run-first (v .ps) (v .us) t (v .behind) (w .B) cs) (both-need (c .0) (needs-run (v .behind) (c .3)))),
                       kept-then (w .later) (w .kept) (y .1),
                       unchanged-then (on w) (w .unchanged) (y .2),
                     );

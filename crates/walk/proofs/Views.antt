@@ -132,8 +132,8 @@ module _ {L S R A K N Z : List ℕ} {Q : List Kind} {p₀ m : ℕ} {fs : List Fr
   pub fail-agree : Agree L S R A K N Z Q p₀ m fs f out.Fail → (cs : List ℕ) → f cs ≡ fail
   fail-agree (both-fail e) = e
 
-  pub need-agree : {p x s lo hi : ℕ} → Agree L S R A K N Z Q p₀ m fs f (out.Need p x s lo hi) → (p₀ ≤ p) × Needs L S R A K N Z Q fs f p x s lo hi
-  need-agree (both-need h w) = (h, w)
+  pub need-agree : {p x s : ℕ} → Agree L S R A K N Z Q p₀ m fs f (out.Need p x s) → (p₀ ≤ p) × (lo : ℕ) × (hi : ℕ) × Needs L S R A K N Z Q fs f p x s lo hi
+  need-agree (both-need {lo = lo} {hi = hi} h w) = (h, lo, hi, w)
 
   pub ok-agree : {k : ℕ} → Agree L S R A K N Z Q p₀ m fs f (out.Ok k) → (B : List Entry) × ((cs : List ℕ) → f cs ≡ ok B cs) × (k ≡ m) × State L S R Q k B
   ok-agree (both-ok {B = B} e s g) = (B, g, e, s)
@@ -162,8 +162,8 @@ module _ {n x lo hi t : ℕ} {g : ℕ → Value} {B : List Entry} {There : ℕ �
   pub fail-chose : Chose n x lo hi t g B There step.Fail → (cs : List ℕ) (k : ℕ → List Entry → List ℕ → Res) → choose Any any? x lo hi t g B cs k ≡ fail
   fail-chose (chose-fail e) = e
 
-  pub need-chose : {lo′ hi′ : ℕ} → Chose n x lo hi t g B There (step.Need lo′ hi′) → (lo ≡ lo′) × (hi ≡ hi′) × (x ≡ n)
-  need-chose (chose-need a b c) = (a, b, c)
+  pub need-chose : Chose n x lo hi t g B There step.Need → x ≡ n
+  need-chose (chose-need e) = e
 
   pub go-chose : {u : ℕ} → Chose n x lo hi t g B There (step.Go u)
       → (d : ℕ) × ((cs : List ℕ) (k : ℕ → List Entry → List ℕ → Res) → choose Any any? x lo hi t g B cs k ≡ k d B cs) × (x < n) × There u d

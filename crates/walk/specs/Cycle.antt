@@ -35,7 +35,7 @@ pub record Needs (L S R A K N Z : List ℕ) (Q : List Kind) (fs : List Frame) (f
 -- before the row p₀.
 pub data Agree (L S R A K N Z : List ℕ) (Q : List Kind) (p₀ m : ℕ) (fs : List Frame) (f : List ℕ → Res) : Out → Type 0 where
   both-fail : ((cs : List ℕ) → f cs ≡ fail) → Agree L S R A K N Z Q p₀ m fs f out.Fail
-  both-need : {p x s lo hi : ℕ} → p₀ ≤ p → Needs L S R A K N Z Q fs f p x s lo hi → Agree L S R A K N Z Q p₀ m fs f (out.Need p x s lo hi)
+  both-need : {p x s lo hi : ℕ} → p₀ ≤ p → Needs L S R A K N Z Q fs f p x s lo hi → Agree L S R A K N Z Q p₀ m fs f (out.Need p x s)
   both-ok : {B : List Entry} {k : ℕ} → k ≡ m → State L S R Q k B → ((cs : List ℕ) → f cs ≡ ok B cs) → Agree L S R A K N Z Q p₀ m fs f (out.Ok k)
 
 -- the pattern term q at row p, which h holds, the term T at row t, and the state of the walk between them

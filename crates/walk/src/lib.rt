@@ -8,11 +8,11 @@ ghost use Rattle.walk.specs.Cycle.{TermPre, TermPost, ListPre, ListPost}
 ghost use Rattle.walk.specs.Onward.{UpPre, UpPost, ResumePre, ResumePost, BeginPre, BeginPost};
 ghost use Rattle.walk.specs.Taken.{TakePre, TakePost};
 
-// What a walk answers: no match; a variable that has to be chosen, with the row of the pattern and the row of the tree where it
-// stands, and its least and largest value; or a match with so many variables bound.
+// What a walk answers: no match; a variable that has to be chosen, with the row of the pattern, its number and the row of the tree
+// where it starts; or a match with so many variables bound.
 pub enum Out {
     Fail,
-    Need(usize, usize, usize, usize, usize),
+    Need(usize, usize, usize),
     Ok(usize),
 }
 
@@ -39,7 +39,7 @@ pub fn kind(pattern: &[u32; 768], p: usize) -> usize
 }
 
 // A pattern row's name.
-fn name(pattern: &[u32; 768], p: usize) -> usize
+pub fn name(pattern: &[u32; 768], p: usize) -> usize
     requires { ⌜ 3 * p + 2 < length (now pattern) ⌝ }
     ensures { λ r. ⌜ r ≡ getD (now (pattern .entry)) (3 * p + 1) 0 ⌝ }
 {
@@ -47,7 +47,7 @@ fn name(pattern: &[u32; 768], p: usize) -> usize
 }
 
 // The row after the pattern term at the row p.
-fn next(pattern: &[u32; 768], p: usize) -> usize
+pub fn next(pattern: &[u32; 768], p: usize) -> usize
     requires { ⌜ 3 * p + 2 < length (now pattern) ⌝ }
     ensures { λ r. ⌜ r ≡ p + getD (now (pattern .entry)) (3 * p + 2) 0 ⌝ }
 {
@@ -64,7 +64,7 @@ fn come(at: &mut [usize; 512], p: usize, h: usize, t: usize)
 }
 
 // The row of the tree at which the walk came to the pattern row p.
-fn row(at: &[usize; 512], p: usize) -> usize
+pub fn row(at: &[usize; 512], p: usize) -> usize
     requires { ⌜ p < 256 ⌝ }
     ensures { λ r. ⌜ r ≡ getD (now (at .entry)) (2 * p) 0 ⌝ }
 {
@@ -72,7 +72,7 @@ fn row(at: &[usize; 512], p: usize) -> usize
 }
 
 // The row of the pattern that holds the pattern row p.
-fn holder(at: &[usize; 512], p: usize) -> usize
+pub fn holder(at: &[usize; 512], p: usize) -> usize
     requires { ⌜ p < 256 ⌝ }
     ensures { λ r. ⌜ r ≡ getD (now (at .entry)) (2 * p + 1) 0 ⌝ }
 {
@@ -106,7 +106,7 @@ fn term(
     if k == 4 {
         return match variable::context(label, size, record, x, t, n) {
             variable::Step::Fail => Out::Fail,
-            variable::Step::Need(lo, hi) => Out::Need(p, x, t, lo, hi),
+            variable::Step::Need => Out::Need(p, x, t),
             variable::Step::Go(u) => term(label, size, pattern, record, at, p, p + 1, u, n),
         };
     }
@@ -154,9 +154,9 @@ fn args(
             let x = name(pattern, q);
             match variable::sequence(label, size, record, x, u, te, m) {
                 variable::Step::Fail => return Out::Fail,
-                variable::Step::Need(lo, hi) => {
+                variable::Step::Need => {
                     come(at, q, h, u);
-                    return Out::Need(q, x, u, lo, hi);
+                    return Out::Need(q, x, u);
                 }
                 variable::Step::Go(v) => {
                     q += 1;
@@ -169,7 +169,7 @@ fn args(
             }
             match term(label, size, pattern, record, at, h, q, u, m) {
                 Out::Fail => return Out::Fail,
-                Out::Need(r, x, s, lo, hi) => return Out::Need(r, x, s, lo, hi),
+                Out::Need(r, x, s) => return Out::Need(r, x, s),
                 Out::Ok(k) => {
                     q = next(pattern, q);
                     u = tree::next(size, u);
@@ -221,7 +221,7 @@ fn up(
                 m,
             ) {
                 Out::Fail => return Out::Fail,
-                Out::Need(r, x, s, lo, hi) => return Out::Need(r, x, s, lo, hi),
+                Out::Need(r, x, s) => return Out::Need(r, x, s),
                 Out::Ok(k) => {
                     q = h;
                     m = k;
@@ -264,13 +264,13 @@ pub fn resume(
             n,
         ) {
             Out::Fail => Out::Fail,
-            Out::Need(r, x, s, lo, hi) => Out::Need(r, x, s, lo, hi),
+            Out::Need(r, x, s) => Out::Need(r, x, s),
             Out::Ok(m) => up(label, size, pattern, record, at, h, m),
         };
     }
     match term(label, size, pattern, record, at, p, p + 1, u, n) {
         Out::Fail => Out::Fail,
-        Out::Need(r, x, s, lo, hi) => Out::Need(r, x, s, lo, hi),
+        Out::Need(r, x, s) => Out::Need(r, x, s),
         Out::Ok(m) => up(label, size, pattern, record, at, p, m),
     }
 }

@@ -1,5 +1,5 @@
 use native.Mathlib.Omega.{arith}
-use Rattle.compare.proofs.Stretches.{alike-orders, alike-differ, alike-same-pre, alike-same}
+use Rattle.compare.proofs.Stretches.{alike-orders, alike-ends, alike-differ, alike-same}
 use Rattle.compare.proofs.alike.Statement.{statement}
 use Rattle.compare.proofs.alike.Tie as tie
 
@@ -16,7 +16,12 @@ sub-same : tie.Need-sub-same
 sub-same c = omega (arith, alike-orders (c .before .before .before .pre))
 
 same-requires : tie.Need-same-requires
-same-requires c κs = alike-same-pre (c .if1 .left) (c .before .before .before .pre)
+same-requires c κs =
+    let p = c .before .before .before .pre in
+    let orders = alike-orders p in
+    let ends = alike-ends p in
+    let long = c .if1 .left in
+    record { labels = (omega arith, omega arith); sizes = (omega arith, omega arith) }
 
 returns-2 : tie.Need-returns-2
 returns-2 c = alike-same (c .before .if1 .left) (c .same .ensures)

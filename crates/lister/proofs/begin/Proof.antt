@@ -1,8 +1,7 @@
-use native.Mathlib.Omega.{arith}
+use borrow.Author.Needs.{needs}
 use mathlib.Core.Path.{refl}
 use lib.ListN.{replicate}
-use Rattle.lister.proofs.Begun.{Begun, first-asked, begun-fail, begun-full, begun-put, begun-done, need-fits, go-asked, begun-need}
-use borrow.Author.Needs.{needs}
+use Rattle.lister.proofs.Begun.{Begun, first-asked, begun-fail, begun-full, begun-put, begun-done, at-stop, need-room, go-asked, begun-need}
 use Rattle.lister.proofs.begin.Statement.{statement}
 use Rattle.lister.proofs.begin.Tie as tie
 
@@ -34,20 +33,20 @@ array-write-variables c = search needs
 array-write-starts : tie.Need-array-write-starts
 array-write-starts c = search needs
 
+least-requires : tie.Need-least-requires
+least-requires c κs = need-room (begun (c .before .before .before)) (c .before .p .given .1)
+
 array-write-nexts : tie.Need-array-write-nexts
 array-write-nexts c = search needs
 
-add-lefts : tie.Need-add-lefts
-add-lefts c = omega (arith, need-fits (begun (c .before .before .before)) (c .before .p .given .1))
-
-sub-lefts : tie.Need-sub-lefts
-sub-lefts c = omega (arith, need-fits (begun (c .before .before .before)) (c .before .p .given .1))
+values-requires : tie.Need-values-requires
+values-requires c κs = at-stop (begun (c .before .before .before .before .before)) (c .before .before .before .p .given .1)
 
 array-write-lefts : tie.Need-array-write-lefts
 array-write-lefts c = search needs
 
 go-requires : tie.Need-go-requires
-go-requires c κs = go-asked (begun (c .before .before .before .before .before)) (c .before .before .before .p .given .1)
+go-requires c κs = go-asked (begun (c .before .before .before .before .before .before .before .before)) (c .before .before .before .before .before .before .p .given .1) (c .before .before .before .before .least .ensures) (c .before .before .values .ensures)
 
 enum-told-2 : tie.Need-enum-told-2
 enum-told-2 c = search needs
@@ -65,7 +64,7 @@ same-length : tie.Need-same-length
 same-length c = search needs
 
 returns-3 : tie.Need-returns-3
-returns-3 c = begun-need (begun (c .before .before .before .before .before .before .before .before)) (c .before .before .before .before .before .before .p .given .1) (c .before .before .go .ensures)
+returns-3 c = begun-need (begun (c .before .before .before .before .before .before .before .before .before .before .before)) (c .before .before .before .before .before .before .before .before .before .p .given .1) (c .before .before .before .before .before .before .before .least .ensures) (c .before .before .before .before .before .values .ensures) (c .before .before .go .ensures)
 
 same-length-2 : tie.Need-same-length-2
 same-length-2 c = search needs
@@ -84,9 +83,9 @@ begin-spec =
     array-write-rows
     array-write-variables
     array-write-starts
+    least-requires
     array-write-nexts
-    add-lefts
-    sub-lefts
+    values-requires
     array-write-lefts
     go-requires
     enum-told-2

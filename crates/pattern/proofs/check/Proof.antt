@@ -36,12 +36,12 @@ returns-4 : tie.Need-returns-4
 returns-4 c =
     let t = c .before .before .shape in
     let h = said-no (t .ensures) (not-true (t .result) (c .before .if4 .taken)) in
-    settled-no (λ g. h (good-shape (g .2))) (c .refused4 .ensures)
+    settled-no (λ g. h (good-shape (g .2), omega (arith, c .before .before .before .if3 .left, c .before .before .before .before .if2 .left))) (c .refused4 .ensures)
 
 shared-slice-read-if5 : tie.Need-shared-slice-read-if5
 shared-slice-read-if5 c =
     let t = c .before .before .shape in
-    let h = shape-some (t .ensures .0 (not-false (t .result) (c .before .if4 .left))) in
+    let h = shape-some (t .ensures .0 (not-false (t .result) (c .before .if4 .left)) .0) in
     omega (arith, h, c .before .before .before .before .if2 .left)
 
 refused-requires-5 : tie.Need-refused-requires-5
@@ -56,7 +56,7 @@ scan-requires c κs = search needs
 returns-6 : tie.Need-returns-6
 returns-6 c =
     let t = c .before .before .before .before .shape in
-    let h = t .ensures .0 (not-false (t .result) (c .before .before .before .if4 .left)) in
+    let h = t .ensures .0 (not-false (t .result) (c .before .before .before .if4 .left)) .0 in
     settled-scan h (c .before .if5 .left) (c .before .before .before .before .before .if3 .left) (c .scan .ensures)
 
 pub check-spec : {M : Type 1} → statement M

@@ -2,10 +2,10 @@ use Prim.Native.Nat.{_+_, _-_, _*_, _<_, _≤_}
 use native.Mathlib.Omega.{arith}
 use mathlib.Core.Path.{_≡_, refl}
 use lib.ListN.{length, getD, set}
-use Rattle.search.proofs.Turns.{Input, given, Placed, Going, Ready, Tried}
+use Rattle.search.proofs.Turns.{Input, given, Placed, Going, Ready, Passing, Tried}
 use Rattle.search.proofs.Turns.{going-start, going-depth, going-long, going-back, going-end, going-ready, going-spent}
-use Rattle.search.proofs.Turns.{placed, attempt-asked, further-pre, going-try}
-use Rattle.search.proofs.Turns.{tried-fail, need-fits, tried-need, tried-full, put-asked, tried-match, tried-counted}
+use Rattle.search.proofs.Turns.{placed, level-asked, passed-small, passed-asked, passed-further, passed-tried}
+use Rattle.search.proofs.Turns.{tried-fail, need-fits, need-room, more-asked, tried-need, tried-full, put-asked, tried-match, tried-counted}
 use Rattle.memory.specs.Memory.{Remembers}
 use Rattle.memory.proofs.Numbers.{blank}
 use borrow.Author.Needs.{needs}
@@ -37,7 +37,7 @@ abbrev begun : tie.At-loop Inv-loop μ-loop → tie.Start Inv-loop μ-loop
 begun h = h .before .before .before .before .before
 
 abbrev head : tie.After-attempt Inv-loop μ-loop → tie.At-loop Inv-loop μ-loop
-head t = t .before .before .before .before .before .before .before .before .before
+head t = t .before .before .before .before .before .before .before .before .before .before .before .before
 
 -- a turn's out is as long as the one that was lent
 kept : (h : tie.At-loop Inv-loop μ-loop) → length (h .loop .out) ≡ length (begun h .args .out .now)
@@ -55,21 +55,43 @@ level : (c : tie.Else2 Inv-loop μ-loop) →
     Placed (l .nexts) (l .lefts) (c .before .before .back .result)
 level c = placed (ready (c .before)) (begun (c .before .before .before .before) .pre)
 
+-- a turn that has passed over the values that fail at once
+passing : (c : tie.After-skip Inv-loop μ-loop) →
+    let l = c .before .before .before .before .before .before .before .loop in
+    Passing (input (begun (c .before .before .before .before .before .before .before))) (l .out) (l .«record») (l .at) (l .places) (l .variables) (l .starts) (l .rows) (l .nexts) (l .lefts)
+    (c .before .before .before .before .before .back .result) (l .count) (l .tries) (c .before .before .spare .result) (c .skip .result .count) (c .skip .result .row)
+passing c =
+    record {
+      pre = begun (c .before .before .before .before .before .before .before) .pre;
+      ready = ready (c .before .before .before .before);
+      fewer = c .before .before .spare .ensures .0;
+      afford = c .before .before .spare .ensures .1;
+      post = c .skip .ensures;
+    }
+
+-- the numbers of the value that it tries
+small : (c : tie.After-skip Inv-loop μ-loop) →
+    let l = c .before .before .before .before .before .before .before .loop in
+    let depth = c .before .before .before .before .before .back .result in
+    (c .skip .result .count < getD (l .lefts) (depth - 1) 0) × (0 < depth) × (depth ≤ 16) × (getD (l .nexts) (depth - 1) 0 + getD (l .lefts) (depth - 1) 0 ≤ 2049)
+    × (l .tries + c .skip .result .count < begun (c .before .before .before .before .before .before .before) .args .budget) × (begun (c .before .before .before .before .before .before .before) .args .budget < 4294967296)
+small c =
+    let q = passing c in
+    let s = passed-small q in
+    (omega (arith, q .fewer, s), q .ready .some, s .1, s .2, omega (arith, q .afford, s), omega (arith, begun (c .before .before .before .before .before .before .before) .fits .budget))
+
 -- a turn that has tried the level's next value
 tried : (c : tie.After-attempt Inv-loop μ-loop) →
     let l = head c .loop in
-    let depth = c .before .before .before .before .before .before .before .back .result in
+    let depth = c .before .before .before .before .before .before .before .before .before .before .back .result in
+    let failed = c .before .before .before .before .before .skip .result .count in
     Tried (input (begun (head c))) (l .out) (c .attempt .last .1 .1 .1 .1 .1 .1 .1 .1 .1 .1 .0) (c .attempt .last .1 .1 .1 .1 .1 .1 .1 .1 .1 .1 .1 .0) (l .places) (l .variables) (l .starts)
-    (set (l .rows) (depth - 1) (c .before .before .before .before .further .result)) (set (l .nexts) (depth - 1) (getD (l .nexts) (depth - 1) 0 + 1)) (set (l .lefts) (depth - 1) (getD (l .lefts) (depth - 1) 0 - 1))
-    depth (l .count) (l .tries + 1) (c .attempt .result)
-tried c = going-try (ready (c .before .before .before .before .before .before)) (begun (head c) .pre) (c .before .before .before .before .before .if2 .left) (c .before .before .before .before .further .ensures) (c .attempt .ensures .0)
+    (set (l .rows) (depth - 1) (c .before .before .before .before .further .result)) (set (l .nexts) (depth - 1) (getD (l .nexts) (depth - 1) 0 + failed + 1)) (set (l .lefts) (depth - 1) (getD (l .lefts) (depth - 1) 0 - failed - 1))
+    depth (l .count) (l .tries + failed + 1) (c .before .before .before .before .before .skip .result .row) (getD (l .lefts) (depth - 1) 0 - failed - 1) (c .attempt .result)
+tried c = passed-tried (passing (c .before .before .before .before .before)) (c .before .before .before .before .further .ensures) (c .attempt .ensures .0)
 
--- the walk needs a choice: there is a place for one more level, and its values are small
-next-level : (c : tie.After-known-told Inv-loop μ-loop) →
-    let values = c .before .p .given .0 in
-    let lo = values .1 .1 .1 .0 in
-    let hi = values .1 .1 .1 .1 .0 in
-    (lo ≤ hi) × (hi < 2048) × (c .before .before .before .before .before .before .before .before .before .before .back .result < 16)
+-- the walk needs a choice: there is a place for one more level
+next-level : (c : tie.After-known-told Inv-loop μ-loop) → c .before .before .before .before .before .before .before .before .before .before .before .before .before .back .result < 16
 next-level c = need-fits (tried (c .before .before .before)) (c .before .p .given .1) (begun (head (c .before .before .before)) .pre)
 
 -- the walk is done, and there is room for the record
@@ -97,83 +119,119 @@ same-length-2 c = kept (c .before .before .before .before)
 returns-2 : tie.Need-returns-2 Inv-loop μ-loop
 returns-2 c = going-spent (ready (c .before)) (c .if2 .taken)
 
-add-tries : tie.Need-add-tries Inv-loop μ-loop
-add-tries c = omega (arith, c .before .before .before .before .loop .inv .0 .charged, begun (c .before .before .before .before) .fits .budget)
-
 sub-last : tie.Need-sub-last Inv-loop μ-loop
 sub-last c = omega (arith, level c)
 
+mul-spare : tie.Need-mul-spare Inv-loop μ-loop
+mul-spare c = omega (arith, level c)
+
+array-read-spare : tie.Need-array-read-spare Inv-loop μ-loop
+array-read-spare c = omega (arith, level c)
+
+spare-requires : tie.Need-spare-requires Inv-loop μ-loop
+spare-requires c κs = (level c .live, omega (arith, c .if2 .left, c .before .before .before .before .loop .inv .0 .charged))
+
+mul-skip : tie.Need-mul-skip Inv-loop μ-loop
+mul-skip c = omega (arith, level (c .before .before))
+
+array-read-skip : tie.Need-array-read-skip Inv-loop μ-loop
+array-read-skip c = omega (arith, level (c .before .before))
+
+mul-skip-2 : tie.Need-mul-skip-2 Inv-loop μ-loop
+mul-skip-2 c = omega (arith, level (c .before .before))
+
+array-read-skip-2 : tie.Need-array-read-skip-2 Inv-loop μ-loop
+array-read-skip-2 c = omega (arith, level (c .before .before))
+
+mul-skip-3 : tie.Need-mul-skip-3 Inv-loop μ-loop
+mul-skip-3 c = omega (arith, level (c .before .before))
+
+array-read-skip-3 : tie.Need-array-read-skip-3 Inv-loop μ-loop
+array-read-skip-3 c = omega (arith, level (c .before .before))
+
+skip-requires : tie.Need-skip-requires Inv-loop μ-loop
+skip-requires c κs = level-asked (ready (c .before .before .before)) (begun (c .before .before .before .before .before .before) .pre) (c .before .spare .ensures .0)
+
 mul-v : tie.Need-mul-v Inv-loop μ-loop
-mul-v c = omega (arith, level c)
+mul-v c = omega (arith, small c)
 
 array-read-v : tie.Need-array-read-v Inv-loop μ-loop
-array-read-v c = omega (arith, level c)
+array-read-v c = omega (arith, small c)
 
-mul-u : tie.Need-mul-u Inv-loop μ-loop
-mul-u c = omega (arith, level c)
-
-array-read-u : tie.Need-array-read-u Inv-loop μ-loop
-array-read-u c = omega (arith, level c)
+add-v : tie.Need-add-v Inv-loop μ-loop
+add-v c = omega (arith, small c)
 
 mul-left : tie.Need-mul-left Inv-loop μ-loop
-mul-left c = omega (arith, level c)
+mul-left c = omega (arith, small c)
 
 array-read-left : tie.Need-array-read-left Inv-loop μ-loop
-array-read-left c = omega (arith, level c)
+array-read-left c = omega (arith, small c)
 
 sub-left : tie.Need-sub-left Inv-loop μ-loop
-sub-left c = omega (arith, level c)
+sub-left c = omega (arith, small c)
+
+sub-left-2 : tie.Need-sub-left-2 Inv-loop μ-loop
+sub-left-2 c = omega (arith, small c)
+
+cast-more : tie.Need-cast-more Inv-loop μ-loop
+cast-more c = omega (arith, small c)
+
+add-tries : tie.Need-add-tries Inv-loop μ-loop
+add-tries c = omega (arith, small c)
+
+add-tries-2 : tie.Need-add-tries-2 Inv-loop μ-loop
+add-tries-2 c = omega (arith, small c)
 
 add-nexts : tie.Need-add-nexts Inv-loop μ-loop
-add-nexts c = omega (arith, level c)
+add-nexts c = omega (arith, small c)
 
 mul-nexts : tie.Need-mul-nexts Inv-loop μ-loop
-mul-nexts c = omega (arith, level c)
+mul-nexts c = omega (arith, small c)
 
 array-write-nexts : tie.Need-array-write-nexts Inv-loop μ-loop
-array-write-nexts c = omega (arith, level c)
+array-write-nexts c = omega (arith, small c)
 
 mul-lefts : tie.Need-mul-lefts Inv-loop μ-loop
-mul-lefts c = omega (arith, level c)
+mul-lefts c = omega (arith, small c)
 
 array-write-lefts : tie.Need-array-write-lefts Inv-loop μ-loop
-array-write-lefts c = omega (arith, level c)
+array-write-lefts c = omega (arith, small c)
 
 mul-further : tie.Need-mul-further Inv-loop μ-loop
-mul-further c = omega (arith, level c)
+mul-further c = omega (arith, small c)
 
 array-read-further : tie.Need-array-read-further Inv-loop μ-loop
-array-read-further c = omega (arith, level c)
+array-read-further c = omega (arith, small c)
 
 further-requires : tie.Need-further-requires Inv-loop μ-loop
-further-requires c κs = further-pre (ready (c .before)) (begun (c .before .before .before .before) .pre)
+further-requires c κs = passed-further (passing c)
 
 mul-rows : tie.Need-mul-rows Inv-loop μ-loop
-mul-rows c = omega (arith, level (c .before))
+mul-rows c = omega (arith, small (c .before))
 
 array-write-rows : tie.Need-array-write-rows Inv-loop μ-loop
-array-write-rows c = omega (arith, level (c .before))
+array-write-rows c = omega (arith, small (c .before))
 
 mul-attempt : tie.Need-mul-attempt Inv-loop μ-loop
-mul-attempt c = omega (arith, level (c .before .before .before))
+mul-attempt c = omega (arith, small (c .before .before .before))
 
 array-read-attempt : tie.Need-array-read-attempt Inv-loop μ-loop
-array-read-attempt c = omega (arith, level (c .before .before .before))
+array-read-attempt c = omega (arith, small (c .before .before .before))
 
 mul-attempt-2 : tie.Need-mul-attempt-2 Inv-loop μ-loop
-mul-attempt-2 c = omega (arith, level (c .before .before .before))
+mul-attempt-2 c = omega (arith, small (c .before .before .before))
 
 array-read-attempt-2 : tie.Need-array-read-attempt-2 Inv-loop μ-loop
-array-read-attempt-2 c = omega (arith, level (c .before .before .before))
+array-read-attempt-2 c = omega (arith, small (c .before .before .before))
 
 mul-attempt-3 : tie.Need-mul-attempt-3 Inv-loop μ-loop
-mul-attempt-3 c = omega (arith, level (c .before .before .before))
+mul-attempt-3 c = omega (arith, small (c .before .before .before))
 
 array-read-attempt-3 : tie.Need-array-read-attempt-3 Inv-loop μ-loop
-array-read-attempt-3 c = omega (arith, level (c .before .before .before))
+array-read-attempt-3 c = omega (arith, small (c .before .before .before))
 
 attempt-requires : tie.Need-attempt-requires Inv-loop μ-loop
-attempt-requires c κs = (attempt-asked (ready (c .before .before .before .before .before)) (begun (c .before .before .before .before .before .before .before .before) .pre), c .before .before .before .before .before .before .before .before .loop .inv .1)
+attempt-requires c κs = (passed-asked (passing (c .before .before .before .before)), c .before .before .before .before .before .before .before .before .before .before .before .loop .inv .1)
 
 enum-told : tie.Need-enum-told Inv-loop μ-loop
 enum-told c = search needs
@@ -187,56 +245,65 @@ loop-again c = (tried-fail (tried (c .before .before)) (c .enum-told .given .1),
 enum-known-p : tie.Need-enum-known-p Inv-loop μ-loop
 enum-known-p c = search needs
 
-mul-places : tie.Need-mul-places Inv-loop μ-loop
-mul-places c = omega (arith, next-level c)
-
-array-write-places : tie.Need-array-write-places Inv-loop μ-loop
-array-write-places c = omega (arith, next-level c)
-
-mul-variables : tie.Need-mul-variables Inv-loop μ-loop
-mul-variables c = omega (arith, next-level c)
-
-array-write-variables : tie.Need-array-write-variables Inv-loop μ-loop
-array-write-variables c = omega (arith, next-level c)
-
-mul-starts : tie.Need-mul-starts Inv-loop μ-loop
-mul-starts c = omega (arith, next-level c)
-
-array-write-starts : tie.Need-array-write-starts Inv-loop μ-loop
-array-write-starts c = omega (arith, next-level c)
-
-mul-rows-2 : tie.Need-mul-rows-2 Inv-loop μ-loop
-mul-rows-2 c = omega (arith, next-level c)
-
-array-write-rows-2 : tie.Need-array-write-rows-2 Inv-loop μ-loop
-array-write-rows-2 c = omega (arith, next-level c)
+least-requires : tie.Need-least-requires Inv-loop μ-loop
+least-requires c κs = need-room (tried (c .before .before .before)) (c .before .p .given .1) (begun (head (c .before .before .before)) .pre)
 
 mul-nexts-2 : tie.Need-mul-nexts-2 Inv-loop μ-loop
-mul-nexts-2 c = omega (arith, next-level c)
+mul-nexts-2 c = omega (arith, next-level (c .before))
 
 array-write-nexts-2 : tie.Need-array-write-nexts-2 Inv-loop μ-loop
-array-write-nexts-2 c = omega (arith, next-level c)
+array-write-nexts-2 c = omega (arith, next-level (c .before))
 
-add-lefts : tie.Need-add-lefts Inv-loop μ-loop
-add-lefts c = omega (arith, next-level c)
+mul-more-values : tie.Need-mul-more-values Inv-loop μ-loop
+mul-more-values c = omega (arith, small (c .before .before .before .before .before .before .before .before .before .before))
 
-sub-lefts : tie.Need-sub-lefts Inv-loop μ-loop
-sub-lefts c = omega (arith, next-level c)
+array-read-more-values : tie.Need-array-read-more-values Inv-loop μ-loop
+array-read-more-values c = omega (arith, small (c .before .before .before .before .before .before .before .before .before .before))
+
+more-values-requires : tie.Need-more-values-requires Inv-loop μ-loop
+more-values-requires c κs = more-asked (tried (c .before .before .before .before .before)) (c .before .before .before .p .given .1) (begun (head (c .before .before .before .before .before)) .pre)
 
 mul-lefts-2 : tie.Need-mul-lefts-2 Inv-loop μ-loop
-mul-lefts-2 c = omega (arith, next-level c)
+mul-lefts-2 c = omega (arith, next-level (c .before .before .before))
 
 array-write-lefts-2 : tie.Need-array-write-lefts-2 Inv-loop μ-loop
-array-write-lefts-2 c = omega (arith, next-level c)
+array-write-lefts-2 c = omega (arith, next-level (c .before .before .before))
+
+mul-places : tie.Need-mul-places Inv-loop μ-loop
+mul-places c = omega (arith, next-level (c .before .before .before))
+
+array-write-places : tie.Need-array-write-places Inv-loop μ-loop
+array-write-places c = omega (arith, next-level (c .before .before .before))
+
+mul-variables : tie.Need-mul-variables Inv-loop μ-loop
+mul-variables c = omega (arith, next-level (c .before .before .before))
+
+array-write-variables : tie.Need-array-write-variables Inv-loop μ-loop
+array-write-variables c = omega (arith, next-level (c .before .before .before))
+
+mul-starts : tie.Need-mul-starts Inv-loop μ-loop
+mul-starts c = omega (arith, next-level (c .before .before .before))
+
+array-write-starts : tie.Need-array-write-starts Inv-loop μ-loop
+array-write-starts c = omega (arith, next-level (c .before .before .before))
+
+mul-rows-2 : tie.Need-mul-rows-2 Inv-loop μ-loop
+mul-rows-2 c = omega (arith, next-level (c .before .before .before))
+
+array-write-rows-2 : tie.Need-array-write-rows-2 Inv-loop μ-loop
+array-write-rows-2 c = omega (arith, next-level (c .before .before .before))
 
 add-depth : tie.Need-add-depth Inv-loop μ-loop
-add-depth c = omega (arith, next-level c)
+add-depth c = omega (arith, next-level (c .before .before .before))
 
 loop-less-2 : tie.Need-loop-less-2 Inv-loop μ-loop
-loop-less-2 c = omega (arith, tried (c .before .before .before) .charged)
+loop-less-2 c = omega (arith, tried (c .before .before .before .before .before .before) .charged)
 
 loop-again-2 : tie.Need-loop-again-2 Inv-loop μ-loop
-loop-again-2 c = (tried-need (tried (c .before .before .before)) (c .before .p .given .1) (begun (head (c .before .before .before)) .pre) (ready (c .before .before .before .before .before .before .before .before .before) .some) refl, c .before .before .before .attempt .ensures .1)
+loop-again-2 c = (
+  tried-need (tried (c .before .before .before .before .before .before)) (c .before .before .before .before .p .given .1) (c .before .before .least .ensures) (c .more-values .ensures) (begun (head (c .before .before .before .before .before .before)) .pre) (passing (c .before .before .before .before .before .before .before .before .before .before .before) .ready .some),
+  c .before .before .before .before .before .before .attempt .ensures .1,
+)
 
 enum-told-2 : tie.Need-enum-told-2 Inv-loop μ-loop
 enum-told-2 c = search needs
@@ -265,22 +332,36 @@ loop-again-3 c = (rw (c .before .before .put .ensures) (tried-match (tried (c .b
 pub go-spec : {M : Type 1} → statement M
 go-spec =
     tie.close
-    (tie.spec Inv-loop μ-loop
+    (tie.spec
+    Inv-loop
+    μ-loop
     loop-holds
     back-requires
     same-length
     returns
     same-length-2
     returns-2
-    add-tries
     sub-last
+    mul-spare
+    array-read-spare
+    spare-requires
+    mul-skip
+    array-read-skip
+    mul-skip-2
+    array-read-skip-2
+    mul-skip-3
+    array-read-skip-3
+    skip-requires
     mul-v
     array-read-v
-    mul-u
-    array-read-u
+    add-v
     mul-left
     array-read-left
     sub-left
+    sub-left-2
+    cast-more
+    add-tries
+    add-tries-2
     add-nexts
     mul-nexts
     array-write-nexts
@@ -302,6 +383,14 @@ go-spec =
     loop-less
     loop-again
     enum-known-p
+    least-requires
+    mul-nexts-2
+    array-write-nexts-2
+    mul-more-values
+    array-read-more-values
+    more-values-requires
+    mul-lefts-2
+    array-write-lefts-2
     mul-places
     array-write-places
     mul-variables
@@ -310,12 +399,6 @@ go-spec =
     array-write-starts
     mul-rows-2
     array-write-rows-2
-    mul-nexts-2
-    array-write-nexts-2
-    add-lefts
-    sub-lefts
-    mul-lefts-2
-    array-write-lefts-2
     add-depth
     loop-less-2
     loop-again-2

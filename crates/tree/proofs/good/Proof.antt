@@ -9,24 +9,23 @@ use Rattle.tree.proofs.good.Tie as tie
 returns : tie.Need-returns
 returns c = says-no (λ g. c .if1 .taken (sym (good-lengths (g .1) .1)))
 
-returns-2 : tie.Need-returns-2
-returns-2 c = says-no (λ g. omega (arith, c .if2 .taken, g .1 .few))
-
 below-requires : tie.Need-below-requires
 below-requires c κs = search needs
 
 shape-requires : tie.Need-shape-requires
 shape-requires c κs = search needs
 
-returns-3 : tie.Need-returns-3
-returns-3 c = (
-  λ h. shape-good (c .before .before .before .before .if1 .left) (omega (arith, c .before .before .before .if2 .left)) (c .before .before .below .ensures .0 (c .before .if3 .taken)) (c .shape .ensures .0 h),
-  λ g. c .shape .ensures .1 (good-shape g),
+returns-2 : tie.Need-returns-2
+returns-2 c = (
+  λ h.
+      let s = c .shape .ensures .0 h in
+      shape-good (c .before .before .before .if1 .left) (omega (arith, c .before .before .before .if1 .left, s .1)) (c .before .before .below .ensures .0 (c .before .if2 .taken)) (s .0),
+  λ g. c .shape .ensures .1 (good-shape g, omega (arith, good-lengths (g .1), g .1 .few)),
 )
 
-returns-4 : tie.Need-returns-4
-returns-4 c = says-no (λ g. said-no (c .before .below .ensures) (c .if3 .left) (g .1 .small))
+returns-3 : tie.Need-returns-3
+returns-3 c = says-no (λ g. said-no (c .before .below .ensures) (c .if2 .left) (g .1 .small))
 
 pub good-spec : {M : Type 1} → statement M
 good-spec =
-    tie.close (tie.spec returns returns-2 below-requires shape-requires returns-3 returns-4)
+    tie.close (tie.spec returns below-requires shape-requires returns-2 returns-3)

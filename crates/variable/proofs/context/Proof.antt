@@ -1,17 +1,11 @@
 use native.Mathlib.Omega.{arith}
-use Rattle.variable.proofs.Contexts.{context-row, context-needs, context-room, context-fits-pre, context-differs, context-again}
+use Rattle.variable.proofs.Contexts.{context-needs, context-room, context-fits-pre, context-differs, context-again}
 use borrow.Author.Needs.{needs}
 use Rattle.variable.proofs.context.Statement.{statement}
 use Rattle.variable.proofs.context.Tie as tie
 
-next-requires : tie.Need-next-requires
-next-requires c κs = context-row (c .before .before .before .before .pre) .sized
-
-sub-t12 : tie.Need-sub-t12
-sub-t12 c = omega (arith, context-row (c .before .before .before .before .before .pre) .positive, c .next .ensures)
-
 returns : tie.Need-returns
-returns c = context-needs (c .before .if1 .taken) (c .next .ensures)
+returns c = context-needs (c .if1 .taken)
 
 add-at : tie.Need-add-at
 add-at c = omega (arith, context-room (c .before .before .before .before .pre), c .before .before .before .before .good)
@@ -47,8 +41,6 @@ pub context-spec : {M : Type 1} → statement M
 context-spec =
     tie.close
     (tie.spec
-    next-requires
-    sub-t12
     returns
     add-at
     at-requires

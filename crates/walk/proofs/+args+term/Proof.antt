@@ -139,14 +139,14 @@ args-enum-told t c = search needs
 args-returns : (t : ℕ) → args-lts.Need-returns (args-claims t) (args-at t) args.Post args-Inv-loop args-μ-loop
 args-returns t c = list-sequence-fails (at-sequence t (c .before .before .before .before .before)) (c .before .before .sequence .ensures) (c .enum-told .given .1)
 
-args-enum-known-lo : (t : ℕ) → args-lts.Need-enum-known-lo (args-claims t) (args-at t) args.Post args-Inv-loop args-μ-loop
-args-enum-known-lo t c = search needs
+args-enum-told-2 : (t : ℕ) → args-lts.Need-enum-told-2 (args-claims t) (args-at t) args.Post args-Inv-loop args-μ-loop
+args-enum-told-2 t c = search needs
 
 args-come-requires : (t : ℕ) → args-lts.Need-come-requires (args-claims t) (args-at t) args.Post args-Inv-loop args-μ-loop
-args-come-requires t c κs = list-marks (turn t (c .before .before .before .before .before .before .before .before .before .before))
+args-come-requires t c κs = list-marks (turn t (c .before .before .before .before .before .before .before .before .before))
 
 args-returns-2 : (t : ℕ) → args-lts.Need-returns-2 (args-claims t) (args-at t) args.Post args-Inv-loop args-μ-loop
-args-returns-2 t c = list-sequence-needs (at-sequence t (c .before .before .before .before .before .before .before .before)) (c .before .before .before .before .before .sequence .ensures) (c .before .before .before .lo .given .1) (c .come .ensures)
+args-returns-2 t c = list-sequence-needs (at-sequence t (c .before .before .before .before .before .before .before)) (c .before .before .before .before .sequence .ensures) (c .before .before .enum-told2 .given .1) (c .come .ensures)
 
 args-enum-known-v : (t : ℕ) → args-lts.Need-enum-known-v (args-claims t) (args-at t) args.Post args-Inv-loop args-μ-loop
 args-enum-known-v t c = search needs
@@ -166,11 +166,11 @@ args-returns-3 t c = list-tree-ends (turn t (c .before .before .before)) (omega 
 args-term-requires : (t : ℕ) → args-lts.Need-term-requires (args-claims t) (args-at t) args.Post args-Inv-loop args-μ-loop
 args-term-requires t c κs = (omega (arith, c .before .before .before .before .before .before .before .before .before .pre .0, list-term-within (at-term t (c .before .before)), c .before .before .before .before .before .before .loop .inv .later, c .before .before .before .before .before .before .loop .inv .further), list-term-pre (at-term t (c .before .before)))
 
-args-enum-told-2 : (t : ℕ) → args-lts.Need-enum-told-2 (args-claims t) (args-at t) args.Post args-Inv-loop args-μ-loop
-args-enum-told-2 t c = search needs
+args-enum-told-3 : (t : ℕ) → args-lts.Need-enum-told-3 (args-claims t) (args-at t) args.Post args-Inv-loop args-μ-loop
+args-enum-told-3 t c = search needs
 
 args-returns-4 : (t : ℕ) → args-lts.Need-returns-4 (args-claims t) (args-at t) args.Post args-Inv-loop args-μ-loop
-args-returns-4 t c = list-term-fails (at-term t (c .before .before .before .before .before)) (c .before .before .term .ensures) (c .enum-told2 .given .1)
+args-returns-4 t c = list-term-fails (at-term t (c .before .before .before .before .before)) (c .before .before .term .ensures) (c .enum-told3 .given .1)
 
 args-enum-known-r : (t : ℕ) → args-lts.Need-enum-known-r (args-claims t) (args-at t) args.Post args-Inv-loop args-μ-loop
 args-enum-known-r t c = search needs
@@ -235,8 +235,8 @@ term-context-requires t c κs = term-context-pre (row t (c .before .before .befo
 term-enum-told-2 : (t : ℕ) → term-lts.Need-enum-told-2 (term-claims t) (term-at t) term.Post
 term-enum-told-2 t c = search needs
 
-term-enum-known-lo : (t : ℕ) → term-lts.Need-enum-known-lo (term-claims t) (term-at t) term.Post
-term-enum-known-lo t c = search needs
+term-enum-told-3 : (t : ℕ) → term-lts.Need-enum-told-3 (term-claims t) (term-at t) term.Post
+term-enum-told-3 t c = search needs
 
 term-enum-known-u : (t : ℕ) → term-lts.Need-enum-known-u (term-claims t) (term-at t) term.Post
 term-enum-known-u t c = search needs
@@ -254,7 +254,7 @@ term-returns-3 : (t : ℕ) → term-lts.Need-returns-3 (term-claims t) (term-at 
 term-returns-3 t c = term-context-fails (row t (c .before .before .before .before .before .before .before)) (c .before .before .before .before .before .if2 .taken) (c .before .before .context .ensures) (c .enum-told2 .given .1)
 
 term-returns-4 : (t : ℕ) → term-lts.Need-returns-4 (term-claims t) (term-at t) term.Post
-term-returns-4 t c = term-context-needs (row t (c .before .before .before .before .before .before .before .before)) (c .before .before .before .before .before .before .if2 .taken) (c .before .before .before .context .ensures) (c .before .lo .given .1)
+term-returns-4 t c = term-context-needs (row t (c .before .before .before .before .before .before .before)) (c .before .before .before .before .before .if2 .taken) (c .before .before .context .ensures) (c .enum-told3 .given .1)
 
 term-returns-5 : (t : ℕ) → term-lts.Need-returns-5 (term-claims t) (term-at t) term.Post
 term-returns-5 t c = term-under-is (row t (c .before .before .before .before .before .before .before .before .before .before .before)) (c .before .before .before .before .before .before .before .before .before .if2 .taken) (c .before .before .before .before .before .before .context .ensures) (c .before .before .before .before .u .given .1) (c .term .ensures)
@@ -262,8 +262,8 @@ term-returns-5 t c = term-under-is (row t (c .before .before .before .before .be
 term-head-requires : (t : ℕ) → term-lts.Need-head-requires (term-claims t) (term-at t) term.Post
 term-head-requires t c κs = term-head-pre (row t (c .before .before .before)) (c .before .before .if1 .left) (c .before .if2 .left)
 
-term-enum-told-3 : (t : ℕ) → term-lts.Need-enum-told-3 (term-claims t) (term-at t) term.Post
-term-enum-told-3 t c = search needs
+term-enum-told-4 : (t : ℕ) → term-lts.Need-enum-told-4 (term-claims t) (term-at t) term.Post
+term-enum-told-4 t c = search needs
 
 term-enum-known-m-2 : (t : ℕ) → term-lts.Need-enum-known-m-2 (term-claims t) (term-at t) term.Post
 term-enum-known-m-2 t c = search needs
@@ -287,7 +287,7 @@ term-args-requires t c κs = (
 )
 
 term-returns-6 : (t : ℕ) → term-lts.Need-returns-6 (term-claims t) (term-at t) term.Post
-term-returns-6 t c = term-head-fails (row t (c .before .before .before .before .before .before)) (c .before .before .before .before .before .if1 .left) (c .before .before .before .before .if2 .left) (c .before .before .head .ensures) (c .enum-told3 .given .1)
+term-returns-6 t c = term-head-fails (row t (c .before .before .before .before .before .before)) (c .before .before .before .before .before .if1 .left) (c .before .before .before .before .if2 .left) (c .before .before .head .ensures) (c .enum-told4 .given .1)
 
 term-returns-7 : (t : ℕ) → term-lts.Need-returns-7 (term-claims t) (term-at t) term.Post
 term-returns-7 t c = term-inside-is (row t (c .before .before .before .before .before .before .before .before .before .before .before .before)) (c .before .before .before .before .before .before .before .before .before .before .before .if1 .left) (c .before .before .before .before .before .before .before .before .before .before .if2 .left) (c .before .before .before .before .before .before .before .before .head .ensures) (c .before .before .before .before .before .before .m2 .given .1) (c .before .before .next .ensures) (c .before .next2 .ensures) (c .args2 .ensures)
@@ -303,7 +303,7 @@ pub +args+term-spec : {M : Type 1} → statement M
     (args-sequence-requires t)
     (args-enum-told t)
     (args-returns t)
-    (args-enum-known-lo t)
+    (args-enum-told-2 t)
     (args-come-requires t)
     (args-returns-2 t)
     (args-enum-known-v t)
@@ -312,7 +312,7 @@ pub +args+term-spec : {M : Type 1} → statement M
     (args-loop-again t)
     (args-returns-3 t)
     (args-term-requires t)
-    (args-enum-told-2 t)
+    (args-enum-told-3 t)
     (args-returns-4 t)
     (args-enum-known-r t)
     (args-returns-5 t)
@@ -335,7 +335,7 @@ pub +args+term-spec : {M : Type 1} → statement M
     (term-returns-2 t)
     (term-context-requires t)
     (term-enum-told-2 t)
-    (term-enum-known-lo t)
+    (term-enum-told-3 t)
     (term-enum-known-u t)
     (term-add-term t)
     (term-term-requires t)
@@ -343,7 +343,7 @@ pub +args+term-spec : {M : Type 1} → statement M
     (term-returns-4 t)
     (term-returns-5 t)
     (term-head-requires t)
-    (term-enum-told-3 t)
+    (term-enum-told-4 t)
     (term-enum-known-m-2 t)
     (term-add-args t)
     (term-next-requires t)

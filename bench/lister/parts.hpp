@@ -1,0 +1,12 @@
+// The three parts of the measurement. Each prints its table and adds its goals.
+#pragma once
+#include "goals.hpp"
+
+// Q beside `//f` of pugixml and libxml2, and the tree check alone, on 24 documents.
+void measure_q(Goals &goals);
+
+// f(x*, a, y*, b, z*) beside SWI-Prolog and Maude. A command is empty where the program is not on this machine.
+void measure_matchers(Goals &goals, const char *prolog, const char *maude);
+
+// Nanoseconds a try.
+void measure_tries(Goals &goals);

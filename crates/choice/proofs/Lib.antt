@@ -1,0 +1,4 @@
+pub mod Stops
+pub mod Counts
+pub mod Lands
+pub mod Runs
