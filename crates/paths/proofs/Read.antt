@@ -5,7 +5,7 @@ use mathlib.Core.Logic.{_≢_}
 use mathlib.Core.Bool.{Bool}
 use mathlib.Core.List.{List, []}
 use lib.Dec.{eqb}
-use lib.ListN.{length, getD, set, replicate, length-set}
+use lib.ListN.{length, getD, set, replicate, length-set, length-replicate, getD-replicate}
 use lib.Seq.{getD-set-same, getD-set-other}
 use native.Mathlib.Omega.{arith}
 use native.Mathlib.Decide.{decLt}
@@ -20,7 +20,7 @@ use Rattle.paths.proofs.Numbers.{put-row, put-other, places-more, place
 
 -- nothing is remembered yet
 pub blank : (L S name first : List ℕ) (null : List Bool) (cont : List ℕ) (ends : List Bool) (C : List ℕ) → Remembers L S name first null cont ends C (replicate 259 0)
-blank L S name first null cont ends C = record { long = refl; is = λ x e. absurd (omega arith) }
+blank L S name first null cont ends C = record { long = length-replicate {A = ℕ} 259 0; is = λ x e. absurd (omega (arith, getD-replicate {A = ℕ} 259 0 0 0 (omega arith))) }
 
 -- RECALLED
 module _ {S first : List ℕ} {null : List Bool} {root x a b : ℕ} {P : List ℕ} where

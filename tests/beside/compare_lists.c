@@ -1,0 +1,102 @@
+/* The lister beside the list of all records and tries, with every room and budget. */
+#include "calls.h"
+#include "compare.h"
+
+enum {
+    OUT = MOST_RECORDS * 2 * VARIABLES + 64,
+    MOST_PAIRS = 300, /* up to so many pairs of a room and a budget all are compared */
+    MANY = 60,        /* of more rooms or budgets than these not all are */
+    DAMAGED_ROOM = 64
+};
+
+#define UNLIMITED 4294967295u
+
+typedef struct {
+    uint32_t ending;
+    size_t records, tries;
+} answer;
+
+/* The first record without room ends the list, if the budget lasts until it is reached; else a try without budget does. */
+static answer expected(const listing *all, size_t room, uint32_t budget) {
+    if (room < all->records && all->reached[room] <= budget) return (answer){NO_ROOM, room, all->reached[room]};
+    if (budget >= all->tries) return (answer){ALL_OF_THEM, all->records, all->tries};
+    size_t within = 0;
+    while (within < all->records && all->reached[within] <= budget) within++;
+    return (answer){NO_BUDGET, within, budget};
+}
+
+static bool are_records(const uint32_t *out, const listing *all, size_t records, size_t numbers) {
+    for (size_t k = 0; k < records * numbers; k++)
+        if (out[k] != all->record[k / numbers][k % numbers]) return false;
+    return true;
+}
+
+static void compare_list(const problem *problem, const listing *all, size_t length, uint32_t budget, enum comparison what) {
+    static const enum feature ENDING[] = {ENDING_0, ENDING_1, ENDING_2};
+    static uint32_t out[OUT + BEYOND];
+    size_t numbers = 2 * variables(&problem->pattern);
+    answer want = expected(all, numbers == 0 ? all->records : length / numbers, budget);
+    size_t written = want.records * numbers;
+    mark(out, length + BEYOND);
+    khargovsun_listing got = call_list(problem, budget, out, length);
+    compare(what, got.code == ACCEPTED && got.ending == want.ending && got.records == want.records && got.tries == want.tries &&
+                      are_records(out, all, want.records, numbers) && begins_with(out + written, length + BEYOND - written, NULL, 0));
+    count(ENDING[want.ending], 1);
+}
+
+/* The length of a list with this room, and mostly with some numbers more that are too few for another record. */
+static size_t length_of(chance *chance, const problem *problem, size_t room) {
+    size_t numbers = 2 * variables(&problem->pattern);
+    return numbers == 0 ? draw(chance, 4) : room * numbers + draw(chance, numbers);
+}
+
+/* Of many numbers the first and the last ones, and some between. */
+static bool is_skipped(chance *chance, size_t number, size_t last) {
+    return last > MANY && number > MANY / 4 && last - number > MANY / 4 && !one_in(chance, last / (MANY / 2));
+}
+
+static void compare_pairs(chance *chance, const problem *problem, const listing *all) {
+    for (size_t room = 0; room <= all->records + 1; room++)
+        for (size_t budget = 0; budget <= all->tries + 1; budget++)
+            compare_list(problem, all, length_of(chance, problem, room), budget, LIST_BOTH);
+}
+
+/* With each room the budget that just reaches the record without room, and one less. */
+static void compare_borders(chance *chance, const problem *problem, const listing *all) {
+    for (size_t room = 0; room < all->records; room++) {
+        if (is_skipped(chance, room, all->records)) continue;
+        size_t length = length_of(chance, problem, room);
+        compare_list(problem, all, length, all->reached[room], LIST_BOTH);
+        if (all->reached[room] > 0) compare_list(problem, all, length, all->reached[room] - 1, LIST_BOTH);
+    }
+}
+
+void compare_lists(chance *chance, const problem *problem, const listing *all) {
+    compare_list(problem, all, length_of(chance, problem, all->records), all->tries, LIST_ENOUGH);
+    compare_list(problem, all, length_of(chance, problem, all->records + 1), UNLIMITED, LIST_ENOUGH);
+    for (size_t room = 0; room < all->records; room++)
+        if (!is_skipped(chance, room, all->records)) compare_list(problem, all, length_of(chance, problem, room), UNLIMITED, LIST_ROOM);
+    for (size_t budget = 0; budget < all->tries; budget++)
+        if (!is_skipped(chance, budget, all->tries))
+            compare_list(problem, all, length_of(chance, problem, all->records), budget, LIST_BUDGET);
+    if ((all->records + 2) * (all->tries + 2) <= MOST_PAIRS) compare_pairs(chance, problem, all);
+    else compare_borders(chance, problem, all);
+}
+
+static void compare_refused_list(const problem *problem, uint32_t code) {
+    static uint32_t out[DAMAGED_ROOM + BEYOND];
+    mark(out, DAMAGED_ROOM + BEYOND);
+    khargovsun_listing got = call_list(problem, UNLIMITED, out, DAMAGED_ROOM);
+    bool zeros = got.ending == 0 && got.records == 0 && got.tries == 0;
+    compare(DAMAGED_LIST, got.code == code && zeros && begins_with(out, DAMAGED_ROOM + BEYOND, NULL, 0));
+    count_code(code);
+}
+
+void compare_damaged(chance *chance, const problem *problem, const list *record) {
+    static listing all;
+    uint32_t code = code_of_problem(problem);
+    if (code == ACCEPTED) list_all(problem, &all);
+    if (code != ACCEPTED) compare_refused_list(problem, code);
+    else if (!all.too_long) compare_list(problem, &all, DAMAGED_ROOM, UNLIMITED, DAMAGED_LIST);
+    compare_record(chance, problem, code, record, DAMAGED_TEST, DAMAGED_INSTANCE);
+}

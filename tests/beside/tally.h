@@ -1,0 +1,104 @@
+/* What is compared and what is counted, each with the least that there has to be, so that no part of the test can become empty unseen.
+ * A further comparison or feature is one line here. */
+#ifndef TALLY_H
+#define TALLY_H
+
+#include "rules.h"
+
+#define COMPARISONS(X)                                                                      \
+    X(TEST, "tests of a candidate record", 764521)                                          \
+    X(INSTANCE, "instances of a candidate record", 764521)                                  \
+    X(INSTANCE_ROOM, "instances with every room", 20000)                                    \
+    X(LIST_ENOUGH, "lists with room and budget enough", 5000)                               \
+    X(LIST_ROOM, "lists with less room", 2000)                                              \
+    X(LIST_BUDGET, "lists with less budget", 6000)                                          \
+    X(LIST_BOTH, "lists with less of both", 4000)                                           \
+    X(OWN_LIST, "lists of ours by tries and by candidates", 2500)                           \
+    X(DAMAGED_LIST, "lists of a damaged problem", 10000)                                    \
+    X(DAMAGED_TEST, "tests with a damaged problem or record", 10000)                        \
+    X(DAMAGED_INSTANCE, "instances with a damaged problem or record", 10000)                \
+    X(CHECK, "checks of a document", 20000)                                                 \
+    X(READING, "readings of a document", 20000)                                             \
+    X(READ_BACK, "trees written as documents and read back", 2500)                          \
+    X(SPELLING, "spellings", 40000)
+
+#define FEATURES(X)                                                                         \
+    X(PROBLEMS, "problems", 2500)                                                           \
+    X(WITH_SYMBOL, "  have a symbol", 1861)                                                 \
+    X(WITH_INDIVIDUAL, "  have an individual variable", 1103)                               \
+    X(WITH_SEQUENCE, "  have a sequence variable", 774)                                     \
+    X(WITH_FUNCTION, "  have a function variable", 544)                                     \
+    X(WITH_CONTEXT, "  have a context variable", 658)                                       \
+    X(REPEATED, "  have a repeated variable", 656)                                          \
+    X(REPEATED_INDIVIDUAL, "  have a repeated individual variable", 200)                    \
+    X(REPEATED_SEQUENCE, "  have a repeated sequence variable", 200)                        \
+    X(REPEATED_FUNCTION, "  have a repeated function variable", 200)                        \
+    X(REPEATED_CONTEXT, "  have a repeated context variable", 145)                          \
+    X(CONTEXT_UNDER_CONTEXT, "  have a context variable under a context variable", 100)     \
+    X(CONSTRAINED, "  have a constraint", 691)                                              \
+    X(CONSTRAINED_SEQUENCE, "  have one on a sequence variable", 300)                       \
+    X(CONSTRAINED_CONTEXT, "  have one on a context variable", 300)                         \
+    X(WITH_CONCATENATION, "  have one with a concatenation", 200)                           \
+    X(WITH_CHOICE, "  have one with a choice", 207)                                         \
+    X(WITH_EMPTY, "  have one with the empty word's sign", 100)                             \
+    X(NESTED_REPETITION, "  have one with a repetition in a repetition", 110)               \
+    X(EMPTY_INSIDE, "  have one with a repetition whose inside can be empty", 147)          \
+    X(LARGE_EXPRESSION, "  have an expression table of more than 32 rows", 30)           \
+    X(WITH_FLAG_0, "  have one with flag 0", 374)                                           \
+    X(WITH_FLAG_1, "  have one with flag 1", 393)                                           \
+    X(WITH_RECORD, "  have a record", 1007)                                                 \
+    X(WITH_TWO_RECORDS, "  have two or more", 209)                                          \
+    X(REPEATED_AND_RECORD, "  have a record and a repeated variable", 136)                  \
+    X(CONSTRAINED_AND_RECORD, "  have a record and a constraint", 166)                      \
+    X(EXCLUDED_BY_CONSTRAINT, "  have a record that only a constraint excludes", 100)       \
+    X(RECORDS, "records", 1864)                                                             \
+    X(TRIES, "tries", 5878)                                                                 \
+    X(CANDIDATE_YES, "candidate records that are a matcher's", 1864)                        \
+    X(CANDIDATE_BAD, "candidate records that are bad", 256511)                              \
+    X(ENDING_0, "lists that end with 0", 5000)                                              \
+    X(ENDING_1, "lists that end with 1", 2000)                                              \
+    X(ENDING_2, "lists that end with 2", 6000)                                              \
+    X(CODE_1, "refusals 1", 500)                                                            \
+    X(CODE_2, "refusals 2", 5)                                                              \
+    X(CODE_3, "refusals 3", 5000)                                                           \
+    X(CODE_4, "refusals 4", 5)                                                              \
+    X(CODE_5, "refusals 5", 5)                                                              \
+    X(CODE_6, "refusals 6", 2000)                                                           \
+    X(CODE_11, "refusals 11", 1000)                                                         \
+    X(CODE_12, "refusals 12", 1000)                                                         \
+    X(CODE_13, "refusals 13", 500)                                                          \
+    X(CODE_14, "refusals 14", 300)                                                          \
+    X(CODE_15, "refusals 15", 1000)                                                         \
+    X(CODE_16, "refusals 16", 10)                                                           \
+    X(CODE_17, "refusals 17", 5000)
+
+#define FIRST_OF_THREE(name, text, least) name,
+enum comparison { COMPARISONS(FIRST_OF_THREE) COMPARISONS_END };
+enum feature { FEATURES(FIRST_OF_THREE) FEATURES_END };
+#undef FIRST_OF_THREE
+
+/* What stands in every entry of a lent list before a call; no answer has it. */
+enum { BEYOND = 4 };
+#define MARK 4027514880u
+
+void mark(uint32_t *to, size_t n);
+
+/* Does the list begin with these numbers, and is it unchanged behind them? */
+bool begins_with(const uint32_t *got, size_t n, const uint32_t *want, size_t written);
+
+/* What is being compared now, for the first differences, which are printed. */
+void set_case(const char *name, uint32_t number, const problem *problem);
+
+void compare(enum comparison what, bool same);
+
+void count(enum feature feature, size_t number);
+
+void count_code(uint32_t code);
+
+/* Counts what a problem has and what its list is like. */
+void count_features(const problem *problem, size_t records, size_t tries, bool excluded);
+
+/* Prints all counts. 0 if nothing differs and nothing is too seldom, else 1. */
+int report(void);
+
+#endif
