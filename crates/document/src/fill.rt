@@ -47,7 +47,7 @@ fn label_rows(
 pub fn fill(
     dictionary: &[u8],
     document: &[u8],
-    class: &[u8; 128],
+    class: &[u8; 512],
     names: usize,
     index: &mut [u16],
     label: &mut [u32],

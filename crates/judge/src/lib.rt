@@ -14,8 +14,8 @@ use class::byte_at;
 use class::table;
 use tags::Tag;
 use tags::next_tag;
+use tokens::long_white_end;
 use tokens::text_end;
-use tokens::white_end;
 
 // Where a run ends, and how many rows it makes: none if it is white space only, else one.
 pub struct Run {
@@ -23,11 +23,11 @@ pub struct Run {
     pub rows: usize,
 }
 
-pub fn run_end(document: &[u8], class: &[u8; 128], depth: usize, start: usize) -> Run
+pub fn run_end(document: &[u8], class: &[u8; 512], depth: usize, start: usize) -> Run
     requires { ⌜ Classed (now class) × (start ≤ length (now document)) ⌝ }
     ensures { λ r. ⌜ RunTo (now (document .entry)) depth start (r .end) (r .rows) ⌝ }
 {
-    let white = white_end(document, class, start);
+    let white = long_white_end(document, class, start);
     if depth == 0 {
         return Run {
             end: white,
@@ -115,7 +115,7 @@ fn last(length: usize, at: usize, depth: usize, rows: usize, deep: usize) -> Jud
 
 // The pass. `name` is where the innermost open element's name starts, `names` has those of the elements around it.
 // An open element has three bytes or more, so 32,768 bytes have room for 10,922 of them.
-fn pass(document: &[u8], class: &[u8; 128]) -> Judged
+fn pass(document: &[u8], class: &[u8; 512]) -> Judged
     requires { ⌜ Classed (now class) × (length (now document) ≤ 32768) ⌝ }
     ensures { λ r. ⌜ Verdict (now (document .entry)) (r .code) (r .place) (r .rows) ⌝ }
 {

@@ -18,7 +18,7 @@ pub enum Tag {
 }
 
 // The tag whose `<` stands before `at`.
-fn start_tag(document: &[u8], class: &[u8; 128], at: usize) -> Tag
+fn start_tag(document: &[u8], class: &[u8; 512], at: usize) -> Tag
     requires { ⌜ Classed (now class) × (at ≤ length (now document)) ⌝ }
     ensures { λ r. ⌜ Started (now (document .entry)) at r ⌝ }
 {
@@ -41,7 +41,7 @@ fn start_tag(document: &[u8], class: &[u8; 128], at: usize) -> Tag
 }
 
 // The end tag whose `</` stands before `at`; the innermost open element's name starts at `name`.
-fn end_tag(document: &[u8], class: &[u8; 128], name: usize, at: usize) -> Tag
+fn end_tag(document: &[u8], class: &[u8; 512], name: usize, at: usize) -> Tag
     requires { ⌜ Classed (now class) × (at ≤ length (now document)) × (name < 65536) ⌝ }
     ensures { λ r. ⌜ Ended (now (document .entry)) name at r ⌝ }
 {
@@ -60,7 +60,7 @@ fn end_tag(document: &[u8], class: &[u8; 128], name: usize, at: usize) -> Tag
 // The tag whose `<` stands at `at`, in `depth` open elements and behind `rows` rows.
 pub fn next_tag(
     document: &[u8],
-    class: &[u8; 128],
+    class: &[u8; 512],
     name: usize,
     depth: usize,
     rows: usize,

@@ -46,7 +46,7 @@ fn put_leaf(
 
 pub fn mark(
     document: &[u8],
-    class: &[u8; 128],
+    class: &[u8; 512],
     depths: &mut [u32],
     starts: &mut [u32],
     lengths: &mut [u32],

@@ -14,7 +14,7 @@ pub struct Start {
     pub opens: usize,
 }
 
-pub fn start_tag(document: &[u8], class: &[u8; 128], at: usize) -> Start
+pub fn start_tag(document: &[u8], class: &[u8; 512], at: usize) -> Start
     requires { ⌜ Classed (now class) × (at < length (now document)) ⌝ }
     ensures { λ r. ⌜ StartsTo (now (document .entry)) at (r .end) (r .next) (r .opens) ⌝ }
 {
