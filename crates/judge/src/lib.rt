@@ -60,7 +60,7 @@ pub struct Judged {
     pub rows: u32,
 }
 
-fn outside(place: usize) -> Judged
+pub fn outside(place: usize) -> Judged
     requires { ⌜ place ≤ 32768 ⌝ }
     ensures { λ r. ⌜ (r .code ≡ 3) × (r .place ≡ place) × (r .rows ≡ 0) ⌝ }
 {
@@ -136,7 +136,7 @@ fn pass(document: &[u8], class: &[u8; 512]) -> Judged
         }
         match next_tag(document, class, name, depth, rows, at) {
             Tag::Refused(place) => return outside(place),
-            Tag::Opens(next) => {
+            Tag::Opens(_, next) => {
                 names[depth] = name as u16;
                 name = at + 1;
                 depth = depth + 1;
@@ -144,7 +144,7 @@ fn pass(document: &[u8], class: &[u8; 512]) -> Judged
                 deep = larger(deep, depth);
                 i = next;
             }
-            Tag::Empty(next) => {
+            Tag::Empty(_, next) => {
                 rows = rows + 1;
                 deep = larger(deep, depth + 1);
                 i = next;
