@@ -74,6 +74,6 @@ pub fn learn_names(dictionary: &[u8], index: &mut [u16]) -> Checked
 pub fn check(dictionary: &[u8]) -> Checked
     ensures { λ r. ⌜ DictionaryChecked (now (dictionary .entry)) (r .good) (r .names) ⌝ }
 {
-    let mut index = [0u16; 4096];
+    let mut index = [0u16; 5120];
     learn_names(dictionary, &mut index)
 }

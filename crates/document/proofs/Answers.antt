@@ -107,7 +107,7 @@ pub accepted-verdict : {w S L Z : List ℕ} {n c p m : ℕ} → length w ≤ 327
 accepted-verdict short h e = rw (e .0, e .1, e .2) (noted-verdict short h)
 
 module _ {d w old index : List ℕ} (label size start width : List ℕ) {good : Bool} {k : ℕ} (learnt : NamesLearnt d good k old index) (is-true : good ≡ true)
-    (large : 10240 ≤ length old) (short : length w ≤ 32768) {S L Z : List ℕ} {n : ℕ} (noted : RowsNoted w S L Z n)
+    (large : 11264 ≤ length old) (short : length w ≤ 32768) {S L Z : List ℕ} {n : ℕ} (noted : RowsNoted w S L Z n)
     (room : (n ≤ length label) × (n ≤ length size) × (n ≤ length start) × (n ≤ length width)) where
   names : List (List ℕ)
   names = is-good (learnt .checked) is-true .0

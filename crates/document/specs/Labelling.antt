@@ -18,7 +18,7 @@ pub record MayLabelRows (d w : List ℕ) (names : ℕ) (index label start width 
   pub indexed : Indexed d w names index known
   pub counted : length known ≡ names
   pub few-names : names ≤ 1024
-  pub large : 10240 ≤ length index
+  pub large : 11264 ≤ length index
   pub short : length w ≤ 32768
   pub few-rows : rows ≤ 2048
   pub room-label : rows ≤ length label

@@ -69,7 +69,7 @@ pub fn read(
 ) -> Judged
     ensures { λ r. ⌜ Read (now (dictionary .entry)) (now (document .entry)) (now (label .entry)) (now (size .entry)) (now (start .entry)) (now (length .entry)) (now (label .exit)) (now (size .exit)) (now (start .exit)) (now (length .exit)) (r .code) (r .place) (r .rows) ⌝ }
 {
-    let mut index = [0u16; 10240];
+    let mut index = [0u16; 11264];
     let checked = dictionary::learn_names(dictionary, &mut index);
     let good = checked.good;
     let names = checked.names;

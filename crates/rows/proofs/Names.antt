@@ -31,7 +31,7 @@ empty-run {w} depth a h e =
     ends l s true q = absurd (true≢false (sym (eq-eqb (getD w a 0) 60 e) ∙ not-less l s (getD w a 0) q))
     ends l s false q = refl
 
-module _ {w : List ℕ} {name size a : ℕ} (named : Span (nameAt w) w name (name + size)) (again : Again w name a size) where
+module _ {w : List ℕ} {name size a : ℕ} (named : Span (nameAt w) w name (name + size)) (in-w : a + size ≤ length w) (again : Again w name w a size) where
   name-stops : nameByte (getD w (name + size) 0) ≡ false
   unfolding nameByte classOf
   name-stops = go (ltb (name + size) (length w)) refl
@@ -45,7 +45,7 @@ module _ {w : List ℕ} {name size a : ℕ} (named : Span (nameAt w) w name (nam
 
   pub name-again : Span (sameAt w name a) w a (a + size)
   name-again = record {
-    passed = record { from = omega arith; within = again .within; each = λ k p q. each k p q };
+    passed = record { from = omega arith; within = in-w; each = λ k p q. each k p q };
     stop = λ p. same-ended w name a (a + size) (name + (a + size - a)) _ refl refl name-whole;
   }
     where

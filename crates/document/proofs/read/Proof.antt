@@ -13,7 +13,7 @@ slice-aggregate-learn-names : tie.Need-slice-aggregate-learn-names
 slice-aggregate-learn-names c = search needs
 
 learn-names-requires : tie.Need-learn-names-requires
-learn-names-requires c κs = record { large = omega (arith, length-replicate {A = ℕ} 10240 0); clear = λ h p. getD-replicate {A = ℕ} 10240 h 0 0 (omega arith) }
+learn-names-requires c κs = record { large = omega (arith, length-replicate {A = ℕ} 11264 0); clear = λ h p. getD-replicate {A = ℕ} 11264 h 0 0 (omega arith) }
 
 refusal-requires : tie.Need-refusal-requires
 refusal-requires c κs = search needs
@@ -108,7 +108,7 @@ label-rows-requires c κs =
     let c₂₉ = c₂₈ .before in
     let c₃₁ = c₂₉ .before .before in
     let c₃₉ = c₃₁ .before .before .before .before .before .before .before .before in
-    may-label-rows _ (c₃₉ .args .size .now) _ _ (c₃₁ .learn-names .ensures) (not-false _ (c₂₉ .if1 .left)) (omega (arith, length-replicate {A = ℕ} 10240 0)) (c₂₈ .if2 .left) (rw (c₂₂ .rows .given .1) at (c₂₄ .note .ensures)) (c₂₀ .fits2 .ensures .0 (not-false _ (c₁₉ .if3 .left))) (c₁₆ .copy .ensures) (c₁₁ .copy2 .ensures)
+    may-label-rows _ (c₃₉ .args .size .now) _ _ (c₃₁ .learn-names .ensures) (not-false _ (c₂₉ .if1 .left)) (omega (arith, length-replicate {A = ℕ} 11264 0)) (c₂₈ .if2 .left) (rw (c₂₂ .rows .given .1) at (c₂₄ .note .ensures)) (c₂₀ .fits2 .ensures .0 (not-false _ (c₁₉ .if3 .left))) (c₁₆ .copy .ensures) (c₁₁ .copy2 .ensures)
 
 accepted-requires : tie.Need-accepted-requires
 accepted-requires c κs =
@@ -157,7 +157,7 @@ returns-6 c =
     let c₃₃ = c₂₉ .before .before .before .before in
     let c₃₄ = c₃₃ .before in
     let c₃₆ = c₃₄ .before .before in
-    answers-read _ _ _ _ (c₃₆ .learn-names .ensures) (not-false _ (c₃₄ .if1 .left)) (omega (arith, length-replicate {A = ℕ} 10240 0)) (c₃₃ .if2 .left) (rw (c₂₇ .rows .given .1) at (c₂₉ .note .ensures)) (c₂₅ .fits2 .ensures .0 (not-false _ (c₂₄ .if3 .left))) (c₂₁ .copy .ensures) (c₁₆ .copy2 .ensures) (c₁₁ .copy3 .ensures) (c₄ .label-rows .ensures) (c .accepted .ensures)
+    answers-read _ _ _ _ (c₃₆ .learn-names .ensures) (not-false _ (c₃₄ .if1 .left)) (omega (arith, length-replicate {A = ℕ} 11264 0)) (c₃₃ .if2 .left) (rw (c₂₇ .rows .given .1) at (c₂₉ .note .ensures)) (c₂₅ .fits2 .ensures .0 (not-false _ (c₂₄ .if3 .left))) (c₂₁ .copy .ensures) (c₁₆ .copy2 .ensures) (c₁₁ .copy3 .ensures) (c₄ .label-rows .ensures) (c .accepted .ensures)
 
 pub read-spec : {M : Type 1} → statement M
 read-spec =

@@ -1,8 +1,6 @@
-use mathlib.Core.Path.{sym}
-use mathlib.Core.Bool.{true≢false}
+use Prim.Native.Nat.{_+_}
 use native.Mathlib.Omega.{arith}
-use borrow.Author.Tests.{eqb-true}
-use Rattle.words.proofs.Bytes.{again-word, again-all}
+use Rattle.words.proofs.Bytes.{again-word, says-front, says-last}
 use borrow.Author.Needs.{needs}
 use Rattle.words.proofs.same_halves.Statement.{statement}
 use Rattle.words.proofs.same_halves.Tie as tie
@@ -14,7 +12,12 @@ half-requires-2 : tie.Need-half-requires-2
 half-requires-2 c κs = search needs
 
 returns : tie.Need-returns
-returns c = λ e. absurd (true≢false (sym e))
+returns c =
+    let c₂ = c .before .before in
+    let c₃ = c₂ .before in
+    let c₄ = c₃ .before in
+    let c₅ = c₄ .before in
+    says-front (λ k. c₄ .shared-slice-known .given k .fits) (λ k. c₃ .shared-slice-known2 .given k .fits) 4 (c₅ .pre .0) (c₂ .half .ensures .0) (c .before .half2 .ensures .0) (c .if1 .taken)
 
 sub-rest : tie.Need-sub-rest
 sub-rest c = search needs
@@ -37,8 +40,9 @@ returns-2 c =
     let c₃ = c₂ .before in
     let c₄ = c₃ .before in
     let c₅ = c₄ .before in
-    λ e. again-all 4 (again-word _ (λ k. c₅ .shared-slice-known .given k .fits) 4 _ _ _ _ (c₄ .half .ensures .0) (c₃ .half2 .ensures .0) (c₂ .if1 .left)) (omega (arith, c₅ .before .pre .1)) (c₅ .before .pre .0)
-    (again-word _ (λ k. c₅ .shared-slice-known .given k .fits) 4 _ _ _ _ (c .before .half3 .ensures .0) (c .half4 .ensures .0) (eqb-true _ _ e)) (c₅ .before .pre .3)
+    let c₆ = c₅ .before in
+    let c₇ = c₆ .before in
+    says-last (λ k. c₆ .shared-slice-known .given k .fits) (λ k. c₅ .shared-slice-known2 .given k .fits) 4 (again-word (λ k. c₆ .shared-slice-known .given k .fits) (λ k. c₅ .shared-slice-known2 .given k .fits) 4 _ _ _ _ (c₄ .half .ensures .0) (c₃ .half2 .ensures .0) (c₂ .if1 .left)) (omega (arith, c₇ .pre .1)) (c₇ .pre .0) (c .before .half3 .ensures .0) (c .half4 .ensures .0)
 
 pub same-halves-spec : {M : Type 1} → statement M
 same-halves-spec =

@@ -1,6 +1,8 @@
 use mathlib.Core.Path.{sym, _∙_}
 use native.Mathlib.Omega.{arith}
 use borrow.Author.Tests.{not-false}
+use Prim.Native.Nat.{_+_, _≤_}
+use lib.ListN.{length}
 use Rattle.words.specs.Words.{Again}
 use Rattle.judge.proofs.Turns.{end-closes, end-other}
 use Rattle.rows.proofs.Names.{name-again, name-whole}
@@ -9,7 +11,9 @@ use Rattle.rows.proofs.tags.end_tag.Statement.{statement}
 use Rattle.rows.proofs.tags.end_tag.Tie as tie
 
 -- the name stands again
-stood : (c : tie.Else1) → Again (c .before .before .before .args .document .now) (c .before .before .before .args .name) (c .before .before .before .args .at) (c .before .before .before .args .length)
+stood : (c : tie.Else1) →
+    (c .before .before .before .args .at + c .before .before .before .args .length ≤ length (c .before .before .before .args .document .now))
+    × Again (c .before .before .before .args .document .now) (c .before .before .before .args .name) (c .before .before .before .args .document .now) (c .before .before .before .args .at) (c .before .before .before .args .length)
 stood c = c .before .stands-again .ensures (not-false _ (c .if1 .left))
 
 stands-again-requires : tie.Need-stands-again-requires
@@ -22,10 +26,10 @@ returns : tie.Need-returns
 returns c = search needs
 
 add-white-end : tie.Need-add-white-end
-add-white-end c = omega (arith, stood c .within)
+add-white-end c = omega (arith, stood c .0)
 
 white-end-requires : tie.Need-white-end-requires
-white-end-requires c κs = (c .before .before .before .pre .0, stood c .within)
+white-end-requires c κs = (c .before .before .before .pre .0, stood c .0)
 
 byte-at-requires : tie.Need-byte-at-requires
 byte-at-requires c κs = search needs
@@ -38,14 +42,14 @@ returns-2 c =
     let c₂ = c .before .before in
     let c₃ = c₂ .before in
     let c₆ = c₃ .before .before .before in
-    end-closes (name-again (c₆ .pre .3) (stood c₃)) (name-whole (c₆ .pre .3) (stood c₃)) (c₂ .white-end .ensures) (sym (c .before .byte-at .ensures) ∙ c .if2 .taken)
+    end-closes (name-again (c₆ .pre .3) (stood c₃ .0) (stood c₃ .1)) (name-whole (c₆ .pre .3) (stood c₃ .0) (stood c₃ .1)) (c₂ .white-end .ensures) (sym (c .before .byte-at .ensures) ∙ c .if2 .taken)
 
 returns-3 : tie.Need-returns-3
 returns-3 c =
     let c₂ = c .before .before in
     let c₃ = c₂ .before in
     let c₆ = c₃ .before .before .before in
-    end-other (name-again (c₆ .pre .3) (stood c₃)) (name-whole (c₆ .pre .3) (stood c₃)) (c₂ .white-end .ensures) (λ e. c .if2 .left (c .before .byte-at .ensures ∙ e))
+    end-other (name-again (c₆ .pre .3) (stood c₃ .0) (stood c₃ .1)) (name-whole (c₆ .pre .3) (stood c₃ .0) (stood c₃ .1)) (c₂ .white-end .ensures) (λ e. c .if2 .left (c .before .byte-at .ensures ∙ e))
 
 pub end-tag-spec : {M : Type 1} → statement M
 end-tag-spec =
