@@ -17,7 +17,7 @@ use Rattle.judge.specs.declared.tags.Tag.{Tag}
 use Rattle.judge.specs.declared.tags.Tag.the-variants.{Refused, Opens, Empty, Closes}
 use Rattle.judge.specs.Tokens.{Passed, Span, bytes, whiteAt, nameAt, levelOf, runAt, textAt, sameAt}
 use Rattle.judge.specs.Tags.{RunTo, Named, closed, Does, Ends, Started, Ended, Top, Tagging, Tagged}
-use Rattle.judge.proofs.Spans.{text-yes, name-yes}
+use Rattle.judge.proofs.Spans.{text-yes, name-yes, text-at-not}
 use Rattle.judge.proofs.Machine.{at-byte, at-same, there, refuse, start-refused, opens, empties, slash-refused, space-refused, end-refused, closes, close-refused}
 
 -- A RUN
@@ -83,6 +83,14 @@ module _ {w : List ℕ} {depth a m r : ℕ} (d : depth ≡ 0 → ⊥) (h : Span 
   inner-space p =
       let e : inked (bytes w a (r - a)) ≡ false = unmarked w a (r - a) (λ j q. h .passed .each (a + j) (omega arith) (omega (arith, k .passed .from))) in
       record { span = rw (← (inner-level depth d)) k; makes = simp e; outside = λ q. refl; few = omega arith }
+
+-- white space up to a tag
+pub white-only : {w : List ℕ} (depth a : ℕ) {m : ℕ} → Span (whiteAt w) w a m → getD w m 0 ≡ 60 → RunTo w depth a m 0
+unfolding classOf
+white-only zero a h e = outer-run refl h
+white-only {w} (suc n) a {m} h e =
+    inner-space (λ q. omega (arith, q)) h
+    (record { passed = white-text (h .passed); stop = λ p. text-at-not w a m (classOf (getD w m 0)) refl (ap classOf e) }) (omega arith)
 
 -- A START TAG
 pub name-there : (w : List ℕ) (a : ℕ) → nameStart (getD w a 0) ≡ true → a < length w

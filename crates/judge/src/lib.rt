@@ -14,8 +14,8 @@ use class::byte_at;
 use class::table;
 use tags::Tag;
 use tags::next_tag;
-use tokens::long_white_end;
 use tokens::text_end;
+use tokens::white_end;
 
 // Where a run ends, and how many rows it makes: none if it is white space only, else one.
 pub struct Run {
@@ -23,11 +23,12 @@ pub struct Run {
     pub rows: usize,
 }
 
+// Byte by byte: the judge is asked only of documents beyond the limits, and what is called once is put in line.
 pub fn run_end(document: &[u8], class: &[u8; 512], depth: usize, start: usize) -> Run
     requires { ⌜ Classed (now class) × (start ≤ length (now document)) ⌝ }
     ensures { λ r. ⌜ RunTo (now (document .entry)) depth start (r .end) (r .rows) ⌝ }
 {
-    let white = long_white_end(document, class, start);
+    let white = white_end(document, class, start);
     if depth == 0 {
         return Run {
             end: white,

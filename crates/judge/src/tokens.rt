@@ -177,6 +177,21 @@ pub fn text_end(document: &[u8], class: &[u8; 512], start: usize, from: usize) -
         if !text_at(document, class, start, i) {
             return i;
         }
+        i += 1;
+    }
+    i
+}
+
+// The same where a text is likely to follow.
+pub fn long_text_end(document: &[u8], class: &[u8; 512], start: usize, from: usize) -> usize
+    requires { ⌜ Classed (now class) × Passed (textAt (now document) start) (now document) start from ⌝ }
+    ensures { λ r. ⌜ Span (textAt (now (document .entry)) start) (now (document .entry)) start r ⌝ }
+{
+    let mut i = plain_end(document, class, from);
+    while i < document.len() {
+        if !text_at(document, class, start, i) {
+            return i;
+        }
         i = plain_end(document, class, i + 1);
     }
     i

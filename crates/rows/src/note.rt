@@ -9,8 +9,9 @@ use super::tags::next_tag;
 use judge::Run;
 use judge::class::byte_at;
 use judge::class::table;
-use judge::run_end;
 use judge::tags::Tag;
+use judge::tokens::long_text_end;
+use judge::tokens::long_white_end;
 
 // So many rows are noted; or the place of code 3; or a document, if it is one, that is too deep or has too many rows.
 pub enum Noted {
@@ -32,7 +33,7 @@ fn number(list: &[u16; 2052], i: usize) -> usize
     wide(list[i])
 }
 
-// The run that starts at `start`; most are empty.
+// The run that starts at `start`: most are empty or white space only.
 fn run(document: &[u8], class: &[u8; 512], depth: usize, start: usize) -> Run
     requires { ⌜ Classed (now class) × (start ≤ length (now document)) ⌝ }
     ensures { λ r. ⌜ RunTo (now (document .entry)) depth start (r .end) (r .rows) ⌝ }
@@ -43,7 +44,24 @@ fn run(document: &[u8], class: &[u8; 512], depth: usize, start: usize) -> Run
             rows: 0,
         };
     }
-    run_end(document, class, depth, start)
+    let white = long_white_end(document, class, start);
+    if byte_at(document, white) == 60 {
+        return Run {
+            end: white,
+            rows: 0,
+        };
+    }
+    if depth == 0 {
+        return Run {
+            end: white,
+            rows: 0,
+        };
+    }
+    let end = long_text_end(document, class, start, white);
+    if white < end {
+        return Run { end: end, rows: 1 };
+    }
+    Run { end: end, rows: 0 }
 }
 
 fn put(

@@ -1,10 +1,9 @@
 use Prim.Native.Nat.{_-_}
 use mathlib.Core.Path.{sym, _∙_}
-use native.Mathlib.Omega.{arith}
 use lib.ListN.{length}
 use borrow.Author.Tests.{not-true, not-false}
 use Rattle.judge.specs.Tokens.{Passed, textAt}
-use Rattle.judge.proofs.Spans.{passed-more, passed-then, plain-text, stops, at-end}
+use Rattle.judge.proofs.Spans.{passed-more, stops, at-end}
 use borrow.Author.Needs.{needs}
 use Rattle.judge.proofs.tokens.text_end.Statement.{statement}
 use Rattle.judge.proofs.tokens.text_end.Tie as tie
@@ -24,22 +23,14 @@ text-at-requires c κs = (c .before .before .before .pre .0, c .before .loop .in
 returns : tie.Need-returns Inv-loop μ-loop
 returns c = stops (c .before .before .before .loop .inv) (sym (c .before .text-at .ensures) ∙ not-true _ (c .if1 .taken))
 
-add-plain-end : tie.Need-add-plain-end Inv-loop μ-loop
-add-plain-end c = search needs
-
-plain-end-requires : tie.Need-plain-end-requires Inv-loop μ-loop
-plain-end-requires c κs = (c .before .before .before .before .before .pre .0, omega (arith, c .before .before .loop-test .taken))
+add-i : tie.Need-add-i Inv-loop μ-loop
+add-i c = search needs
 
 loop-less : tie.Need-loop-less Inv-loop μ-loop
-loop-less c = omega (arith, c .plain-end .ensures .from, c .before .before .before .loop-test .taken)
+loop-less c = search needs
 
 loop-again : tie.Need-loop-again Inv-loop μ-loop
-loop-again c =
-    let c₂ = c .before .before in
-    let c₃ = c₂ .before in
-    let c₄ = c₃ .before in
-    let c₆ = c₄ .before .before in
-    passed-then (passed-more (c₄ .loop .inv) (c₃ .loop-test .taken) (sym (c₂ .text-at .ensures) ∙ not-false _ (c .before .if1 .left))) (c .plain-end .ensures) (plain-text (c₆ .args .document .now) (c₆ .args .start))
+loop-again c = passed-more (c .before .before .before .loop .inv) (c .before .before .loop-test .taken) (sym (c .before .text-at .ensures) ∙ not-false _ (c .if1 .left))
 
 returns-2 : tie.Need-returns-2 Inv-loop μ-loop
 returns-2 c = at-end (c .before .loop .inv) (c .loop-test .left)
@@ -53,8 +44,7 @@ text-end-spec =
     loop-holds
     text-at-requires
     returns
-    add-plain-end
-    plain-end-requires
+    add-i
     loop-less
     loop-again
     returns-2)
