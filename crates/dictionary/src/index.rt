@@ -10,6 +10,7 @@ ghost use Rattle.dictionary.specs.Labels.{placeOf};
 ghost use Rattle.dictionary.specs.Index.{bucketOf, MayLabel, Labelled, inserted};
 use words::hash;
 use words::same;
+use words::same_bytes;
 
 fn wide(x: u16) -> usize
     ensures { λ r. ⌜ r ≡ x ⌝ }
@@ -117,6 +118,64 @@ pub fn label(
         start,
         end,
     );
+    if place < count {
+        return place;
+    }
+    insert(index, count, bucket, start, end);
+    count
+}
+
+// Is the name at `place` that from `start` to `end`?
+fn is_name(
+    dictionary: &[u8],
+    index: &[u16],
+    count: usize,
+    place: usize,
+    start: usize,
+    end: usize,
+) -> bool
+    requires { ⌜ ((known : List (List ℕ)) × MayLabel (now dictionary) (now dictionary) 0 (now index) count start end known) × (place < count) ⌝ }
+    ensures { λ r. ⌜ ((known : List (List ℕ)) → MayLabel (now (dictionary .entry)) (now (dictionary .entry)) 0 (now (index .entry)) count start end known → Says r (getD known place [] ≡ range (now (dictionary .entry)) start end)) ⌝ }
+{
+    let at = number(index, 2048 + 3 * place);
+    let to = number(index, 2049 + 3 * place);
+    if to - at != end - start {
+        return false;
+    }
+    same_bytes(dictionary, at, dictionary, start, end - start)
+}
+
+// The place of the name from `start` to `end` among those before it, or `count`.
+fn seek_name(
+    dictionary: &[u8],
+    index: &[u16],
+    count: usize,
+    bucket: usize,
+    start: usize,
+    end: usize,
+) -> usize
+    requires { ⌜ ((known : List (List ℕ)) × MayLabel (now dictionary) (now dictionary) 0 (now index) count start end known) × (bucket ≡ bucketOf (range (now dictionary) start end)) ⌝ }
+    ensures { λ r. ⌜ ((known : List (List ℕ)) → MayLabel (now (dictionary .entry)) (now (dictionary .entry)) 0 (now (index .entry)) count start end known → r ≡ placeOf known (range (now (dictionary .entry)) start end)) ⌝ }
+{
+    let mut next = number(index, bucket);
+    while 0 < next {
+        let place = next - 1;
+        if is_name(dictionary, index, count, place, start, end) {
+            return place;
+        }
+        next = number(index, 2050 + 3 * place);
+    }
+    count
+}
+
+// `label` for the dictionary's own names, none of which is known from elsewhere. It is apart since `label` is then called in one place
+// only, that of the rows, where the compiler puts it in line.
+pub fn learn(dictionary: &[u8], index: &mut [u16], count: usize, start: usize, end: usize) -> usize
+    requires { ⌜ ((known : List (List ℕ)) × MayLabel (now dictionary) (now dictionary) 0 (now index) count start end known) ⌝ }
+    ensures { λ r. ⌜ ((known : List (List ℕ)) → MayLabel (now (dictionary .entry)) (now (dictionary .entry)) 0 (now (index .entry)) count start end known → Labelled (now (dictionary .entry)) (now (dictionary .entry)) 0 (now (index .entry)) (now (index .exit)) known (range (now (dictionary .entry)) start end) r) ⌝ }
+{
+    let bucket = bucket_of(dictionary, start, end);
+    let place = seek_name(dictionary, index, count, bucket, start, end);
     if place < count {
         return place;
     }

@@ -57,7 +57,7 @@ pub fn learn_names(dictionary: &[u8], index: &mut [u16]) -> Checked
         if 1023 < names {
             return BAD;
         }
-        let label = index::label(dictionary, dictionary, 0, index, names, start, end);
+        let label = index::learn(dictionary, index, names, start, end);
         if label < names {
             return BAD;
         }

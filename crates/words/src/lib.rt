@@ -32,7 +32,8 @@ pub fn word(text: &[u8], i: usize) -> u64
     half(text, i) + 4294967296 * half(text, i + 4)
 }
 
-fn same_bytes(left: &[u8], at: usize, right: &[u8], from: usize, length: usize) -> bool
+// The same byte by byte.
+pub fn same_bytes(left: &[u8], at: usize, right: &[u8], from: usize, length: usize) -> bool
     requires { ⌜ (at + length ≤ lib.ListN.length (now left)) × (from + length ≤ lib.ListN.length (now right)) ⌝ }
     ensures { λ r. ⌜ Says r (Again (now (left .entry)) at (now (right .entry)) from length) ⌝ }
 {
