@@ -1,4 +1,5 @@
-// Times khargovsun_check beside expat, in one process, on generated documents of about 26 kB. README.md says what is measured.
+// Times khargovsun_check and khargovsun_read beside expat, pugixml and rapidxml, in one process, on generated documents. README.md says
+// what is measured.
 #include <expat.h>
 #include <stdarg.h>
 #include <stdint.h>
@@ -9,7 +10,16 @@
 
 #include "../include/khargovsun.h"
 
-enum { TARGET = 26000, LIMIT = 32768, DEEPEST = 60, ROUNDS = 20, TURNS = 21 };
+enum { TARGET = 26000, LIMIT = 32768, ROWS = 2048, DEEPEST = 60, ROUNDS = 20, TURNS = 21 };
+
+// Who reads. What is not on the machine is left out.
+enum { CHECK, READ, EXPAT, PUGIXML, RAPIDXML, SIDES };
+
+static const char *const SIDE[] = {"check", "read", "expat", "pugixml", "rapidxml"};
+
+// peers.cc: 1 accepted, 0 refused, -1 not on this machine
+int peers_pugixml(const char *bytes, size_t length);
+int peers_rapidxml(const char *bytes, size_t length);
 
 // The names that a site with blocks would know. The check looks at them in every call, so they are part of its time.
 static const char DICTIONARY[] =
@@ -31,9 +41,10 @@ struct doc {
     int depth;
     struct { size_t at; int length; } open[64]; // where the names of the open elements stand
     char bytes[LIMIT];
+    size_t target;
     uint32_t rows;
-    double check_turns[TURNS], expat_turns[TURNS]; // seconds of each turn of this round
-    double check, expat;                           // seconds of the best round so far
+    double turns[SIDES][TURNS]; // seconds of each turn of this round
+    double best[SIDES];         // seconds of the best round so far
 };
 
 // A fixed generator and fixed seeds: every machine measures the same documents.
@@ -44,7 +55,7 @@ static unsigned any(struct doc *d, unsigned below) {
     return d->random % below;
 }
 
-static int more(const struct doc *d) { return d->length < TARGET; }
+static int more(const struct doc *d) { return d->length < d->target; }
 
 __attribute__((format(printf, 2, 3)))
 static void put(struct doc *d, const char *format, ...) {
@@ -344,6 +355,13 @@ static void drawn(struct doc *d) {
     close_all(d);
 }
 
+// As many rows as a document may have, each with a name of its own: every label is new.
+static void all_names(struct doc *d) {
+    open_tag(d, "names");
+    for (int k = 1; k < ROWS; k++) put(d, "<n%05d/>", k * 7919 % 100000);
+    close_all(d);
+}
+
 static const struct { const char *name; void (*write)(struct doc *); } SHAPES[] = {
     {"flat, short text", flat_short_text}, {"flat, medium text", flat_medium_text},
     {"long text", long_text}, {"one text", one_text},
@@ -360,12 +378,21 @@ static const struct { const char *name; void (*write)(struct doc *); } SHAPES[] 
     {"drawn at random", drawn},
 };
 
-enum { DOCS = sizeof SHAPES / sizeof *SHAPES };
+enum { SHAPED = sizeof SHAPES / sizeof *SHAPES, SIZES = 4, DOCS = SHAPED + 1 + SIZES };
 
-// ---- The two sides ----
+// The block project at these sizes: does the time of a byte grow with the document?
+static const size_t SIZE[SIZES] = {1000, 4000, 16000, 32000};
+
+// ---- The sides ----
 
 static uint64_t check(const struct doc *d) {
     return khargovsun_check((const uint8_t *)DICTIONARY, sizeof DICTIONARY - 1, (const uint8_t *)d->bytes, d->length);
+}
+
+static khargovsun_reading read_rows(const struct doc *d) {
+    static uint32_t label[ROWS], size[ROWS], start[ROWS], length[ROWS];
+    return khargovsun_read((const uint8_t *)DICTIONARY, sizeof DICTIONARY - 1, (const uint8_t *)d->bytes, d->length,
+                           label, ROWS, size, ROWS, start, ROWS, length, ROWS);
 }
 
 struct count { size_t starts, ends, bytes, rows; int in_row; };
@@ -399,7 +426,7 @@ static int parse(XML_Parser parser, const struct doc *d) {
     return XML_Parse(parser, d->bytes, (int)d->length, 1) == XML_STATUS_OK;
 }
 
-// ---- Do both accept, and do they see the same rows? Not timed. ----
+// ---- Do all accept, and do expat and the two of ours see the same rows? Not timed. ----
 
 static void row_start(void *to, const XML_Char *name, const XML_Char **attributes) {
     on_start(to, name, attributes);
@@ -425,15 +452,19 @@ static void row_text(void *to, const XML_Char *text, int length) {
 static void agree(XML_Parser parser, struct doc *d) {
     struct count count;
     uint64_t answer = check(d);
+    khargovsun_reading reading = read_rows(d);
     if (answer >> 32 != 0) {
         fprintf(stderr, "bench: code %u, place %u\n", (unsigned)(answer >> 32), (unsigned)answer);
         fail(d->name, "the check does not answer code 0");
     }
+    if (reading.code != 0 || reading.rows != (uint32_t)answer) fail(d->name, "read and check differ");
     reset(parser, &count);
     XML_SetElementHandler(parser, row_start, row_end);
     XML_SetCharacterDataHandler(parser, row_text);
     if (!parse(parser, d)) fail(d->name, XML_ErrorString(XML_GetErrorCode(parser)));
-    if (count.rows != (uint32_t)answer) fail(d->name, "the two count different rows");
+    if (count.rows != (uint32_t)answer) fail(d->name, "expat counts other rows");
+    if (peers_pugixml(d->bytes, d->length) == 0) fail(d->name, "pugixml refuses it");
+    if (peers_rapidxml(d->bytes, d->length) == 0) fail(d->name, "rapidxml refuses it");
     d->rows = (uint32_t)answer;
 }
 
@@ -456,67 +487,126 @@ static void keep_best(double *best, double *turns) {
     if (*best == 0 || turns[TURNS / 2] < *best) *best = turns[TURNS / 2];
 }
 
-static void time_check(struct doc *d, int turn) {
-    double from = now();
-    uint64_t answer = check(d);
-    d->check_turns[turn] = now() - from;
-    if (answer != d->rows) fail(d->name, "another answer than before");
+// Is the answer the one it was?
+static int turn_of(XML_Parser parser, const struct doc *d, const struct count *count, int side) {
+    switch (side) {
+    case CHECK: return check(d) == d->rows;
+    case READ: return read_rows(d).rows == d->rows;
+    case EXPAT: return parse(parser, d) && count->starts == count->ends;
+    case PUGIXML: return peers_pugixml(d->bytes, d->length) == 1;
+    default: return peers_rapidxml(d->bytes, d->length) == 1;
+    }
 }
 
-static void time_expat(XML_Parser parser, struct doc *d, int turn) {
+static void time_side(XML_Parser parser, struct doc *d, int side, int turn) {
     struct count count;
     reset(parser, &count);
     double from = now();
-    int accepted = parse(parser, d);
-    d->expat_turns[turn] = now() - from;
-    if (!accepted || count.starts != count.ends) fail(d->name, "expat gives another answer than before");
+    int same = turn_of(parser, d, &count, side);
+    d->turns[side][turn] = now() - from;
+    if (!same) fail(d->name, "another answer than before");
 }
+
+static int there[SIDES];
 
 // All documents in turn, so that no branch predictor learns one by heart; who goes first changes with the turn.
 static void time_round(XML_Parser parser, struct doc *docs) {
-    for (int turn = 0; turn < TURNS; turn++) {
-        for (int k = 0; k < DOCS; k++) {
-            if (turn % 2) time_expat(parser, &docs[k], turn);
-            time_check(&docs[k], turn);
-            if (turn % 2 == 0) time_expat(parser, &docs[k], turn);
-        }
-    }
-    for (int k = 0; k < DOCS; k++) {
-        keep_best(&docs[k].check, docs[k].check_turns);
-        keep_best(&docs[k].expat, docs[k].expat_turns);
-    }
+    for (int turn = 0; turn < TURNS; turn++)
+        for (int k = 0; k < DOCS; k++)
+            for (int n = 0; n < SIDES; n++) {
+                int side = turn % 2 ? SIDES - 1 - n : n;
+                if (there[side]) time_side(parser, &docs[k], side, turn);
+            }
+    for (int k = 0; k < DOCS; k++)
+        for (int side = 0; side < SIDES; side++)
+            if (there[side]) keep_best(&docs[k].best[side], docs[k].turns[side]);
+}
+
+static void put_speed(double bytes, double seconds) {
+    if (seconds > 0) printf(" %.0f |", bytes * 1e-6 / seconds);
+    else printf(" - |");
+}
+
+static void put_ratio(double theirs, double ours) {
+    if (theirs > 0) printf(" %.2f |", theirs / ours);
+    else printf(" - |");
+}
+
+static void put_row(const char *name, double bytes, unsigned rows, const double *best) {
+    printf("| %s | %.0f | %u |", name, bytes, rows);
+    for (int side = 0; side < SIDES; side++) put_speed(bytes, best[side]);
+    put_ratio(best[EXPAT], best[CHECK]);
+    put_ratio(best[PUGIXML], best[READ]);
+    put_ratio(best[RAPIDXML], best[READ]);
+    put_ratio(best[EXPAT], best[READ]);
+    printf("\n");
 }
 
 static void print_table(const struct doc *docs) {
-    double ratio[DOCS];
-    int met = 0;
-    printf("| document | bytes | rows | check, MB/s | expat, MB/s | ratio | at least 3 |\n|---|---|---|---|---|---|---|\n");
+    double all[SIDES] = {0}, bytes = 0, lowest = 0;
+    unsigned rows = 0;
+    printf("| document | bytes | rows |");
+    for (int side = 0; side < SIDES; side++) printf(" %s, MB/s |", SIDE[side]);
+    printf(" check : expat | read : pugixml | read : rapidxml | read : expat |\n|---|---|---|---|---|---|---|---|---|---|---|---|\n");
     for (int k = 0; k < DOCS; k++) {
         const struct doc *d = &docs[k];
-        double megabytes = (double)d->length * 1e-6;
-        ratio[k] = d->expat / d->check;
-        met += ratio[k] >= 3;
-        printf("| %s | %zu | %u | %.0f | %.0f | %.2f | %s |\n", d->name, d->length, d->rows, megabytes / d->check,
-               megabytes / d->expat, ratio[k], ratio[k] >= 3 ? "yes" : "no");
+        put_row(d->name, (double)d->length, d->rows, d->best);
+        if (k >= SHAPED) continue;
+        double ratio = d->best[EXPAT] / d->best[CHECK];
+        if (k == 0 || ratio < lowest) lowest = ratio;
+        bytes += (double)d->length;
+        rows += d->rows;
+        for (int side = 0; side < SIDES; side++) all[side] += d->best[side];
     }
-    qsort(ratio, DOCS, sizeof *ratio, by_size);
-    printf("\nratio: lowest %.2f, middle %.2f, highest %.2f; at least 3 on %d of %d documents\n", ratio[0],
-           ratio[DOCS / 2], ratio[DOCS - 1], met, (int)DOCS);
+    put_row("the first 25 together", bytes, rows, all);
+    printf("\ncheck beside expat: lowest of the first %d %.2f\n", (int)SHAPED, lowest);
+}
+
+// The time of a byte, beside that of the smallest document of 4 kB and more.
+static void print_sizes(const struct doc *docs) {
+    const struct doc *sized = docs + SHAPED + 1, *least = sized + 1;
+    printf("\n| bytes | check, ns a byte | beside 4 kB | read, ns a byte | beside 4 kB |\n|---|---|---|---|---|\n");
+    for (int k = 0; k < SIZES; k++) {
+        double check = sized[k].best[CHECK] / (double)sized[k].length, read = sized[k].best[READ] / (double)sized[k].length;
+        printf("| %zu | %.2f | %.2f | %.2f | %.2f |\n", sized[k].length, check * 1e9, check / (least->best[CHECK] / (double)least->length),
+               read * 1e9, read / (least->best[READ] / (double)least->length));
+    }
+}
+
+static void write_doc(struct doc *d, int k) {
+    d->random = 2463534242u + (uint32_t)k;
+    d->target = TARGET;
+    if (k < SHAPED) {
+        d->name = SHAPES[k].name;
+        SHAPES[k].write(d);
+    } else if (k == SHAPED) {
+        d->name = "2,048 different names";
+        all_names(d);
+    } else {
+        d->name = "block project, by size";
+        d->target = SIZE[k - SHAPED - 1];
+        project_in_lines(d);
+    }
 }
 
 int main(void) {
     struct doc *docs = calloc(DOCS, sizeof *docs);
     XML_Parser parser = XML_ParserCreate(NULL);
     if (!docs || !parser) fail("start", "no memory");
+    there[CHECK] = there[READ] = there[EXPAT] = 1;
+    there[PUGIXML] = peers_pugixml("<a/>", 4) >= 0;
+    there[RAPIDXML] = peers_rapidxml("<a/>", 4) >= 0;
     for (int k = 0; k < DOCS; k++) {
-        docs[k].name = SHAPES[k].name;
-        docs[k].random = 2463534242u + (uint32_t)k;
-        SHAPES[k].write(&docs[k]);
+        write_doc(&docs[k], k);
         agree(parser, &docs[k]);
     }
     for (int round = 0; round < ROUNDS; round++) time_round(parser, docs);
-    printf("%s, process CPU time, best of %d rounds of %d turns\n\n", XML_ExpatVersion(), ROUNDS, TURNS);
+    printf("%s, process CPU time, best of %d rounds of %d turns\n", XML_ExpatVersion(), ROUNDS, TURNS);
+    for (int side = 0; side < SIDES; side++)
+        if (!there[side]) printf("%s is not on this machine and left out\n", SIDE[side]);
+    printf("\n");
     print_table(docs);
+    print_sizes(docs);
     XML_ParserFree(parser);
     free(docs);
     return 0;

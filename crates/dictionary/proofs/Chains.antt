@@ -52,14 +52,14 @@ module _ {dictionary document : List ℕ} {names : ℕ} {index : List ℕ} {coun
   pub seek-place : {next : ℕ} → Sought known (range document start end) next → 0 < next → next - 1 < count
   seek-place s h = omega (arith, s .below, m .counted)
 
-  pub seek-falls : (next : ℕ) {then : ℕ} → next - 1 < count → then ≡ getD index (1026 + 3 * (next - 1)) 0 → then ≤ next - 1
+  pub seek-falls : (next : ℕ) {then : ℕ} → next - 1 < count → then ≡ getD index (2050 + 3 * (next - 1)) 0 → then ≤ next - 1
   seek-falls next h is = omega (arith, m .indexed .before (next - 1) (omega (arith, m .counted)) .below)
 
   pub seek-found : (place : ℕ) (r : Bool) → place < count → Says r (getD known place [] ≡ range document start end) → r ≡ true → place ≡ placeOf known (range document start end)
   seek-found place r h says t = sym (sought-found place (m .indexed) (omega (arith, m .counted)) (says .0 t))
 
   pub seek-next : {next then : ℕ} (r : Bool) → Sought known (range document start end) next → 0 < next → Says r (getD known (next - 1) [] ≡ range document start end) → r ≡ false →
-      then ≡ getD index (1026 + 3 * (next - 1)) 0 → Sought known (range document start end) then
+      then ≡ getD index (2050 + 3 * (next - 1)) 0 → Sought known (range document start end) then
   seek-next {next} r s h says f is =
       sought-next s h (λ e. true≢false (sym (says .1 e) ∙ f)) (rw is (m .indexed .before (next - 1) (omega (arith, s .below, m .counted))))
 

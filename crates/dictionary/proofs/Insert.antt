@@ -32,63 +32,63 @@ last-two i n h = elim (ℕ-discrete i n) [ yes e ↦ inr e | no e ↦ inl (omega
 
 -- the index after one, two and three of the four stores
 abbrev stored1 : List ℕ → ℕ → ℕ → List ℕ
-stored1 index count start = set index (1024 + 3 * count) start
+stored1 index count start = set index (2048 + 3 * count) start
 
 abbrev stored2 : List ℕ → ℕ → ℕ → ℕ → List ℕ
-stored2 index count start end = set (stored1 index count start) (1025 + 3 * count) end
+stored2 index count start end = set (stored1 index count start) (2049 + 3 * count) end
 
 abbrev stored3 : List ℕ → ℕ → ℕ → ℕ → ℕ → List ℕ
-stored3 index count bucket start end = set (stored2 index count start end) (1026 + 3 * count) (getD index bucket 0)
+stored3 index count bucket start end = set (stored2 index count start end) (2050 + 3 * count) (getD index bucket 0)
 
-module _ (index : List ℕ) (count bucket start end : ℕ) (room : 1027 + 3 * count ≤ length index) (low : bucket < 1024) where
+module _ (index : List ℕ) (count bucket start end : ℕ) (room : 2051 + 3 * count ≤ length index) (low : bucket < 2048) where
   pub inserted-length : length (inserted index count bucket start end) ≡ length index
   inserted-length = simp length-set
 
   past-head : (i : ℕ) → (i ≡ bucket → ⊥) → getD (inserted index count bucket start end) i 0 ≡ getD (stored3 index count bucket start end) i 0
   past-head i n = getD-set-other (stored3 index count bucket start end) bucket i (count + 1) 0 n
 
-  past-before : (i : ℕ) → (i ≡ 1026 + 3 * count → ⊥) → getD (stored3 index count bucket start end) i 0 ≡ getD (stored2 index count start end) i 0
-  past-before i n = getD-set-other (stored2 index count start end) (1026 + 3 * count) i (getD index bucket 0) 0 n
+  past-before : (i : ℕ) → (i ≡ 2050 + 3 * count → ⊥) → getD (stored3 index count bucket start end) i 0 ≡ getD (stored2 index count start end) i 0
+  past-before i n = getD-set-other (stored2 index count start end) (2050 + 3 * count) i (getD index bucket 0) 0 n
 
-  past-end : (i : ℕ) → (i ≡ 1025 + 3 * count → ⊥) → getD (stored2 index count start end) i 0 ≡ getD (stored1 index count start) i 0
-  past-end i n = getD-set-other (stored1 index count start) (1025 + 3 * count) i end 0 n
+  past-end : (i : ℕ) → (i ≡ 2049 + 3 * count → ⊥) → getD (stored2 index count start end) i 0 ≡ getD (stored1 index count start) i 0
+  past-end i n = getD-set-other (stored1 index count start) (2049 + 3 * count) i end 0 n
 
   at-head : getD (inserted index count bucket start end) bucket 0 ≡ count + 1
   at-head = getD-set-same (stored3 index count bucket start end) bucket (count + 1) 0 (simp length-set (omega arith))
 
-  at-before : getD (inserted index count bucket start end) (1026 + 3 * count) 0 ≡ getD index bucket 0
+  at-before : getD (inserted index count bucket start end) (2050 + 3 * count) 0 ≡ getD index bucket 0
   at-before =
-      past-head (1026 + 3 * count) (λ e. omega arith)
-      ∙ getD-set-same (stored2 index count start end) (1026 + 3 * count) (getD index bucket 0) 0 (simp length-set (omega arith))
+      past-head (2050 + 3 * count) (λ e. omega arith)
+      ∙ getD-set-same (stored2 index count start end) (2050 + 3 * count) (getD index bucket 0) 0 (simp length-set (omega arith))
 
-  at-end : getD (inserted index count bucket start end) (1025 + 3 * count) 0 ≡ end
+  at-end : getD (inserted index count bucket start end) (2049 + 3 * count) 0 ≡ end
   at-end =
-      past-head (1025 + 3 * count) (λ e. omega arith)
-      ∙ past-before (1025 + 3 * count) (λ e. omega arith)
-      ∙ getD-set-same (stored1 index count start) (1025 + 3 * count) end 0 (simp length-set (omega arith))
+      past-head (2049 + 3 * count) (λ e. omega arith)
+      ∙ past-before (2049 + 3 * count) (λ e. omega arith)
+      ∙ getD-set-same (stored1 index count start) (2049 + 3 * count) end 0 (simp length-set (omega arith))
 
-  at-start : getD (inserted index count bucket start end) (1024 + 3 * count) 0 ≡ start
+  at-start : getD (inserted index count bucket start end) (2048 + 3 * count) 0 ≡ start
   at-start =
-      past-head (1024 + 3 * count) (λ e. omega arith)
-      ∙ past-before (1024 + 3 * count) (λ e. omega arith)
-      ∙ past-end (1024 + 3 * count) (λ e. omega arith)
-      ∙ getD-set-same index (1024 + 3 * count) start 0 (omega arith)
+      past-head (2048 + 3 * count) (λ e. omega arith)
+      ∙ past-before (2048 + 3 * count) (λ e. omega arith)
+      ∙ past-end (2048 + 3 * count) (λ e. omega arith)
+      ∙ getD-set-same index (2048 + 3 * count) start 0 (omega arith)
 
   -- below the new entry only the bucket's own number changes
-  at-old : (i : ℕ) → i < 1024 + 3 * count → (i ≡ bucket → ⊥) → getD (inserted index count bucket start end) i 0 ≡ getD index i 0
+  at-old : (i : ℕ) → i < 2048 + 3 * count → (i ≡ bucket → ⊥) → getD (inserted index count bucket start end) i 0 ≡ getD index i 0
   at-old i h n =
       past-head i n
       ∙ past-before i (λ e. omega arith)
       ∙ past-end i (λ e. omega arith)
-      ∙ getD-set-other index (1024 + 3 * count) i start 0 (λ e. omega arith)
+      ∙ getD-set-other index (2048 + 3 * count) i start 0 (λ e. omega arith)
 
 module _ (dictionary document : List ℕ) (names : ℕ) (index : List ℕ) (known : List (List ℕ)) (w : List ℕ) (start end : ℕ)
-    (x : Indexed dictionary document names index known) (named : names ≤ length known) (room : 1027 + 3 * length known ≤ length index)
+    (x : Indexed dictionary document names index known) (named : names ≤ length known) (room : 2051 + 3 * length known ≤ length index)
     (e : Entry document w start end) (fresh : placeOf known w ≡ length known) where
   more : length (known ++ (w ∷ [])) ≡ length known + 1
   more = length-append known (w ∷ [])
 
-  low : bucketOf w < 1024
+  low : bucketOf w < 2048
   low = bucket-below w
 
   different : (i j : ℕ) → i < j → j < length (known ++ (w ∷ [])) → getD (known ++ (w ∷ [])) i [] ≡ getD (known ++ (w ∷ [])) j [] → ⊥
@@ -105,18 +105,18 @@ module _ (dictionary document : List ℕ) (names : ℕ) (index : List ℕ) (know
 
   entry : (j : ℕ) → j < length (known ++ (w ∷ [])) →
       Entry (sourceOf dictionary document names j) (getD (known ++ (w ∷ [])) j [])
-      (getD (inserted index (length known) (bucketOf w) start end) (1024 + 3 * j) 0) (getD (inserted index (length known) (bucketOf w) start end) (1025 + 3 * j) 0)
+      (getD (inserted index (length known) (bucketOf w) start end) (2048 + 3 * j) 0) (getD (inserted index (length known) (bucketOf w) start end) (2049 + 3 * j) 0)
   entry j p = ⊎-elim old new (last-two j (length known) (omega (arith, more)))
     where
       Goal : Type 0
       Goal = Entry (sourceOf dictionary document names j) (getD (known ++ (w ∷ [])) j [])
-          (getD (inserted index (length known) (bucketOf w) start end) (1024 + 3 * j) 0) (getD (inserted index (length known) (bucketOf w) start end) (1025 + 3 * j) 0)
+          (getD (inserted index (length known) (bucketOf w) start end) (2048 + 3 * j) 0) (getD (inserted index (length known) (bucketOf w) start end) (2049 + 3 * j) 0)
 
       old : j < length known → Goal
       old h = rw (
         append-old known w j h,
-        at-old index (length known) (bucketOf w) start end room low (1024 + 3 * j) (omega arith) (λ z. omega (arith, low)),
-        at-old index (length known) (bucketOf w) start end room low (1025 + 3 * j) (omega arith) (λ z. omega (arith, low)),
+        at-old index (length known) (bucketOf w) start end room low (2048 + 3 * j) (omega arith) (λ z. omega (arith, low)),
+        at-old index (length known) (bucketOf w) start end room low (2049 + 3 * j) (omega arith) (λ z. omega (arith, low)),
       )
           (x .entry j h)
 
@@ -130,7 +130,7 @@ module _ (dictionary document : List ℕ) (names : ℕ) (index : List ℕ) (know
       )
           e
 
-  head : (h : ℕ) → h < 1024 → Link (known ++ (w ∷ [])) h (length (known ++ (w ∷ []))) (getD (inserted index (length known) (bucketOf w) start end) h 0)
+  head : (h : ℕ) → h < 2048 → Link (known ++ (w ∷ [])) h (length (known ++ (w ∷ []))) (getD (inserted index (length known) (bucketOf w) start end) h 0)
   head h p = elim (ℕ-discrete h (bucketOf w)) [ yes z ↦ mine z | no z ↦ other z ]
     where
       Goal : Type 0
@@ -153,15 +153,15 @@ module _ (dictionary document : List ℕ) (names : ℕ) (index : List ℕ) (know
           })
 
   before : (j : ℕ) → j < length (known ++ (w ∷ [])) →
-      Link (known ++ (w ∷ [])) (bucketOf (getD (known ++ (w ∷ [])) j [])) j (getD (inserted index (length known) (bucketOf w) start end) (1026 + 3 * j) 0)
+      Link (known ++ (w ∷ [])) (bucketOf (getD (known ++ (w ∷ [])) j [])) j (getD (inserted index (length known) (bucketOf w) start end) (2050 + 3 * j) 0)
   before j p = ⊎-elim old new (last-two j (length known) (omega (arith, more)))
     where
       Goal : Type 0
-      Goal = Link (known ++ (w ∷ [])) (bucketOf (getD (known ++ (w ∷ [])) j [])) j (getD (inserted index (length known) (bucketOf w) start end) (1026 + 3 * j) 0)
+      Goal = Link (known ++ (w ∷ [])) (bucketOf (getD (known ++ (w ∷ [])) j [])) j (getD (inserted index (length known) (bucketOf w) start end) (2050 + 3 * j) 0)
 
       old : j < length known → Goal
       old h = rw
-          (append-old known w j h, at-old index (length known) (bucketOf w) start end room low (1026 + 3 * j) (omega arith) (λ z. omega (arith, low)))
+          (append-old known w j h, at-old index (length known) (bucketOf w) start end room low (2050 + 3 * j) (omega arith) (λ z. omega (arith, low)))
           (link-append w (omega arith) (x .before j h))
 
       new : j ≡ length known → Goal

@@ -23,12 +23,12 @@ pub record Learning (d old index : List ℕ) (start names : ℕ) : Type 0 where
   pub present : (j : ℕ) → j < names → 0 < length (getD (pieces d) j [])
   pub few : names ≤ 1024
   pub short : length d ≤ 16384
-  pub large : 4096 ≤ length old
+  pub large : 5120 ≤ length old
   pub kept : length index ≡ length old
   pub indexed : Indexed d d 0 index (take names (pieces d))
 
 -- a new list of zeros knows nothing
-pub fresh : (n : ℕ) → 4096 ≤ n → Fresh (replicate n 0)
+pub fresh : (n : ℕ) → 5120 ≤ n → Fresh (replicate n 0)
 fresh n h = record { large = omega (arith, length-replicate {A = ℕ} n 0); clear = λ i p. getD-replicate {A = ℕ} n i 0 0 (omega arith) }
 
 nothing-indexed : (d index : List ℕ) → Fresh index → Indexed d d 0 index []

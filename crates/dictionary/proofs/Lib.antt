@@ -3,7 +3,6 @@ pub mod Ranges
 pub mod Pieces
 pub mod Names
 pub mod Decided
-pub mod Compare
 pub mod Labels
 pub mod Buckets
 pub mod Chains

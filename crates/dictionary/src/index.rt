@@ -1,4 +1,4 @@
-// The spellings that are known, found by a hash of their bytes: a chain of places for each bucket. The index is 1,024
+// The spellings that are known, found by a hash of their bytes: a chain of places for each bucket. The index is 2,048
 // numbers for the buckets, then three for each known spelling: its start, its end, and where its chain goes on.
 ghost use mathlib.Core.Path.{_≡_};
 ghost use mathlib.Core.List.{List, []};
@@ -8,15 +8,12 @@ ghost use Rattle.meaning.specs.Says.{Says};
 ghost use Rattle.dictionary.specs.Scan.{range};
 ghost use Rattle.dictionary.specs.Labels.{placeOf};
 ghost use Rattle.dictionary.specs.Index.{bucketOf, MayLabel, Labelled, inserted};
+use words::hash;
+use words::same;
+use words::same_bytes;
 
 fn wide(x: u16) -> usize
     ensures { λ r. ⌜ r ≡ x ⌝ }
-{
-    x as usize
-}
-
-fn wide_byte(x: u8) -> usize
-    ensures { λ r. ⌜ (r ≡ x) × (r < 256) ⌝ }
 {
     x as usize
 }
@@ -32,30 +29,7 @@ fn bucket_of(text: &[u8], start: usize, end: usize) -> usize
     requires { ⌜ (start ≤ end) × (end ≤ length (now text)) ⌝ }
     ensures { λ r. ⌜ r ≡ bucketOf (range (now (text .entry)) start end) ⌝ }
 {
-    let mut hash: usize = 0;
-    let mut i = start;
-    while i < end {
-        hash = (hash * 31 + wide_byte(text[i])) % 1024;
-        i += 1;
-    }
-    hash
-}
-
-// Are the bytes of `left` from `at` those of `right` from `start` to `end`?
-fn same(left: &[u8], at: usize, right: &[u8], start: usize, end: usize) -> bool
-    requires { ⌜ (start ≤ end) × (end ≤ length (now right)) × (at + (end - start) ≤ length (now left)) ⌝ }
-    ensures { λ r. ⌜ Says r (range (now (left .entry)) at (at + (end - start)) ≡ range (now (right .entry)) start end) ⌝ }
-{
-    let mut i = at;
-    let mut j = start;
-    while j < end {
-        if left[i] != right[j] {
-            return false;
-        }
-        i += 1;
-        j += 1;
-    }
-    true
+    (hash(text, start, end - start) / 67108864 % 2048) as usize
 }
 
 // Is the known spelling at `place` that of the document from `start` to `end`?
@@ -72,15 +46,15 @@ fn is_at(
     requires { ⌜ ((known : List (List ℕ)) × MayLabel (now dictionary) (now document) names (now index) count start end known) × (place < count) ⌝ }
     ensures { λ r. ⌜ ((known : List (List ℕ)) → MayLabel (now (dictionary .entry)) (now (document .entry)) names (now (index .entry)) count start end known → Says r (getD known place [] ≡ range (now (document .entry)) start end)) ⌝ }
 {
-    let at = number(index, 1024 + 3 * place);
-    let to = number(index, 1025 + 3 * place);
+    let at = number(index, 2048 + 3 * place);
+    let to = number(index, 2049 + 3 * place);
     if to - at != end - start {
         return false;
     }
     if place < names {
-        return same(dictionary, at, document, start, end);
+        return same(dictionary, at, document, start, end - start);
     }
-    same(document, at, document, start, end)
+    same(document, at, document, start, end - start)
 }
 
 // The place of the document's spelling from `start` to `end` among those known, or `count`.
@@ -103,19 +77,19 @@ fn seek(
         if is_at(dictionary, document, names, index, count, place, start, end) {
             return place;
         }
-        next = number(index, 1026 + 3 * place);
+        next = number(index, 2050 + 3 * place);
     }
     count
 }
 
 fn insert(index: &mut [u16], count: usize, bucket: usize, start: usize, end: usize)
-    requires { ⌜ (1027 + 3 * count ≤ length (now index)) × (count < 65535) × (bucket < 1024) × (start < 65536) × (end < 65536) ⌝ }
+    requires { ⌜ (2051 + 3 * count ≤ length (now index)) × (count < 65535) × (bucket < 2048) × (start < 65536) × (end < 65536) ⌝ }
     ensures { λ r. ⌜ now (index .exit) ≡ inserted (now (index .entry)) count bucket start end ⌝ }
 {
     let first = index[bucket];
-    index[1024 + 3 * count] = start as u16;
-    index[1025 + 3 * count] = end as u16;
-    index[1026 + 3 * count] = first;
+    index[2048 + 3 * count] = start as u16;
+    index[2049 + 3 * count] = end as u16;
+    index[2050 + 3 * count] = first;
     index[bucket] = (count + 1) as u16;
 }
 
@@ -144,6 +118,64 @@ pub fn label(
         start,
         end,
     );
+    if place < count {
+        return place;
+    }
+    insert(index, count, bucket, start, end);
+    count
+}
+
+// Is the name at `place` that from `start` to `end`?
+fn is_name(
+    dictionary: &[u8],
+    index: &[u16],
+    count: usize,
+    place: usize,
+    start: usize,
+    end: usize,
+) -> bool
+    requires { ⌜ ((known : List (List ℕ)) × MayLabel (now dictionary) (now dictionary) 0 (now index) count start end known) × (place < count) ⌝ }
+    ensures { λ r. ⌜ ((known : List (List ℕ)) → MayLabel (now (dictionary .entry)) (now (dictionary .entry)) 0 (now (index .entry)) count start end known → Says r (getD known place [] ≡ range (now (dictionary .entry)) start end)) ⌝ }
+{
+    let at = number(index, 2048 + 3 * place);
+    let to = number(index, 2049 + 3 * place);
+    if to - at != end - start {
+        return false;
+    }
+    same_bytes(dictionary, at, dictionary, start, end - start)
+}
+
+// The place of the name from `start` to `end` among those before it, or `count`.
+fn seek_name(
+    dictionary: &[u8],
+    index: &[u16],
+    count: usize,
+    bucket: usize,
+    start: usize,
+    end: usize,
+) -> usize
+    requires { ⌜ ((known : List (List ℕ)) × MayLabel (now dictionary) (now dictionary) 0 (now index) count start end known) × (bucket ≡ bucketOf (range (now dictionary) start end)) ⌝ }
+    ensures { λ r. ⌜ ((known : List (List ℕ)) → MayLabel (now (dictionary .entry)) (now (dictionary .entry)) 0 (now (index .entry)) count start end known → r ≡ placeOf known (range (now (dictionary .entry)) start end)) ⌝ }
+{
+    let mut next = number(index, bucket);
+    while 0 < next {
+        let place = next - 1;
+        if is_name(dictionary, index, count, place, start, end) {
+            return place;
+        }
+        next = number(index, 2050 + 3 * place);
+    }
+    count
+}
+
+// `label` for the dictionary's own names, none of which is known from elsewhere. It is apart since `label` is then called in one place
+// only, that of the rows, where the compiler puts it in line.
+pub fn learn(dictionary: &[u8], index: &mut [u16], count: usize, start: usize, end: usize) -> usize
+    requires { ⌜ ((known : List (List ℕ)) × MayLabel (now dictionary) (now dictionary) 0 (now index) count start end known) ⌝ }
+    ensures { λ r. ⌜ ((known : List (List ℕ)) → MayLabel (now (dictionary .entry)) (now (dictionary .entry)) 0 (now (index .entry)) count start end known → Labelled (now (dictionary .entry)) (now (dictionary .entry)) 0 (now (index .entry)) (now (index .exit)) known (range (now (dictionary .entry)) start end) r) ⌝ }
+{
+    let bucket = bucket_of(dictionary, start, end);
+    let place = seek_name(dictionary, index, count, bucket, start, end);
     if place < count {
         return place;
     }

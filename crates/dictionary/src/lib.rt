@@ -57,7 +57,7 @@ pub fn learn_names(dictionary: &[u8], index: &mut [u16]) -> Checked
         if 1023 < names {
             return BAD;
         }
-        let label = index::label(dictionary, dictionary, 0, index, names, start, end);
+        let label = index::learn(dictionary, index, names, start, end);
         if label < names {
             return BAD;
         }
@@ -74,6 +74,6 @@ pub fn learn_names(dictionary: &[u8], index: &mut [u16]) -> Checked
 pub fn check(dictionary: &[u8]) -> Checked
     ensures { λ r. ⌜ DictionaryChecked (now (dictionary .entry)) (r .good) (r .names) ⌝ }
 {
-    let mut index = [0u16; 4096];
+    let mut index = [0u16; 5120];
     learn_names(dictionary, &mut index)
 }

@@ -1,24 +1,30 @@
 -- The answers of `read` and `check`.
 use mathlib.Core.Path.{_≡_, refl, sym, ap, _∙_, subst}
 use mathlib.Core.Bool.{Bool, true, false, true≢false}
-use mathlib.Core.List.{List}
+use mathlib.Core.List.{List, [], _++_, map}
 use Prim.Native.Nat.{ℕ, _+_, _*_, _≤_, _<_, min}
 use native.Mathlib.Omega.{arith}
 use lib.Dec.{ltb}
-use lib.ListN.{length}
+use lib.ListN.{length, take, drop, length-map}
 use borrow.Author.Tests.{ltb-true, ltb-false}
 use Rattle.tree.specs.Rows.{depth}
-use Rattle.grammar.specs.Grammar.{Bytes, Content, Document}
+use Rattle.tree.proofs.Lists.{sizes-rows}
+use Rattle.grammar.specs.Grammar.{Bytes, _⊲_, Content, Document}
+use Rattle.grammar.specs.Place.{OutsideAt}
 use Rattle.grammar.specs.Tree.{shape}
-use Rattle.grammar.specs.Rows.{rowsOf}
+use Rattle.grammar.specs.Rows.{#, Row, rowsOf}
 use Rattle.grammar.proofs.Trees.{shape-rows}
-use Rattle.judge.specs.Verdict.{Verdict, long, outside, deep, many, read}
+use Rattle.judge.specs.Verdict.{Verdict, long as long-document, outside, deep, many, read}
 use Rattle.dictionary.specs.Names.{GoodDictionary, DictionaryChecked}
 use Rattle.dictionary.specs.Index.{Indexed, NamesLearnt}
 use Rattle.document.specs.Reading.{Unchanged, shortest, Read, badDictionary, badDocument, noRoom, filled}
 use Rattle.document.specs.Checked.{Checked, bad, judged}
-use Rattle.document.specs.Labelling.{MayFill, Fills}
-use Rattle.document.proofs.Filling.{rows-count}
+use Rattle.document.specs.Labels.{spellingsOf}
+use Rattle.document.specs.Labelling.{MayLabelRows, LabelsRows}
+use Rattle.rows.specs.Filled.{Filled, starts, lengths}
+use Rattle.rows.specs.Notes.{RowsNoted, TooLarge}
+use Rattle.rows.proofs.Large.{rows-count}
+use Rattle.document.proofs.Filling.{tree-labels, rows-spell, copied, copied-long, tree-sizes}
 
 -- THE DICTIONARY
 pub not-good : {d : List ℕ} {good : Bool} {k : ℕ} → DictionaryChecked d good k → good ≡ false → (names : List (List ℕ)) → GoodDictionary d names → ⊥
@@ -31,7 +37,7 @@ is-good c e =
 
 -- THE VERDICT
 pub few-codes : {w : List ℕ} {c p n : ℕ} → Verdict w c p n → c ≤ 5
-few-codes (long h) = omega arith
+few-codes (long-document h) = omega arith
 few-codes (outside h k) = omega arith
 few-codes (deep h d k) = omega arith
 few-codes (many h d k l) = omega arith
@@ -50,7 +56,7 @@ pub record Whole (w : List ℕ) (p n : ℕ) : Type 0 where
   pub verdict : Verdict w 0 0 n
 
 pub whole : {w : List ℕ} {c p n : ℕ} → Verdict w c p n → c ≡ 0 → Whole w p n
-whole (long h) e = absurd (omega (arith, e))
+whole (long-document h) e = absurd (omega (arith, e))
 whole (outside h k) e = absurd (omega (arith, e))
 whole (deep h d k) e = absurd (omega (arith, e))
 whole (many h d k l) e = absurd (omega (arith, e))
@@ -92,10 +98,17 @@ module _ {d w label size start width : List ℕ} {good : Bool} {k : ℕ} (dictio
           least : n ≤ min (min (length label) (length size)) (min (length start) (length width)) → (n ≤ length label) × (n ≤ length size) × (n ≤ length start) × (n ≤ length width)
           least s = (omega arith, omega arith, omega arith, omega arith)
 
--- what `fill` is given
+-- where the rows are noted
+pub noted-verdict : {w S L Z : List ℕ} {n : ℕ} → length w ≤ 32768 → RowsNoted w S L Z n → Verdict w 0 0 n
+noted-verdict {w} {S} {L} {Z} {n} short h =
+    subst (λ (x : ℕ). Verdict w 0 0 x) (h .rows-are) (read short (h .document) (h .shallow) (omega (arith, h .few, h .rows-are)))
+
+pub accepted-verdict : {w S L Z : List ℕ} {n c p m : ℕ} → length w ≤ 32768 → RowsNoted w S L Z n → (c ≡ 0) × (p ≡ 0) × (m ≡ n) → Verdict w c p m
+accepted-verdict short h e = rw (e .0, e .1, e .2) (noted-verdict short h)
+
 module _ {d w old index : List ℕ} (label size start width : List ℕ) {good : Bool} {k : ℕ} (learnt : NamesLearnt d good k old index) (is-true : good ≡ true)
-    (large : 10240 ≤ length old) {c p n : ℕ} (v : Verdict w c p n) (zero : c ≡ 0) {m : ℕ} (is-m : m ≡ n)
-    (room : (m ≤ length label) × (m ≤ length size) × (m ≤ length start) × (m ≤ length width)) where
+    (large : 11264 ≤ length old) (short : length w ≤ 32768) {S L Z : List ℕ} {n : ℕ} (noted : RowsNoted w S L Z n)
+    (room : (n ≤ length label) × (n ≤ length size) × (n ≤ length start) × (n ≤ length width)) where
   names : List (List ℕ)
   names = is-good (learnt .checked) is-true .0
 
@@ -107,36 +120,56 @@ module _ {d w old index : List ℕ} (label size start width : List ℕ) {good : 
   unfolding names
   names-are = is-good (learnt .checked) is-true .2
 
-  one : Whole w p n
-  one = whole v zero
+  rows-n : length (rowsOf (noted .f)) ≡ n
+  rows-n = rows-count (noted .f) ∙ sym (shape-rows (noted .f)) ∙ noted .rows-are
 
-  filling : MayFill d w k index label size start width m names (one .f) (one .t)
-  filling = record {
-    indexed = subst (λ (x : ℕ). Indexed d w x index names) (sym names-are) (learnt .indexed names good-names w);
-    counted = sym names-are;
-    few-names = omega (arith, names-are, good-names .few);
-    large = omega (arith, learnt .kept);
-    document = one .document;
-    short = one .short;
-    rows-are = one .rows-are ∙ sym is-m;
-    few-rows = omega (arith, one .few, is-m);
-    room-label = room .0;
-    room-size = room .1;
-    room-start = room .2;
-    room-width = room .3;
-  }
+  long : (g : Row → ℕ) → length (map g (rowsOf (noted .f))) ≡ n
+  long g = length-map (rowsOf (noted .f)) g ∙ rows-n
 
-  pub may-fill : (ns : List (List ℕ)) × (f : Content) × (t : Bytes) × MayFill d w k index label size start width m ns f t
-  may-fill = (names, one .f, one .t, filling)
+  module _ {start' width' : List ℕ} (start-copy : start' ≡ take n S ++ drop n start) (width-copy : width' ≡ take n L ++ drop n width) where
+    start-is : Filled (starts (noted .f)) start start'
+    start-is = copied start (noted .starts-are) (long (λ (x : Row). x .start)) start-copy
 
-  pub answers-read : {label' size' start' width' : List ℕ} → Fills d w k index label size start width m label' size' start' width' →
-      Read d w label size start width label' size' start' width' c p n
-  answers-read {label'} {size'} {start'} {width'} h =
-      let r : Read d w label size start width label' size' start' width' 0 0 n =
-      filled good-names (one .verdict) (omega (arith, room, is-m)) (one .document) (h names (one .f) (one .t) filling) in
-      let e : p ≡ 0 = one .place in
-      subst (λ (x : ℕ). Read d w label size start width label' size' start' width' x p n) (sym zero)
-      (subst (λ (x : ℕ). Read d w label size start width label' size' start' width' 0 x n) (sym e) r)
+    width-is : Filled (lengths (noted .f)) width width'
+    width-is = copied width (noted .lengths-are) (long (λ (x : Row). # (x .spelling))) width-copy
+
+    labelling : MayLabelRows d w k index label start' width' n names (spellingsOf (noted .f))
+    labelling = record {
+      indexed = subst (λ (x : ℕ). Indexed d w x index names) (sym names-are) (learnt .indexed names good-names w);
+      counted = sym names-are;
+      few-names = omega (arith, names-are, good-names .few);
+      large = omega (arith, learnt .kept);
+      short = short;
+      few-rows = noted .few;
+      room-label = room .0;
+      room-start = omega (arith, copied-long (starts (noted .f)) start start-is (long (λ (x : Row). x .start)) (room .2), room .2);
+      room-width = omega (arith, copied-long (lengths (noted .f)) width width-is (long (λ (x : Row). # (x .spelling))) (room .3), room .3);
+      all = length-map (rowsOf (noted .f)) (λ (x : Row). x .spelling ⊲ []) ∙ rows-n;
+      spells = λ r h. rows-spell start start' width width' (noted .document) start-is width-is r (omega (arith, rows-n));
+    }
+
+    pub may-label-rows : (ns ws : List (List ℕ)) × MayLabelRows d w k index label start' width' n ns ws
+    may-label-rows = (names, spellingsOf (noted .f), labelling)
+
+    pub answers-read : {label' size' : List ℕ} {c p m : ℕ} → size' ≡ take n Z ++ drop n size → LabelsRows d w k index label start' width' n label' →
+        (c ≡ 0) × (p ≡ 0) × (m ≡ n) → Read d w label size start width label' size' start' width' c p m
+    answers-read size-copy h e =
+        rw (e .0, e .1, e .2) (filled good-names (noted-verdict short noted) (omega (arith, room)) (noted .document) (record {
+          label-is = rw (tree-labels names (noted .f)) (h names (spellingsOf (noted .f)) labelling);
+          size-is = rw (← (tree-sizes names (noted .f))) (copied size (noted .sizes-are) (sizes-rows (shape (noted .f)) ∙ noted .rows-are) size-copy);
+          start-is = start-is;
+          width-is = width-is;
+        }))
+
+-- where they are not
+pub long-verdict : {w : List ℕ} {c p n : ℕ} → 32768 < length w → (c ≡ 2) × (p ≡ 0) × (n ≡ 0) → Verdict w c p n
+long-verdict h e = rw (e .0, e .1, e .2) (long-document h)
+
+pub outside-verdict : {w : List ℕ} {q c p n : ℕ} → length w ≤ 32768 → OutsideAt w q → (c ≡ 3) × (p ≡ q) × (n ≡ 0) → Verdict w c p n
+outside-verdict short h e = rw (e .0, e .1, e .2) (outside short h)
+
+pub beyond-refused : {w : List ℕ} {c p n : ℕ} → TooLarge w → Verdict w c p n → c ≡ 0 → ⊥
+beyond-refused h v e = let d = whole v e in h (d .f) (d .t) (d .document) (d .shallow) (omega (arith, d .few, d .rows-are, rows-count (d .f), shape-rows (d .f)))
 
 -- THE ANSWERS OF `check`
 pub checks-bad : {d w : List ℕ} {good : Bool} {k : ℕ} → DictionaryChecked d good k → good ≡ false → Checked d w 4294967296

@@ -1,49 +1,24 @@
 -- The four lists of a document.
 use mathlib.Core.Path.{_≡_, refl, sym, ap, _∙_}
-use mathlib.Core.Bool.{Bool, true, false, cond}
 use mathlib.Core.List.{List, [], _∷_, _++_, map}
 use Prim.Native.Nat.{ℕ, zero, suc, _+_, _-_, _≤_, _<_}
 use native.Mathlib.Omega.{arith}
 use lib.ListN.{length, getD, take, drop, length-append, length-map, length-drop, List·getD-map, List·getD-append}
-use lib.Seq.{take-at, drop-at, ext-getD}
+use lib.Seq.{take-at, ext-getD}
 use Rattle.tree.specs.Rows.{labels, sizes}
-use Rattle.grammar.specs.Grammar.{Bytes, _⊲_, Content, nothing, emptyElement, element, Document}
-use Rattle.grammar.specs.Tree.{inked}
-use Rattle.grammar.specs.Rows.{#, width, leafRow, Row, row, rowsOf, rowsFrom}
-use Rattle.grammar.specs.Depths.{sizesFrom}
-use Rattle.grammar.proofs.Trees.{leafRows, contentRows}
-use Rattle.grammar.proofs.Rows.{labels-are, sizes-are, Spelled, rows-spelled, all-at}
-use Rattle.rows.specs.Filled.{Filled, starts, lengths, depths}
-use Rattle.rows.specs.Marks.{MayMark, Marked}
-use Rattle.rows.proofs.Marking.{no-row}
+use Rattle.grammar.specs.Grammar.{Bytes, _⊲_, Content, Document}
+use Rattle.grammar.specs.Tree.{shape}
+use Rattle.grammar.specs.Rows.{#, Row, rowsOf}
+use Rattle.grammar.proofs.Rows.{labels-are, Spelled, rows-spelled, all-at}
+use Rattle.rows.specs.Filled.{Filled, starts, lengths}
+use Rattle.rows.specs.Notes.{Holds}
+use Rattle.rows.proofs.Upto.{Upto}
+use Rattle.rows.proofs.Large.{no-row}
+use Rattle.rows.proofs.Sizes.{sizes-tree}
 use Rattle.dictionary.specs.Labels.{placeOf, knownAfter, labelsOf}
 use Rattle.dictionary.proofs.Labels.{label-place, length-labels}
 use Rattle.document.specs.Labels.{spellingsOf, labelOf, treeOf}
-use Rattle.document.specs.Reading.{Written}
-use Rattle.document.specs.Labelling.{Spells, MayLabelRows, MayFill}
-
--- HOW MANY ROWS
-leaf-length : (k a : ℕ) (t : Bytes) (R : List Row) → length (leafRow k a t R) ≡ leafRows t + length R
-unfolding leafRows
-leaf-length k a t R = go (inked t)
-  where
-    go : (y : Bool) → length (cond y (row k a t ∷ R) R) ≡ cond y 1 0 + length R
-    go true = omega arith
-    go false = omega arith
-
-rows-length : (k a : ℕ) (f : Content) (R : List Row) → length (rowsFrom k a f R) ≡ contentRows f + length R
-unfolding rowsFrom contentRows
-rows-length k a nothing R = omega arith
-rows-length k a (emptyElement f t n g) R =
-    rows-length k a f _ ∙ omega (arith, leaf-length k (a + width f) t (row k (a + width f + # t + 1) n ∷ R))
-rows-length k a (element f t n g i l h) R =
-    let q : ℕ = a + width f + # t + 1 + # n + # g + 1 in
-    let I : List Row = rowsFrom (suc k) q i (leafRow (suc k) (q + width i) l R) in
-    rows-length k a f _
-    ∙ omega (arith, leaf-length k (a + width f) t (row k (a + width f + # t + 1) n ∷ I), rows-length (suc k) q i (leafRow (suc k) (q + width i) l R), leaf-length (suc k) (q + width i) l R)
-
-pub rows-count : (f : Content) → length (rowsOf f) ≡ contentRows f
-rows-count f = rows-length 1 0 f [] ∙ omega arith
+use Rattle.document.specs.Labelling.{Spells}
 
 -- THE LABELS, in 01's words and as the tree's
 map-twice : (g : List ℕ → ℕ) (h : Row → List ℕ) (R : List Row) → map g (map h R) ≡ map (λ (x : Row). g (h x)) R
@@ -89,69 +64,18 @@ rows-spell {w} {f} {t} s s' l l' d es el r h =
     }
 
 -- FILLING
-module _ {d w : List ℕ} {names : ℕ} {index label size start size-of : List ℕ} {rows : ℕ} {known : List (List ℕ)} {f : Content} {t : Bytes}
-    (m : MayFill d w names index label size start size-of rows known f t) where
-  pub may-mark : MayMark w label start size-of
-  may-mark = record {
-    f = f;
-    t = t;
-    document = m .document;
-    short = m .short;
-    room-depth = omega (arith, m .rows-are, m .room-label);
-    room-start = omega (arith, m .rows-are, m .room-start);
-    room-size = omega (arith, m .rows-are, m .room-width);
-  }
+-- A COPY
+pub copied-so : {xs before after : List ℕ} {i : ℕ} (n : ℕ) → Upto xs before i after → i ≡ n → after ≡ take n xs ++ drop n before
+copied-so {xs} {before} n h e = h .is ∙ ap (λ (m : ℕ). take m xs ++ drop m before) e
 
-  module _ {label₁ start₁ width₁ : List ℕ} (k : Marked f label start size-of label₁ start₁ width₁) where
-    long : (g : Row → ℕ) → length (map g (rowsOf f)) ≡ rows
-    long g = length-map (rowsOf f) g ∙ m .rows-are
+-- the rows that are noted, copied into a lent list
+pub copied : {xs l after : List ℕ} (before : List ℕ) {n : ℕ} → Holds xs l → length xs ≡ n → after ≡ take n l ++ drop n before → Filled xs before after
+copied {xs} {l} {after} before {n} h e q =
+    q ∙ rw (ap (take n) (h .is) ∙ take-at xs (h .rest) n e, e) refl
 
-    filled-long : (g : Row → ℕ) (old new : List ℕ) → rows ≤ length old → Filled (map g (rowsOf f)) old new → length new ≡ length old
-    filled-long g old new h e =
-        ap length e ∙ length-append (map g (rowsOf f)) (drop (length (map g (rowsOf f))) old)
-        ∙ omega (arith, length-drop (length (map g (rowsOf f))) old, long g)
+-- .. which keeps its length
+pub copied-long : (xs before : List ℕ) {after : List ℕ} {n : ℕ} → Filled xs before after → length xs ≡ n → n ≤ length before → length after ≡ length before
+copied-long xs before {after} e h l = ap length e ∙ length-append xs (drop (length xs) before) ∙ omega (arith, length-drop (length xs) before, h)
 
-    pub label-long : length label₁ ≡ length label
-    label-long = filled-long (λ (x : Row). x .depth) label label₁ (m .room-label) (k .depth-is)
-
-    pub start-long : length start₁ ≡ length start
-    start-long = filled-long (λ (x : Row). x .start) start start₁ (m .room-start) (k .start-is)
-
-    pub width-long : length width₁ ≡ length size-of
-    width-long = filled-long (λ (x : Row). # (x .spelling)) size-of width₁ (m .room-width) (k .size-is)
-
-    pub may-label-rows : {index₁ : List ℕ} → index₁ ≡ index → MayLabelRows d w names index₁ label₁ start₁ width₁ rows known (spellingsOf f)
-    may-label-rows e = rw e (record {
-      indexed = m .indexed;
-      counted = m .counted;
-      few-names = m .few-names;
-      large = m .large;
-      short = m .short;
-      few-rows = m .few-rows;
-      room-label = omega (arith, label-long, m .room-label);
-      room-start = omega (arith, start-long, m .room-start);
-      room-width = omega (arith, width-long, m .room-width);
-      all = length-map (rowsOf f) (λ (x : Row). x .spelling ⊲ []) ∙ m .rows-are;
-      spells = λ r h. rows-spell start start₁ size-of width₁ (m .document) (k .start-is) (k .size-is) r (omega (arith, m .rows-are));
-    })
-
-    -- what stands before the rows' end and behind it
-    depths-first : take rows label₁ ≡ depths f
-    depths-first = ap (take rows) (k .depth-is) ∙ take-at (depths f) (drop (length (depths f)) label) rows (long (λ (x : Row). x .depth))
-
-    rest-same : drop rows label₁ ≡ drop rows label
-    rest-same =
-        ap (drop rows) (k .depth-is) ∙ drop-at (depths f) (drop (length (depths f)) label) rows (long (λ (x : Row). x .depth))
-        ∙ ap (λ (n : ℕ). drop n label) (long (λ (x : Row). x .depth))
-
-    pub written : {size' label' : List ℕ} → Filled (sizesFrom (take rows label₁)) size size' → Filled (labelsOf known (spellingsOf f)) label₁ label' →
-        Written known f label size start size-of label' size' start₁ width₁
-    written {size'} {label'} s l =
-        let n : length (labelsOf known (spellingsOf f)) ≡ rows = length-labels known (spellingsOf f) ∙ length-map (rowsOf f) (λ (x : Row). x .spelling ⊲ []) ∙ m .rows-are in
-        let z : sizesFrom (take rows label₁) ≡ sizes (treeOf known f) = ap sizesFrom depths-first ∙ sizes-are (labelOf known f) f in
-        record {
-          label-is = rw (tree-labels known f) (l ∙ ap (λ (x : List ℕ). labelsOf known (spellingsOf f) ++ x) (rw n (rest-same)));
-          size-is = rw z at s;
-          start-is = k .start-is;
-          width-is = k .size-is;
-        }
+pub tree-sizes : (names : List (List ℕ)) (f : Content) → sizes (shape f) ≡ sizes (treeOf names f)
+tree-sizes names f = sym (sizes-tree (λ s. 0) f) ∙ sizes-tree (labelOf names f) f

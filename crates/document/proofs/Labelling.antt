@@ -103,7 +103,7 @@ module _ {d w : List ℕ} {names : ℕ} {index₀ label₀ start width : List �
           low = bounds (ltb found count) e .0;
           high = bounds (ltb found count) e .1;
           within = omega arith;
-          labelled = upto-more (k .labelled) (omega (arith, length-labels known ws, m .all, m .room-label)) (omega (arith, length-labels known ws, in-ws))
+          labelled = upto-more (k .labelled) (omega (arith, here, m .room-label)) (omega (arith, length-labels known ws, in-ws))
               (label-at known ws row in-ws ∙ sym place) refl;
         }
           where

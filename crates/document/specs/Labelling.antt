@@ -1,15 +1,12 @@
--- Not needed to believe the promise: the labels of rows whose starts and lengths are known, and what filling asks.
+-- Not needed to believe the promise: the labels of rows whose starts and lengths are known.
 use mathlib.Core.Path.{_≡_}
 use mathlib.Core.List.{List, []}
 use Prim.Native.Nat.{ℕ, _+_, _≤_, _<_}
 use lib.ListN.{length, getD}
-use Rattle.grammar.specs.Grammar.{Bytes, Content, Document}
-use Rattle.grammar.specs.Rows.{rowsOf}
 use Rattle.rows.specs.Filled.{Filled}
 use Rattle.dictionary.specs.Scan.{range}
 use Rattle.dictionary.specs.Labels.{labelsOf}
 use Rattle.dictionary.specs.Index.{Indexed}
-use Rattle.document.specs.Reading.{Written}
 
 -- a row's spelling is the document's from its start on, so many bytes
 pub record Spells (w start width spelling : List ℕ) (row : ℕ) : Type 0 where
@@ -21,7 +18,7 @@ pub record MayLabelRows (d w : List ℕ) (names : ℕ) (index label start width 
   pub indexed : Indexed d w names index known
   pub counted : length known ≡ names
   pub few-names : names ≤ 1024
-  pub large : 10240 ≤ length index
+  pub large : 11264 ≤ length index
   pub short : length w ≤ 32768
   pub few-rows : rows ≤ 2048
   pub room-label : rows ≤ length label
@@ -34,23 +31,3 @@ abbrev pub LabelsRows : (d w : List ℕ) (names : ℕ) (index label start width 
 LabelsRows d w names index label start width rows label' =
     (known spellings : List (List ℕ)) → MayLabelRows d w names index label start width rows known spellings →
     Filled (labelsOf known spellings) label label'
-
--- what `fill` may be given
-pub record MayFill (d w : List ℕ) (names : ℕ) (index label size start width : List ℕ) (rows : ℕ) (known : List (List ℕ)) (f : Content) (t : Bytes) : Type 0 where
-  pub indexed : Indexed d w names index known
-  pub counted : length known ≡ names
-  pub few-names : names ≤ 1024
-  pub large : 10240 ≤ length index
-  pub document : Document w f t
-  pub short : length w ≤ 32768
-  pub rows-are : length (rowsOf f) ≡ rows
-  pub few-rows : rows ≤ 2048
-  pub room-label : rows ≤ length label
-  pub room-size : rows ≤ length size
-  pub room-start : rows ≤ length start
-  pub room-width : rows ≤ length width
-
-abbrev pub Fills : (d w : List ℕ) (names : ℕ) (index label size start width : List ℕ) (rows : ℕ) (label' size' start' width' : List ℕ) → Type 0
-Fills d w names index label size start width rows label' size' start' width' =
-    (known : List (List ℕ)) (f : Content) (t : Bytes) → MayFill d w names index label size start width rows known f t →
-    Written known f label size start width label' size' start' width'

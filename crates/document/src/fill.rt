@@ -1,15 +1,42 @@
-// The four lists of a document that was judged. The label list holds the depths first, from which the sizes come.
+// The lent lists of a document whose rows are noted.
 ghost use mathlib.Core.Path.{_≡_};
 ghost use mathlib.Core.Bool.{cond};
-ghost use mathlib.Core.List.{List};
-ghost use Prim.Native.Nat.{ℕ, _+_, _≤_};
+ghost use mathlib.Core.List.{List, _++_};
+ghost use Prim.Native.Nat.{ℕ, _+_, _≤_, _<_};
 ghost use lib.Dec.{ltb};
-ghost use Rattle.grammar.specs.Grammar.{Bytes, Content};
-ghost use Rattle.judge.specs.Tokens.{Classed};
-ghost use Rattle.document.specs.Labelling.{MayLabelRows, LabelsRows, MayFill, Fills};
-use rows::mark::mark;
-use rows::sizes::number;
-use rows::sizes::sizes_from;
+ghost use lib.ListN.{length, getD, take, drop};
+ghost use Rattle.document.specs.Labelling.{MayLabelRows, LabelsRows};
+
+fn wide(x: u32) -> usize
+    ensures { λ r. ⌜ r ≡ x ⌝ }
+{
+    x as usize
+}
+
+fn number(list: &[u32], i: usize) -> usize
+    requires { ⌜ i < length (now list) ⌝ }
+    ensures { λ r. ⌜ r ≡ getD (now (list .entry)) i 0 ⌝ }
+{
+    wide(list[i])
+}
+
+fn widened(x: u16) -> u32
+    ensures { λ r. ⌜ r ≡ x ⌝ }
+{
+    x as u32
+}
+
+// The first numbers of a list of our own into a lent one.
+pub fn copy(from: &[u16; 2052], to: &mut [u32], count: usize)
+    requires { ⌜ (length (now from) ≡ 2052) × (count ≤ 2052) × (count ≤ length (now to)) ⌝ }
+    ensures { λ _. ⌜ now (to .exit) ≡ take count (now (from .entry)) ++ drop count (now (to .entry)) ⌝ }
+{
+    let mut i: usize = 0;
+    while i < count {
+        to[i] = widened(from[i]);
+        i += 1;
+    }
+}
 
 // How many spellings are known after a label was found: a label that is not among them is new.
 fn known(count: usize, found: usize) -> usize
@@ -19,7 +46,7 @@ fn known(count: usize, found: usize) -> usize
     if found < count { count } else { count + 1 }
 }
 
-fn label_rows(
+pub fn label_rows(
     dictionary: &[u8],
     document: &[u8],
     names: usize,
@@ -42,33 +69,4 @@ fn label_rows(
         count = known(count, found);
         row += 1;
     }
-}
-
-pub fn fill(
-    dictionary: &[u8],
-    document: &[u8],
-    class: &[u8; 128],
-    names: usize,
-    index: &mut [u16],
-    label: &mut [u32],
-    size: &mut [u32],
-    start: &mut [u32],
-    length: &mut [u32],
-    rows: usize,
-)
-    requires { ⌜ Classed (now class) × ((known : List (List ℕ)) × (f : Content) × (t : Bytes) × MayFill (now dictionary) (now document) names (now index) (now label) (now size) (now start) (now length) rows known f t) ⌝ }
-    ensures { λ _. ⌜ Fills (now (dictionary .entry)) (now (document .entry)) names (now (index .entry)) (now (label .entry)) (now (size .entry)) (now (start .entry)) (now (length .entry)) rows (now (label .exit)) (now (size .exit)) (now (start .exit)) (now (length .exit)) ⌝ }
-{
-    mark(document, class, label, start, length);
-    sizes_from(label, size, rows);
-    label_rows(
-        dictionary,
-        document,
-        names,
-        index,
-        label,
-        start,
-        length,
-        rows,
-    );
 }

@@ -1,22 +1,20 @@
-// The document reader: judges first, writes nothing in a refusal, and then fills the four lists.
+// The document reader: notes the rows in lists of its own, so that a refusal writes nothing, and then fills the four lists.
 ghost use mathlib.Core.Path.{_≡_};
 ghost use Prim.Native.Nat.{_≤_, _<_};
 ghost use Rattle.meaning.specs.Says.{Says};
+ghost use Rattle.judge.specs.Verdict.{Verdict};
 ghost use Rattle.document.specs.Reading.{Read};
 ghost use Rattle.document.specs.Checked.{Checked};
 
 pub mod fill;
 
-use fill::fill;
+use fill::copy;
+use fill::label_rows;
 use judge::Judged;
-use judge::class::table;
 use judge::judge;
-
-fn wide(x: u32) -> usize
-    ensures { λ r. ⌜ (r ≡ x) × (r < 4294967296) ⌝ }
-{
-    x as usize
-}
+use judge::outside;
+use rows::note::Noted;
+use rows::note::note;
 
 fn wider(x: u32) -> u64
     ensures { λ r. ⌜ (r ≡ x) × (r < 4294967296) ⌝ }
@@ -50,6 +48,17 @@ fn refusal(code: u32) -> Judged
     }
 }
 
+fn accepted(rows: usize) -> Judged
+    requires { ⌜ rows ≤ 2048 ⌝ }
+    ensures { λ r. ⌜ (r .code ≡ 0) × (r .place ≡ 0) × (r .rows ≡ rows) ⌝ }
+{
+    Judged {
+        code: 0,
+        place: 0,
+        rows: rows as u32,
+    }
+}
+
 pub fn read(
     dictionary: &[u8],
     document: &[u8],
@@ -60,36 +69,59 @@ pub fn read(
 ) -> Judged
     ensures { λ r. ⌜ Read (now (dictionary .entry)) (now (document .entry)) (now (label .entry)) (now (size .entry)) (now (start .entry)) (now (length .entry)) (now (label .exit)) (now (size .exit)) (now (start .exit)) (now (length .exit)) (r .code) (r .place) (r .rows) ⌝ }
 {
-    let mut index = [0u16; 10240];
+    let mut index = [0u16; 11264];
     let checked = dictionary::learn_names(dictionary, &mut index);
     let good = checked.good;
     let names = checked.names;
     if !good {
         return refusal(1);
     }
-    let judged = judge(document);
-    let code = judged.code;
-    if code != 0 {
-        return judged;
+    if 32768 < document.len() {
+        return refusal(2);
     }
-    let rows = wide(judged.rows);
-    if !fits(rows, label.len(), size.len(), start.len(), length.len()) {
-        return refusal(6);
+    let mut starts = [0u16; 2052];
+    let mut lengths = [0u16; 2052];
+    let mut sizes = [0u16; 2052];
+    match note(document, &mut starts, &mut lengths, &mut sizes) {
+        Noted::Outside(place) => outside(place),
+        Noted::Beyond => judge(document),
+        Noted::Rows(rows) => {
+            if !fits(rows, label.len(), size.len(), start.len(), length.len()) {
+                return refusal(6);
+            }
+            copy(&starts, start, rows);
+            copy(&lengths, length, rows);
+            copy(&sizes, size, rows);
+            label_rows(
+                dictionary,
+                document,
+                names,
+                &mut index,
+                label,
+                start,
+                length,
+                rows,
+            );
+            accepted(rows)
+        }
     }
-    let class = table();
-    fill(
-        dictionary,
-        document,
-        &class,
-        names,
-        &mut index,
-        label,
-        size,
-        start,
-        length,
-        rows,
-    );
-    judged
+}
+
+// Codes 2 to 5: what is noted on the way is not looked at.
+fn verdict(document: &[u8]) -> Judged
+    ensures { λ r. ⌜ Verdict (now (document .entry)) (r .code) (r .place) (r .rows) ⌝ }
+{
+    if 32768 < document.len() {
+        return refusal(2);
+    }
+    let mut starts = [0u16; 2052];
+    let mut lengths = [0u16; 2052];
+    let mut sizes = [0u16; 2052];
+    match note(document, &mut starts, &mut lengths, &mut sizes) {
+        Noted::Outside(place) => outside(place),
+        Noted::Beyond => judge(document),
+        Noted::Rows(rows) => accepted(rows),
+    }
 }
 
 // What the site's server asks: code times 4,294,967,296 plus the place or the rows.
@@ -101,6 +133,6 @@ pub fn check(dictionary: &[u8], document: &[u8]) -> u64
     if !good {
         return 4294967296;
     }
-    let judged = judge(document);
+    let judged = verdict(document);
     wider(judged.code) * 4294967296 + (wider(judged.place) + wider(judged.rows))
 }

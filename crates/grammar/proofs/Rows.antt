@@ -1,19 +1,16 @@
--- The rows of a document: their labels are the tree's, its sizes come from their depths, and their spellings stand in the document.
+-- The rows of a document: their labels are the tree's, and their spellings stand in the document.
 use mathlib.Core.Path.{_≡_, refl, sym, ap, _∙_}
 use mathlib.Core.Bool.{Bool, true, false, cond}
 use mathlib.Core.List.{List, [], _∷_, _++_, append-assoc, append-nil, map}
 use Prim.Native.Nat.{ℕ, zero, suc, _+_, _≤_, _<_}
 use native.Mathlib.Omega.{arith}
-use lib.Dec.{ltb}
 use lib.ListN.{length, getD, take, drop, length-append}
 use lib.Seq.{take-at, drop-at}
-use borrow.Author.Tests.{lt-ltb, le-ltb, ltb-false}
-use Rattle.meaning.specs.Forest.{Forest, none, some, rows}
-use Rattle.tree.specs.Rows.{labels, sizes}
+use Rattle.meaning.specs.Forest.{Forest, none, some}
+use Rattle.tree.specs.Rows.{labels}
 use Rattle.grammar.specs.Grammar.{Bytes, _⊲_, Content, nothing, emptyElement, element, print, Document}
 use Rattle.grammar.specs.Tree.{inked, leaf, forest}
 use Rattle.grammar.specs.Rows.{#, width, Row, row, leafRow, rowsFrom, rowsOf}
-use Rattle.grammar.specs.Depths.{deeper, sizesFrom}
 use Rattle.grammar.proofs.Theory.{⊲-append}
 use Rattle.grammar.proofs.Positions.{len-⊲, len-print}
 
@@ -53,77 +50,6 @@ module _ (label : Bytes → ℕ) where
   pub labels-are : (f : Content) → labels (forest label f none) ≡ map (λ (x : Row). label (x .spelling)) (rowsOf f)
   unfolding labelled labels
   labels-are f = sym (append-nil (labels (forest label f none))) ∙ labels-on 1 0 f none [] [] refl
-
--- THE DEPTHS
--- the depths of a forest's rows at the level k, and then d
-unfoldable pub depthsOf : ℕ → Forest → List ℕ → List ℕ
-depthsOf k none d = d
-depthsOf k (some l us r) d = k ∷ depthsOf (suc k) us (depthsOf k r d)
-
-depths : List Row → List ℕ
-depths R = map (λ (x : Row). x .depth) R
-
-module _ (label : Bytes → ℕ) where
-  abbrev Depths : ℕ → Forest → List ℕ → List Row → Type 0
-  Depths k r d R = depthsOf k r d ≡ depths R
-
-  leaf-depths : (k a : ℕ) (t : Bytes) (r : Forest) (d : List ℕ) (R : List Row) → Depths k r d R → Depths k (leaf label t r) d (leafRow k a t R)
-  unfolding depthsOf depths
-  leaf-depths k a t r d R h = go (inked t)
-    where
-      go : (y : Bool) → depthsOf k (cond y (some (label t) none r) r) d ≡ depths (cond y (row k a t ∷ R) R)
-      go true = ap (λ (l : List ℕ). k ∷ l) h
-      go false = h
-
-  depths-on : (k a : ℕ) (f : Content) (r : Forest) (d : List ℕ) (R : List Row) → Depths k r d R → Depths k (forest label f r) d (rowsFrom k a f R)
-  unfolding forest rowsFrom depthsOf depths
-  depths-on k a nothing r d R h = h
-  depths-on k a (emptyElement f t n g) r d R h =
-      depths-on k a f _ d _ (leaf-depths k (a + width f) t _ d _ (ap (λ (l : List ℕ). k ∷ l) h))
-  depths-on k a (element f t n g i l j) r d R h =
-      depths-on k a f _ d _ (leaf-depths k (a + width f) t _ d _ (ap (λ (x : List ℕ). k ∷ x)
-      (depths-on (suc k) (a + width f + # t + 1 + # n + # g + 1) i (leaf label l none) (depthsOf k r d) _
-      (leaf-depths (suc k) (a + width f + # t + 1 + # n + # g + 1 + width i) l none (depthsOf k r d) R h))))
-
-  pub depths-are : (f : Content) → depthsOf 1 (forest label f none) [] ≡ map (λ (x : Row). x .depth) (rowsOf f)
-  unfolding depths depthsOf
-  depths-are f = depths-on 1 0 f none [] [] refl
-
--- THE SIZES COME FROM THE DEPTHS
-deeper-all : (F : Forest) (j k : ℕ) (d : List ℕ) → j < k → deeper j (depthsOf k F d) ≡ rows F + deeper j d
-unfolding deeper depthsOf rows
-deeper-all none j k d p = omega arith
-deeper-all (some l us r) j k d p =
-    simp (lt-ltb j k p) (omega (arith, deeper-all us j (suc k) (depthsOf k r d) (omega arith), deeper-all r j k d p))
-
-deeper-none : (F : Forest) (j k : ℕ) (d : List ℕ) → k ≤ j → deeper j d ≡ 0 → deeper j (depthsOf k F d) ≡ 0
-unfolding deeper depthsOf
-deeper-none none j k d p e = e
-deeper-none (some l us r) j k d p e = simp (le-ltb j k p)
-
-deeper-up : (k : ℕ) (d : List ℕ) → deeper k d ≡ 0 → deeper (suc k) d ≡ 0
-unfolding deeper
-deeper-up k [] h = refl
-deeper-up k (j ∷ d) h = go (ltb k j) refl h
-  where
-    go : (t : Bool) → ltb k j ≡ t → cond t (suc (deeper k d)) 0 ≡ 0 → cond (ltb (suc k) j) (suc (deeper (suc k) d)) 0 ≡ 0
-    go true e h = absurd (omega arith)
-    go false e h = simp (le-ltb (suc k) j (omega (arith, ltb-false k j e)))
-
-sizes-on : (F : Forest) (k : ℕ) (d : List ℕ) → deeper k d ≡ 0 → sizesFrom (depthsOf k F d) ≡ sizes F ++ sizesFrom d
-unfolding sizesFrom depthsOf sizes
-sizes-on none k d e = refl
-sizes-on (some l us r) k d e =
-    let a : deeper k (depthsOf (suc k) us (depthsOf k r d)) ≡ rows us =
-    deeper-all us k (suc k) (depthsOf k r d) (omega arith) ∙ omega (arith, deeper-none r k k d (omega arith) e) in
-    let b : sizesFrom (depthsOf (suc k) us (depthsOf k r d)) ≡ (sizes us ++ sizes r) ++ sizesFrom d =
-    sizes-on us (suc k) (depthsOf k r d) (deeper-none r (suc k) k d (omega arith) (deeper-up k d e))
-    ∙ ap (λ (z : List ℕ). sizes us ++ z) (sizes-on r k d e) ∙ sym (append-assoc (sizes us) (sizes r) (sizesFrom d)) in
-    rw (a, b)
-
-pub sizes-are : (label : Bytes → ℕ) (f : Content) → sizesFrom (map (λ (x : Row). x .depth) (rowsOf f)) ≡ sizes (forest label f none)
-unfolding sizesFrom deeper
-sizes-are label f = ap sizesFrom (sym (depths-are label f)) ∙ sizes-on (forest label f none) 1 [] refl ∙ append-nil (sizes (forest label f none))
 
 -- EACH SPELLING STANDS IN THE DOCUMENT
 pub record Spelled (w : List ℕ) (x : Row) : Type 0 where

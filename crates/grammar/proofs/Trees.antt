@@ -31,7 +31,7 @@ one-leaf t = go (inked t)
     go true = omega arith
     go false = omega arith
 
-leaf-rows : (label : Bytes → ℕ) (t : Bytes) (r : Forest) → rows (leaf label t r) ≡ leafRows t + rows r
+pub leaf-rows : (label : Bytes → ℕ) (t : Bytes) (r : Forest) → rows (leaf label t r) ≡ leafRows t + rows r
 unfolding leafRows rows
 leaf-rows label t r = go (inked t)
   where

@@ -4,4 +4,3 @@ pub mod Place
 pub mod Tree
 pub mod Rows
 pub mod Machine
-pub mod Depths

@@ -41,6 +41,94 @@ unfoldable pub deepO : List Open → ℕ
 deepO [] = 0
 deepO (p ∷ o) = max (max (deepO o) (length o + contentDepth (p .before))) (length o + 1)
 
+-- WHERE A PASS STANDS: behind the content f of the innermost of the open elements o
+pub record Walked (w : List ℕ) (i depth rows : ℕ) : Type 0 where
+  pub o : List Open
+  pub f : Content
+  pub here : At w i (inRun o f ε)
+  pub depth-is : depth ≡ length o
+  pub rows-are : rows ≡ rowsO o + contentRows f
+
+pub level-is : (o : List Open) → levelOf (length o) ≡ level o
+level-is [] = refl
+level-is (p ∷ o) = refl
+
+some-rows : (f : Content) (n : ℕ) → n ≡ 0 → eqb (contentRows f + n) 0 ≡ noElement f
+unfolding contentRows
+some-rows nothing n h = rw h refl
+some-rows (emptyElement f t m g) n h = ne-eqb (contentRows (emptyElement f t m g) + n) 0 (λ e. omega arith)
+some-rows (element f t m g i l k) n h = ne-eqb (contentRows (element f t m g i l k) + n) 0 (λ e. omega arith)
+
+-- a document of so many rows, of which f is the content
+pub record Finished (w : List ℕ) (f : Content) (rows-read : ℕ) : Type 0 where
+  pub t : Bytes
+  pub document : Document w f t
+  pub rows-are : rows-read ≡ rows (shape f)
+
+-- the run that starts at i ends at a, and makes n rows
+module _ {w : List ℕ} {i depth rows : ℕ} (k : Walked w i depth rows) {a n : ℕ} (run : RunTo w depth i a n) where
+  abbrev its-bytes : Bytes
+  its-bytes = bytes w i (a - i)
+
+  span : Span (runAt (level (k .o)) w i) w i a
+  span = rw (← (level-is (k .o)), ← (k .depth-is)) (run .span)
+
+  pub at-run : At w a (inRun (k .o) (k .f) its-bytes)
+  at-run = run-walk (k .o) (k .f) (span .passed) (k .here)
+
+  pub made : n ≡ leafRows its-bytes
+  unfolding leafRows
+  made = run .makes
+
+  outer-rows : depth ≡ 0 → rows + n ≡ contentRows (k .f) + n
+  unfolding rowsO
+  outer-rows d = go (k .o) (k .depth-is) (k .rows-are)
+    where
+      go : (o : List Open) → depth ≡ length o → rows ≡ rowsO o + contentRows (k .f) → rows + n ≡ contentRows (k .f) + n
+      go [] e r = omega (arith, r)
+      go (p ∷ o) e r = absurd (omega (arith, d, e))
+
+  pub to-tag : {x : ℕ} → Top w x (k .o) → getD w a 0 ≡ 60 → Tagging w x depth (rows + n) a (k .o) (k .f) its-bytes
+  to-tag top h = record {
+    here = at-run;
+    less = h;
+    depth-is = k .depth-is;
+    top = top;
+    none-yet = λ d. rw (outer-rows d) (some-rows (k .f) n (run .outside d));
+  }
+
+  pub refused : (getD w a 0 ≡ 60 → ⊥) → (length w ≤ a → depth ≡ 0 → 0 < rows + n → ⊥) → OutsideAt w a
+  unfolding runAt
+  refused b h = run-refused (k .o) (k .f) its-bytes at-run (λ q. final q (k .o) (k .depth-is)) (span .stop) (ne-eqb (getD w a 0) 60 b)
+    where
+      final : length w ≤ a → (o : List Open) → depth ≡ length o → Final (inRun o (k .f) its-bytes) → ⊥
+      final q [] d y =
+          let z : eqb (rows + n) 0 ≡ false = rw (outer-rows d) (some-rows (k .f) n (run .outside d) ∙ y) in
+          h q d (positive (rows + n) z)
+        where
+          positive : (m : ℕ) → eqb m 0 ≡ false → 0 < m
+          positive zero e = absurd (true≢false e)
+          positive (suc m) e = omega arith
+      final q (p ∷ o) d y = y
+
+  pub finished : length w ≤ a → depth ≡ 0 → 0 < rows + n → Finished w (k .f) (rows + n)
+  finished q d r = go (k .o) (k .depth-is) (ap (runs initial) (sym (take-all a w q)) ∙ at-run .is)
+    where
+      has : noElement (k .f) ≡ false
+      has = sym (some-rows (k .f) n (run .outside d)) ∙ ne-eqb (contentRows (k .f) + n) 0 (λ e. omega (arith, outer-rows d, r, e))
+
+      go : (o : List Open) → depth ≡ length o → runs initial w ≡ inRun o (k .f) its-bytes → Finished w (k .f) (rows + n)
+      go [] e s =
+          let D : (f : Content) × (t : Bytes) × Document w f t = accepted w (rw s has) in
+          let same : inRun [] (k .f) its-bytes ≡ inRun [] (D .0) (D .1) = sym s ∙ accepts (D .2) in
+          let f-is : D .0 ≡ k .f = cc in
+          record {
+            t = D .1;
+            document = rw f-is at (D .2);
+            rows-are = outer-rows d ∙ rw (run .outside d) (omega arith) ∙ sym (shape-rows (k .f));
+          }
+      go (p ∷ o) e s = absurd (omega (arith, d, e))
+
 -- the loop's invariant
 pub record Scanned (w S : List ℕ) (i x depth rows deep : ℕ) : Type 0 where
   pub o : List Open
@@ -89,10 +177,6 @@ max-close a l b c r = left (max (max a (l + b)) (l + 1)) ∙ right (max c r)
     right : (m : ℕ) → max (max (max a (l + b)) (l + 1)) (suc l + m) ≡ max a (l + max b (suc m))
     right m = omega arith
 
-pub level-is : (o : List Open) → levelOf (length o) ≡ level o
-level-is [] = refl
-level-is (p ∷ o) = refl
-
 held-set : (w S : List ℕ) (x k v : ℕ) (o : List Open) → length o ≤ k → Held w S x o → Held w (set S k v) x o
 held-set w S x k v [] h q = tt
 held-set w S x k v (p ∷ o) h q =
@@ -105,12 +189,6 @@ closed-within w e (p ∷ o) f t (closed h k) = k .within
 few-open : {w : List ℕ} {i : ℕ} {o : List Open} {f : Content} → At w i (inRun o f ε) → length w ≤ 32768 → length o ≤ 10922
 unfolding posS
 few-open {w} {i} {o} {f} h s = omega (arith, three o (at-good h tt .0), at-place h tt, h .within)
-
-some-rows : (f : Content) (n : ℕ) → n ≡ 0 → eqb (contentRows f + n) 0 ≡ noElement f
-unfolding contentRows
-some-rows nothing n h = rw h refl
-some-rows (emptyElement f t m g) n h = ne-eqb (contentRows (emptyElement f t m g) + n) 0 (λ e. omega arith)
-some-rows (element f t m g i l k) n h = ne-eqb (contentRows (element f t m g i l k) + n) 0 (λ e. omega arith)
 
 -- a document's answer
 verdict : {w : List ℕ} {f : Content} {t : Bytes} {m d c p n : ℕ} → length w ≤ 32768 → Document w f t → m ≡ rows (shape f) → d ≡ depth (shape f) →
@@ -127,15 +205,11 @@ module _ {w S : List ℕ} {i x depth rows deep : ℕ} (k : Scanned w S i x depth
   from : i ≤ a
   from = run .span .passed .from
 
-  span : Span (runAt (level (k .o)) w i) w i a
-  span = rw (← (level-is (k .o)), ← (k .depth-is)) (run .span)
+  abbrev walked : Walked w i depth rows
+  walked = record { o = k .o; f = k .f; here = k .here; depth-is = k .depth-is; rows-are = k .rows-are }
 
-  at-run : At w a (inRun (k .o) (k .f) T)
-  at-run = run-walk (k .o) (k .f) (span .passed) (k .here)
-
-  made : n ≡ leafRows T
-  unfolding leafRows
-  made = run .makes
+  made-leaf : n ≡ leafRows T
+  made-leaf = made walked run
 
   made-few : n ≤ 1
   made-few = run .few
@@ -144,32 +218,18 @@ module _ {w S : List ℕ} {i x depth rows deep : ℕ} (k : Scanned w S i x depth
   top [] h = tt
   top (p ∷ o) h = h .0
 
-  outer-rows : depth ≡ 0 → rows + n ≡ contentRows (k .f) + n
-  unfolding rowsO
-  outer-rows d = go (k .o) (k .depth-is) (k .rows-are)
-    where
-      go : (o : List Open) → depth ≡ length o → rows ≡ rowsO o + contentRows (k .f) → rows + n ≡ contentRows (k .f) + n
-      go [] e r = omega (arith, r)
-      go (p ∷ o) e r = absurd (omega (arith, d, e))
-
   pub tagging : getD w a 0 ≡ 60 → Tagging w x depth (rows + n) a (k .o) (k .f) T
-  tagging h = record {
-    here = at-run;
-    less = h;
-    depth-is = k .depth-is;
-    top = top (k .o) (k .held);
-    none-yet = λ d. rw (outer-rows d) (some-rows (k .f) n (run .outside d));
-  }
+  tagging h = to-tag walked run (top (k .o) (k .held)) h
 
   -- bounds, where the tag ends at e
-  pub room-open : (e : ℕ) → OpenedTo w (a + 1) e (k .o) (k .f) T → depth < 10922
+  pub room-open : {n-end : ℕ} (e : ℕ) → OpenedTo w (a + 1) n-end e (k .o) (k .f) T → depth < 10922
   room-open e h = omega (arith, few-open (h .here) short, k .depth-is)
 
   pub room-close : depth ≤ 10922
   room-close = omega (arith, few-open (k .here) short, k .depth-is)
 
   -- what is kept
-  pub opens : (e : ℕ) → a + 1 < e → OpenedTo w (a + 1) e (k .o) (k .f) T → (d₁ d₂ : ℕ) → d₁ ≡ max deep (depth + n) → d₂ ≡ max d₁ (depth + 1) →
+  pub opens : {n-end : ℕ} (e : ℕ) → a + 1 < e → OpenedTo w (a + 1) n-end e (k .o) (k .f) T → (d₁ d₂ : ℕ) → d₁ ≡ max deep (depth + n) → d₂ ≡ max d₁ (depth + 1) →
       Scanned w (set S depth x) e (a + 1) (depth + 1) (rows + n + 1) d₂
   unfolding rowsO deepO contentRows contentDepth
   opens e l h d₁ d₂ is₁ is₂ = record {
@@ -184,12 +244,12 @@ module _ {w S : List ℕ} {i x depth rows deep : ℕ} (k : Scanned w S i x depth
     );
     room = length-set S depth x ∙ k .room;
     small = omega (arith, h .here .within);
-    rows-are = rw made (omega (arith, k .rows-are));
-    deep-is = is₂ ∙ rw (is₁, k .deep-is, k .depth-is, made) (max-open (deepO (k .o)) (length (k .o)) (contentDepth (k .f)) (leafRows T) (one-leaf T));
+    rows-are = rw made-leaf (omega (arith, k .rows-are));
+    deep-is = is₂ ∙ rw (is₁, k .deep-is, k .depth-is, made-leaf) (max-open (deepO (k .o)) (length (k .o)) (contentDepth (k .f)) (leafRows T) (one-leaf T));
     few = omega (arith, k .few, from, made-few);
   }
 
-  pub empties : (e : ℕ) → a + 1 < e → EmptyTo w e (k .o) (k .f) T → (d₁ d₂ : ℕ) → d₁ ≡ max deep (depth + n) → d₂ ≡ max d₁ (depth + 1) →
+  pub empties : {n-end : ℕ} (e : ℕ) → a + 1 < e → EmptyTo w (a + 1) n-end e (k .o) (k .f) T → (d₁ d₂ : ℕ) → d₁ ≡ max deep (depth + n) → d₂ ≡ max d₁ (depth + 1) →
       Scanned w S e x depth (rows + n + 1) d₂
   unfolding contentRows contentDepth
   empties e l h d₁ d₂ is₁ is₂ = record {
@@ -200,8 +260,8 @@ module _ {w S : List ℕ} {i x depth rows deep : ℕ} (k : Scanned w S i x depth
     held = k .held;
     room = k .room;
     small = k .small;
-    rows-are = rw made (omega (arith, k .rows-are));
-    deep-is = is₂ ∙ rw (is₁, k .deep-is, k .depth-is, made) (max-empty (deepO (k .o)) (length (k .o)) (contentDepth (k .f)) (leafRows T) (one-leaf T));
+    rows-are = rw made-leaf (omega (arith, k .rows-are));
+    deep-is = is₂ ∙ rw (is₁, k .deep-is, k .depth-is, made-leaf) (max-empty (deepO (k .o)) (length (k .o)) (contentDepth (k .f)) (leafRows T) (one-leaf T));
     few = omega (arith, k .few, from, made-few);
   }
 
@@ -228,50 +288,25 @@ module _ {w S : List ℕ} {i x depth rows deep : ℕ} (k : Scanned w S i x depth
             held = rw (is-y .0, ← z) (held .1);
             room = k .room;
             small = is-y .1;
-            rows-are = rw made (omega (arith, r));
-            deep-is = is₁ ∙ rw (m, d, made) (max-close (deepO o) (length o) (contentDepth (p .before)) (contentDepth (k .f)) (leafRows T));
+            rows-are = rw made-leaf (omega (arith, r));
+            deep-is = is₁ ∙ rw (m, d, made-leaf) (max-close (deepO o) (length o) (contentDepth (p .before)) (contentDepth (k .f)) (leafRows T));
             few = omega (arith, k .few, from, made-few);
           }
 
   -- WHAT IT ENDS WITH
-  refused : (getD w a 0 ≡ 60 → ⊥) → (length w ≤ a → depth ≡ 0 → 0 < rows + n → ⊥) → OutsideAt w a
-  unfolding runAt
-  refused b h = run-refused (k .o) (k .f) T at-run (λ q. final q (k .o) (k .depth-is)) (span .stop) (ne-eqb (getD w a 0) 60 b)
-    where
-      final : length w ≤ a → (o : List Open) → depth ≡ length o → Final (inRun o (k .f) T) → ⊥
-      final q [] d y =
-          let z : eqb (rows + n) 0 ≡ false = rw (outer-rows d) (some-rows (k .f) n (run .outside d) ∙ y) in
-          h q d (positive (rows + n) z)
-        where
-          positive : (m : ℕ) → eqb m 0 ≡ false → 0 < m
-          positive zero e = absurd (true≢false e)
-          positive (suc m) e = omega arith
-      final q (p ∷ o) d y = y
-
   whole : length w ≤ a → depth ≡ 0 → 0 < rows + n → {d₁ c p m : ℕ} → d₁ ≡ max deep (depth + n) → Done (rows + n) d₁ c p m → Verdict w c p m
-  unfolding deepO rowsO
-  whole q d r {d₁} {c} {p} {m} is₁ h = go (k .o) (k .depth-is) (ap (runs initial) (sym (take-all a w q)) ∙ at-run .is) (k .deep-is)
+  unfolding deepO
+  whole q d r {d₁} {c} {p} {m} is₁ h =
+      let D : Finished w (k .f) (rows + n) = finished walked run q d r in
+      verdict short (D .document) (D .rows-are) (is₁ ∙ level (k .o) (k .depth-is) (run .outside d) (k .deep-is) ∙ sym (shape-depth (k .f))) h
     where
-      has : noElement (k .f) ≡ false
-      has = sym (some-rows (k .f) n (run .outside d)) ∙ ne-eqb (contentRows (k .f) + n) 0 (λ e. omega (arith, outer-rows d, r, e))
-
-      go : (o : List Open) → depth ≡ length o → runs initial w ≡ inRun o (k .f) T → deep ≡ max (deepO o) (length o + contentDepth (k .f)) → Verdict w c p m
-      go [] e s u =
-          let D : (f : Content) × (t : Bytes) × Document w f t = accepted w (rw s has) in
-          let same : inRun [] (k .f) T ≡ inRun [] (D .0) (D .1) = sym s ∙ accepts (D .2) in
-          let f-is : k .f ≡ D .0 = cc in
-          verdict short (D .2)
-          (outer-rows d ∙ rw (run .outside d) (omega arith) ∙ ap contentRows f-is ∙ sym (shape-rows (D .0)))
-          (is₁ ∙ level (run .outside d) u ∙ ap contentDepth f-is ∙ sym (shape-depth (D .0)))
-          h
-        where
-          level : n ≡ 0 → deep ≡ max 0 (0 + contentDepth (k .f)) → max deep (depth + n) ≡ contentDepth (k .f)
-          level y z = omega (arith, y, z, d)
-      go (p ∷ o) e s u = absurd (omega (arith, d, e))
+      level : (o : List Open) → depth ≡ length o → n ≡ 0 → deep ≡ max (deepO o) (length o + contentDepth (k .f)) → max deep (depth + n) ≡ contentDepth (k .f)
+      level [] e y z = omega (arith, y, z, d)
+      level (p ∷ o) e y z = absurd (omega (arith, d, e))
 
   pub ends : (getD w a 0 ≡ 60 → ⊥) → {d₁ c p m : ℕ} → d₁ ≡ max deep (depth + n) → Last (length w) a depth (rows + n) d₁ c p m → Verdict w c p m
   ends b is₁ (ended q d r h) = whole q d r is₁ h
-  ends b is₁ (early h) = outside short (refused b h)
+  ends b is₁ (early h) = outside short (refused walked run b h)
 
 -- code 3
 pub outside-is : {w : List ℕ} {q c p n : ℕ} → length w ≤ 32768 → OutsideAt w q → (c ≡ 3) × (p ≡ q) × (n ≡ 0) → Verdict w c p n

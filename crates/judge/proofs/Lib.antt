@@ -4,3 +4,5 @@ pub mod Machine
 pub mod Turns
 pub mod Judging
 pub mod OneVerdict
+pub mod Classing
+pub mod Counting

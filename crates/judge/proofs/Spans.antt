@@ -1,15 +1,16 @@
 -- The laws of classes and of the places where tokens end.
 use mathlib.Core.Path.{_≡_, refl, sym, ap, _∙_}
-use mathlib.Core.Bool.{Bool, true, false, cond, _&&_, _||_, not}
+use mathlib.Core.Bool.{Bool, true, false, cond, _&&_, _||_, not, true≢false}
 use mathlib.Core.List.{List}
 use Prim.Native.Nat.{ℕ, zero, suc, _+_, _-_, _≤_, _<_}
 use native.Mathlib.Omega.{arith}
 use lib.Dec.{eqb, ltb}
 use lib.ListN.{length, getD}
+use borrow.Author.Count.{below-more}
 use borrow.Author.Tests.{eqb-true, eq-eqb, ne-eqb, lt-ltb, le-ltb, ltb-true, ltb-false}
 use Rattle.grammar.specs.Classes.{classOf, within, white, nameStart, nameByte, text}
 use Rattle.grammar.specs.Grammar.{Bytes, inner, mayFollow, brackets}
-use Rattle.judge.specs.Tokens.{Passed, Span, bytes, runAt, textAt, sameAt}
+use Rattle.judge.specs.Tokens.{Passed, Span, SpanTo, bytes, plainAt, runAt, textAt, sameAt}
 
 -- A CLASS c OF A BYTE b TELLS
 module _ (c b : ℕ) (is : c ≡ classOf b) where
@@ -72,6 +73,32 @@ module _ (c b : ℕ) (is : c ≡ classOf b) where
       go true = refl
       go false = refl
 
+-- the three bytes of white space
+pub white-is : (b : ℕ) → white b ≡ ((eqb b 9 || eqb b 10) || eqb b 32)
+unfolding white classOf
+white-is b =
+    go (ltb 127 b) refl (within 65 90 b || within 97 122 b || eqb b 95 || eqb b 58) (within 48 57 b || eqb b 45 || eqb b 46) (eqb b 60 || eqb b 38 || ltb b 32) (eqb b 62)
+  where
+    other-class : (w x y z : Bool) → eqb (cond w 5 (cond x 4 (cond y 0 (cond z 1 2)))) 3 ≡ false
+    other-class true x y z = refl
+    other-class false true y z = refl
+    other-class false false true z = refl
+    other-class false false false true = refl
+    other-class false false false false = refl
+
+    one-of : (p q r w x y z : Bool) → eqb (cond (p || q || r) 3 (cond w 5 (cond x 4 (cond y 0 (cond z 1 2))))) 3 ≡ ((p || q) || r)
+    one-of true q r w x y z = refl
+    one-of false true r w x y z = refl
+    one-of false false true w x y z = refl
+    one-of false false false w x y z = other-class w x y z
+
+    go : (u : Bool) → ltb 127 b ≡ u → (w x y z : Bool) →
+        eqb (cond u 0 (cond (eqb b 9 || eqb b 10 || eqb b 32) 3 (cond w 5 (cond x 4 (cond y 0 (cond z 1 2)))))) 3 ≡ ((eqb b 9 || eqb b 10) || eqb b 32)
+    go true e w x y z =
+        let h : 127 < b = ltb-true 127 b e in
+        simp (ne-eqb b 9 (λ q. omega (arith, q)), ne-eqb b 10 (λ q. omega (arith, q)), ne-eqb b 32 (λ q. omega (arith, q)))
+    go false e w x y z = one-of (eqb b 9) (eqb b 10) (eqb b 32) w x y z
+
 pub few-classes : (b : ℕ) → classOf b ≤ 5
 unfolding classOf
 few-classes b = go (ltb 127 b) (eqb b 9 || eqb b 10 || eqb b 32) (within 65 90 b || within 97 122 b || eqb b 95 || eqb b 58) (within 48 57 b || eqb b 45 || eqb b 46) (eqb b 60 || eqb b 38 || ltb b 32) (eqb b 62)
@@ -100,8 +127,51 @@ passed-more {test} {w} {a} {i} h p e = record {
     go k q r true u = h .each k q (ltb-true k i u)
     go k q r false u = let z : k ≡ i = omega (arith, ltb-false k i u) in rw z e
 
+-- many places at once
+pub passed-block : {test : ℕ → Bool} {w : List ℕ} {a i : ℕ} (n : ℕ) → Passed test w a i → i + n ≤ length w → ((k : ℕ) → k < n → test (i + k) ≡ true) → Passed test w a (i + n)
+passed-block {test} {w} {a} {i} n h p e = record { from = omega (arith, h .from); within = p; each = λ k q r. go k q r (ltb k i) refl }
+  where
+    go : (k : ℕ) → a ≤ k → k < i + n → (t : Bool) → ltb k i ≡ t → test k ≡ true
+    go k q r true u = h .each k q (ltb-true k i u)
+    go k q r false u =
+        let z : i + (k - i) ≡ k = omega (arith, ltb-false k i u) in
+        rw z at (e (k - i) (omega (arith, ltb-false k i u)))
+
+both-left : (a b : Bool) → (a && b) ≡ true → a ≡ true
+both-left true b h = refl
+both-left false b h = h
+
+both-right : (a b : Bool) → (a && b) ≡ true → b ≡ true
+both-right true b h = h
+both-right false b h = absurd (true≢false (sym h))
+
+-- tests that are joined without a branch
+pub all-more : (test : ℕ → Bool) (i n : ℕ) (all one : Bool) → (all ≡ true → (k : ℕ) → k < n → test (i + k) ≡ true) → one ≡ test (i + n) →
+    (all && one) ≡ true → (k : ℕ) → k < n + 1 → test (i + k) ≡ true
+all-more test i n all one h e t = below-more (λ (k : ℕ). test (i + k) ≡ true) n (h (both-left all one t)) (sym e ∙ both-right all one t)
+
+pub passed-then : {test other : ℕ → Bool} {w : List ℕ} {a b r : ℕ} → Passed test w a b → Passed other w b r → ((k : ℕ) → other k ≡ true → test k ≡ true) → Passed test w a r
+passed-then {test} {other} {w} {a} {b} {r} h j e = record { from = omega (arith, h .from, j .from); within = j .within; each = λ k q u. go k q u (ltb k b) refl }
+  where
+    go : (k : ℕ) → a ≤ k → k < r → (t : Bool) → ltb k b ≡ t → test k ≡ true
+    go k q u true v = h .each k q (ltb-true k b v)
+    go k q u false v = e k (j .each k (ltb-false k b v) u)
+
+pub span-then : {test : ℕ → Bool} {w : List ℕ} {a b r : ℕ} → Passed test w a b → Span test w b r → Span test w a r
+span-then h j = record { passed = passed-then h (j .passed) (λ k e. e); stop = j .stop }
+
+-- up to a limit
+pub stops-to : {test : ℕ → Bool} {w : List ℕ} {a limit i : ℕ} → Passed test w a i → i ≤ limit → test i ≡ false → SpanTo test w a limit i
+stops-to h l e = record { passed = h; below = l; stop = λ p. e }
+
+pub at-limit : {test : ℕ → Bool} {w : List ℕ} {a limit i : ℕ} → Passed test w a i → i ≤ limit → limit ≤ i → SpanTo test w a limit i
+at-limit h l e = record { passed = h; below = l; stop = λ p. absurd (omega arith) }
+
 pub stops : {test : ℕ → Bool} {w : List ℕ} {a i : ℕ} → Passed test w a i → test i ≡ false → Span test w a i
 stops h e = record { passed = h; stop = λ p. e }
+
+pub stopped-early : {test : ℕ → Bool} {w : List ℕ} {a limit i : ℕ} → SpanTo test w a limit i → i < limit → Span test w a i
+stopped-early h l = stops (h .passed) (h .stop l)
 
 pub at-end : {test : ℕ → Bool} {w : List ℕ} {a i : ℕ} → Passed test w a i → length w ≤ i → Span test w a i
 at-end h e = record { passed = h; stop = λ p. absurd (omega arith) }
@@ -155,3 +225,8 @@ module _ (w : List ℕ) (a k c : ℕ) (is : c ≡ classOf (getD w k 0)) where
   pub text-at-bracket : c ≡ 1 → textAt w a k ≡ not (brackets (bytes w a (k - a)))
   unfolding runAt
   text-at-bracket h = text-bracket c (getD w k 0) is (bytes w a (k - a)) h
+
+-- plain text is text
+pub plain-text : (w : List ℕ) (a k : ℕ) → plainAt w k ≡ true → textAt w a k ≡ true
+unfolding plainAt
+plain-text w a k h = text-at-yes w a k (classOf (getD w k 0)) refl (ltb-true 1 (classOf (getD w k 0)) h)

@@ -17,7 +17,7 @@ use Rattle.judge.specs.declared.tags.Tag.{Tag}
 use Rattle.judge.specs.declared.tags.Tag.the-variants.{Refused, Opens, Empty, Closes}
 use Rattle.judge.specs.Tokens.{Passed, Span, bytes, whiteAt, nameAt, levelOf, runAt, textAt, sameAt}
 use Rattle.judge.specs.Tags.{RunTo, Named, closed, Does, Ends, Started, Ended, Top, Tagging, Tagged}
-use Rattle.judge.proofs.Spans.{text-yes, name-yes}
+use Rattle.judge.proofs.Spans.{text-yes, name-yes, text-at-not}
 use Rattle.judge.proofs.Machine.{at-byte, at-same, there, refuse, start-refused, opens, empties, slash-refused, space-refused, end-refused, closes, close-refused}
 
 -- A RUN
@@ -84,6 +84,14 @@ module _ {w : List ℕ} {depth a m r : ℕ} (d : depth ≡ 0 → ⊥) (h : Span 
       let e : inked (bytes w a (r - a)) ≡ false = unmarked w a (r - a) (λ j q. h .passed .each (a + j) (omega arith) (omega (arith, k .passed .from))) in
       record { span = rw (← (inner-level depth d)) k; makes = simp e; outside = λ q. refl; few = omega arith }
 
+-- white space up to a tag
+pub white-only : {w : List ℕ} (depth a : ℕ) {m : ℕ} → Span (whiteAt w) w a m → getD w m 0 ≡ 60 → RunTo w depth a m 0
+unfolding classOf
+white-only zero a h e = outer-run refl h
+white-only {w} (suc n) a {m} h e =
+    inner-space (λ q. omega (arith, q)) h
+    (record { passed = white-text (h .passed); stop = λ p. text-at-not w a m (classOf (getD w m 0)) refl (ap classOf e) }) (omega arith)
+
 -- A START TAG
 pub name-there : (w : List ℕ) (a : ℕ) → nameStart (getD w a 0) ≡ true → a < length w
 unfolding nameStart classOf
@@ -102,13 +110,16 @@ unfolding bytes
 count w a zero = refl
 count w a (suc n) = ap suc (count w a n)
 
+name-ends : (w : List ℕ) (a e : ℕ) → a + 1 ≤ e → e ≡ a + # (bytes w a (e - a))
+name-ends w a e h = sym (ap (λ (k : ℕ). a + k) (count w a (e - a)) ∙ omega arith)
+
 pub start-none : {w : List ℕ} {a : ℕ} → nameStart (getD w a 0) ≡ false → Started w a (Refused a)
 start-none e o f t h k = start-refused o f t h e k
 
 module _ {w : List ℕ} {a e s : ℕ} (first : nameStart (getD w a 0) ≡ true) (name : Span (nameAt w) w (a + 1) e) (space : Span (whiteAt w) w e s) where
   name-at : s < length w → Named w a (bytes w a (e - a))
   name-at p =
-      let z : a + # (bytes w a (e - a)) ≡ e = ap (λ (k : ℕ). a + k) (count w a (e - a)) ∙ omega (arith, name .passed .from) in
+      let z : a + # (bytes w a (e - a)) ≡ e = sym (name-ends w a e (name .passed .from)) in
       record {
         is = ap (bytes w a) (sym (count w a (e - a)));
         span = rw z (record {
@@ -125,23 +136,26 @@ module _ {w : List ℕ} {a e s : ℕ} (first : nameStart (getD w a 0) ≡ true) 
   before : a < s
   before = omega (arith, name .passed .from, space .passed .from)
 
-  pub start-opens : getD w s 0 ≡ 62 → Started w a (Opens (s + 1))
+  pub start-opens : getD w s 0 ≡ 62 → Started w a (Opens e (s + 1))
   start-opens h o f t k q = (
     omega (arith, before),
     record {
       name = bytes w a (e - a);
       space = bytes w e (s - e);
       named = name-at (there w s 61 h);
+      long = name-ends w a e (name .passed .from);
       here = opens o f t k first (name-there w a first) name space h;
     },
   )
 
-  pub start-empties : getD w s 0 ≡ 47 → getD w (s + 1) 0 ≡ 62 → Started w a (Empty (s + 2))
+  pub start-empties : getD w s 0 ≡ 47 → getD w (s + 1) 0 ≡ 62 → Started w a (Empty e (s + 2))
   start-empties h j o f t k q = (
     omega (arith, before),
     record {
       name = bytes w a (e - a);
       space = bytes w e (s - e);
+      named = name-at (there w s 46 h);
+      long = name-ends w a e (name .passed .from);
       here = empties o f t k first (name-there w a first) name space h j;
     },
   )
@@ -168,8 +182,8 @@ module _ {w : List ℕ} {x a e : ℕ} (same : Span (sameAt w x a) w a e) where
 -- A TAG
 does : (w : List ℕ) (a b : ℕ) (o : List Open) (f : Content) (t : Bytes) → b ≤ a → (r : Tag) → Ends w a o f t r → Does w b o f t r
 does w a b o f t h (Refused p) k = k
-does w a b o f t h (Opens e) k = absurd k
-does w a b o f t h (Empty e) k = absurd k
+does w a b o f t h (Opens e r) k = absurd k
+does w a b o f t h (Empty e r) k = absurd k
 does w a b o f t h (Closes e) k = (omega (arith, k .0), k .1)
 
 module _ {w : List ℕ} {x depth rows a : ℕ} where
@@ -184,7 +198,7 @@ module _ {w : List ℕ} {x depth rows a : ℕ} where
       go (p ∷ o) e k = absurd (omega (arith, d, e))
 
   module _ {o : List Open} {f : Content} {t : Bytes} (h : Tagging w x depth rows a o f t) where
-    less : (depth ≡ 0 → rows ≡ 0) → At w (a + 1) (afterLess o f t)
+    pub less : (depth ≡ 0 → rows ≡ 0) → At w (a + 1) (afterLess o f t)
     less r = at-byte 59 _ (h .here) (h .less) (simp (may o (h .depth-is)))
       where
         may : (o : List Open) → depth ≡ length o → mayOpen (level o) f ≡ true

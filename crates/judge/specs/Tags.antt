@@ -35,29 +35,34 @@ pub data Closed (w : List ℕ) (e : ℕ) : List Open → Content → Bytes → T
   closed : {p : Open} {o : List Open} {f : Content} {t : Bytes} (h : Bytes) →
       At w e (inRun o (element (p .before) (p .run) (p .name) (p .space) f t h) ε) → Closed w e (p ∷ o) f t
 
-pub record OpenedTo (w : List ℕ) (a e : ℕ) (o : List Open) (f : Content) (t : Bytes) : Type 0 where
+-- the start tag whose name stands from a to e ends at r, and leaves its element open
+pub record OpenedTo (w : List ℕ) (a e r : ℕ) (o : List Open) (f : Content) (t : Bytes) : Type 0 where
   pub name : Bytes
   pub space : Bytes
   pub named : Named w a name
-  pub here : At w e (inRun (opened f t name space ∷ o) nothing ε)
+  pub long : e ≡ a + # name
+  pub here : At w r (inRun (opened f t name space ∷ o) nothing ε)
 
-pub record EmptyTo (w : List ℕ) (e : ℕ) (o : List Open) (f : Content) (t : Bytes) : Type 0 where
+-- .. or is its whole element
+pub record EmptyTo (w : List ℕ) (a e r : ℕ) (o : List Open) (f : Content) (t : Bytes) : Type 0 where
   pub name : Bytes
   pub space : Bytes
-  pub here : At w e (inRun o (emptyElement f t name space) ε)
+  pub named : Named w a name
+  pub long : e ≡ a + # name
+  pub here : At w r (inRun o (emptyElement f t name space) ε)
 
 -- what the tag does whose < stands before a, in the open elements o, behind the content f and the run t
 abbrev pub Does : List ℕ → ℕ → List Open → Content → Bytes → Tag → Type 0
 Does w a o f t (Refused p) = OutsideAt w p
-Does w a o f t (Opens e) = (a < e) × OpenedTo w a e o f t
-Does w a o f t (Empty e) = (a < e) × EmptyTo w e o f t
+Does w a o f t (Opens e r) = (a < r) × OpenedTo w a e r o f t
+Does w a o f t (Empty e r) = (a < r) × EmptyTo w a e r o f t
 Does w a o f t (Closes e) = (a < e) × Closed w e o f t
 
 -- what the tag does whose </ stands before a
 abbrev pub Ends : List ℕ → ℕ → List Open → Content → Bytes → Tag → Type 0
 Ends w a o f t (Refused p) = OutsideAt w p
-Ends w a o f t (Opens e) = ⊥
-Ends w a o f t (Empty e) = ⊥
+Ends w a o f t (Opens e r) = ⊥
+Ends w a o f t (Empty e r) = ⊥
 Ends w a o f t (Closes e) = (a < e) × Closed w e o f t
 
 -- the byte at a may be a / only where no element is open

@@ -2,15 +2,29 @@
 use mathlib.Core.Path.{_≡_}
 use mathlib.Core.Bool.{Bool, true, false, cond}
 use mathlib.Core.List.{List}
-use Prim.Native.Nat.{ℕ, zero, suc, _+_, _-_, _≤_, _<_}
-use lib.Dec.{eqb}
+use Prim.Native.Nat.{ℕ, zero, suc, _+_, _-_, _*_, _≤_, _<_}
+use lib.Dec.{eqb, ltb}
 use lib.ListN.{length, getD}
 use Rattle.grammar.specs.Classes.{classOf, white, nameByte}
 use Rattle.grammar.specs.Grammar.{Bytes, ε, _▸_, mayFollow, Level, outer, inner}
 
 -- a table that has the class of each ASCII code
-pub record Classed (table : List ℕ) : Type 0 where
+pub record Coded (table : List ℕ) : Type 0 where
   pub each : (k : ℕ) → k < 128 → getD table k 0 ≡ classOf k
+
+-- 1 for a class whose bytes stop plain text: those of no text, and >
+unfoldable pub stopOf : ℕ → ℕ
+stopOf c = cond (ltb 1 c) 0 1
+
+-- the classes of all bytes
+pub record Spread (table : List ℕ) : Type 0 where
+  pub long : length table ≡ 512
+  pub each : (k : ℕ) → k < 256 → getD table k 0 ≡ classOf k
+
+-- .. and behind them which bytes stop plain text
+pub record Classed (table : List ℕ) : Type 0 where
+  pub each : (k : ℕ) → k < 256 → getD table k 0 ≡ classOf k
+  pub stops : (k : ℕ) → k < 256 → getD table (256 + k) 0 ≡ stopOf (classOf k)
 
 -- n bytes of w from the place a on
 unfoldable pub bytes : List ℕ → ℕ → ℕ → Bytes
@@ -27,6 +41,12 @@ pub record Passed (test : ℕ → Bool) (w : List ℕ) (a r : ℕ) : Type 0 wher
 pub record Span (test : ℕ → Bool) (w : List ℕ) (a r : ℕ) : Type 0 where
   pub passed : Passed test w a r
   pub stop : r < length w → test r ≡ false
+
+-- .. or the limit
+pub record SpanTo (test : ℕ → Bool) (w : List ℕ) (a limit r : ℕ) : Type 0 where
+  pub passed : Passed test w a r
+  pub below : r ≤ limit
+  pub stop : r < limit → test r ≡ false
 
 abbrev pub whiteAt : List ℕ → ℕ → Bool
 whiteAt w k = white (getD w k 0)
@@ -45,6 +65,19 @@ runAt l w a k = mayFollow l (bytes w a (k - a)) (getD w k 0)
 
 abbrev pub textAt : List ℕ → ℕ → ℕ → Bool
 textAt w a k = runAt inner w a k
+
+-- 1 where the byte at k stops plain text
+unfoldable pub stopAt : List ℕ → ℕ → ℕ
+stopAt w k = stopOf (classOf (getD w k 0))
+
+-- n binary digits from the one at i on, the first the lowest, and then those of the number m
+unfoldable pub digits : (ℕ → ℕ) → ℕ → ℕ → ℕ → ℕ
+digits s i zero m = m
+digits s i (suc n) m = s i + 2 * digits s (i + 1) n m
+
+-- the byte at k is text whatever stands before it
+unfoldable pub plainAt : List ℕ → ℕ → Bool
+plainAt w k = ltb 1 (classOf (getD w k 0))
 
 -- the byte at k goes on with the name that starts at name and stands again from a on
 unfoldable pub sameAt : List ℕ → ℕ → ℕ → ℕ → Bool

@@ -2,7 +2,8 @@
 ghost use mathlib.Core.Path.{_≡_};
 ghost use lib.ListN.{getD};
 ghost use Rattle.grammar.specs.Classes.{classOf};
-ghost use Rattle.judge.specs.Tokens.{Classed};
+ghost use Prim.Native.Nat.{_≤_};
+ghost use Rattle.judge.specs.Tokens.{Coded, Spread, Classed, stopOf};
 
 // 0 none, 1 `>`, 2 other text, 3 white space, 4 in a name, 5 first in a name
 pub const CLASS: [u8; 128] = [
@@ -136,19 +137,61 @@ pub const CLASS: [u8; 128] = [
     2,
 ];
 
-// A constant array is built anew wherever it is named, so it is named once a document and lent from there.
-pub fn table() -> [u8; 128]
-    ensures { λ r. ⌜ Classed r ⌝ }
+// A constant array is built anew wherever it is named, so it is named once a document.
+fn codes() -> [u8; 128]
+    ensures { λ r. ⌜ Coded r ⌝ }
 {
     CLASS
 }
 
-pub fn class_of(class: &[u8; 128], b: u8) -> u8
+// 1 for a class whose bytes stop plain text: the byte is none of a text, or it is `>`, which may not follow `]]`.
+fn stop_of(c: u8) -> u8
+    ensures { λ r. ⌜ r ≡ stopOf c ⌝ }
+{
+    if 1 < c { 0 } else { 1 }
+}
+
+// The class of each of the 256 bytes, which no byte over 127 has, and room for as many numbers more.
+fn spread() -> [u8; 512]
+    ensures { λ r. ⌜ Spread r ⌝ }
+{
+    let codes = codes();
+    let mut class = [0u8; 512];
+    let mut k: usize = 0;
+    while k < 128 {
+        class[k] = codes[k];
+        k += 1;
+    }
+    class
+}
+
+// The table that is lent to whoever looks at bytes: the class of each byte, and then whether the byte stops plain text.
+pub fn table() -> [u8; 512]
+    ensures { λ r. ⌜ Classed r ⌝ }
+{
+    let mut class = spread();
+    let mut k: usize = 0;
+    while k < 256 {
+        class[256 + k] = stop_of(class[k]);
+        k += 1;
+    }
+    class
+}
+
+pub fn class_of(class: &[u8; 512], b: u8) -> u8
     requires { ⌜ Classed (now class) ⌝ }
     ensures { λ r. ⌜ r ≡ classOf b ⌝ }
 {
     let i = b as usize;
-    if i < 128 { class[i] } else { 0 }
+    class[i]
+}
+
+pub fn stops(class: &[u8; 512], b: u8) -> u32
+    requires { ⌜ Classed (now class) ⌝ }
+    ensures { λ r. ⌜ (r ≡ stopOf (classOf b)) × (r ≤ 1) ⌝ }
+{
+    let i = 256 + b as usize;
+    class[i] as u32
 }
 
 // The byte at k, and behind the end 0, which no document has.

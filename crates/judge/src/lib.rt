@@ -23,7 +23,8 @@ pub struct Run {
     pub rows: usize,
 }
 
-pub fn run_end(document: &[u8], class: &[u8; 128], depth: usize, start: usize) -> Run
+// Byte by byte: the judge is asked only of documents beyond the limits, and what is called once is put in line.
+pub fn run_end(document: &[u8], class: &[u8; 512], depth: usize, start: usize) -> Run
     requires { ⌜ Classed (now class) × (start ≤ length (now document)) ⌝ }
     ensures { λ r. ⌜ RunTo (now (document .entry)) depth start (r .end) (r .rows) ⌝ }
 {
@@ -60,7 +61,7 @@ pub struct Judged {
     pub rows: u32,
 }
 
-fn outside(place: usize) -> Judged
+pub fn outside(place: usize) -> Judged
     requires { ⌜ place ≤ 32768 ⌝ }
     ensures { λ r. ⌜ (r .code ≡ 3) × (r .place ≡ place) × (r .rows ≡ 0) ⌝ }
 {
@@ -115,7 +116,7 @@ fn last(length: usize, at: usize, depth: usize, rows: usize, deep: usize) -> Jud
 
 // The pass. `name` is where the innermost open element's name starts, `names` has those of the elements around it.
 // An open element has three bytes or more, so 32,768 bytes have room for 10,922 of them.
-fn pass(document: &[u8], class: &[u8; 128]) -> Judged
+fn pass(document: &[u8], class: &[u8; 512]) -> Judged
     requires { ⌜ Classed (now class) × (length (now document) ≤ 32768) ⌝ }
     ensures { λ r. ⌜ Verdict (now (document .entry)) (r .code) (r .place) (r .rows) ⌝ }
 {
@@ -136,7 +137,7 @@ fn pass(document: &[u8], class: &[u8; 128]) -> Judged
         }
         match next_tag(document, class, name, depth, rows, at) {
             Tag::Refused(place) => return outside(place),
-            Tag::Opens(next) => {
+            Tag::Opens(_, next) => {
                 names[depth] = name as u16;
                 name = at + 1;
                 depth = depth + 1;
@@ -144,7 +145,7 @@ fn pass(document: &[u8], class: &[u8; 128]) -> Judged
                 deep = larger(deep, depth);
                 i = next;
             }
-            Tag::Empty(next) => {
+            Tag::Empty(_, next) => {
                 rows = rows + 1;
                 deep = larger(deep, depth + 1);
                 i = next;

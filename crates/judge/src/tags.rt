@@ -9,16 +9,16 @@ use super::tokens::name_end;
 use super::tokens::same_end;
 use super::tokens::white_end;
 
-// Each holds a place: that of code 3, or that behind the tag.
+// Each holds a place: that of code 3, or that behind the tag; a start tag also where its name ends.
 pub enum Tag {
     Refused(usize),
-    Opens(usize),
-    Empty(usize),
+    Opens(usize, usize),
+    Empty(usize, usize),
     Closes(usize),
 }
 
 // The tag whose `<` stands before `at`.
-fn start_tag(document: &[u8], class: &[u8; 128], at: usize) -> Tag
+pub fn start_tag(document: &[u8], class: &[u8; 512], at: usize) -> Tag
     requires { ⌜ Classed (now class) × (at ≤ length (now document)) ⌝ }
     ensures { λ r. ⌜ Started (now (document .entry)) at r ⌝ }
 {
@@ -29,11 +29,11 @@ fn start_tag(document: &[u8], class: &[u8; 128], at: usize) -> Tag
     let shut = white_end(document, class, end);
     let b = byte_at(document, shut);
     if b == 62 {
-        return Tag::Opens(shut + 1);
+        return Tag::Opens(end, shut + 1);
     }
     if b == 47 {
         if byte_at(document, shut + 1) == 62 {
-            return Tag::Empty(shut + 2);
+            return Tag::Empty(end, shut + 2);
         }
         return Tag::Refused(shut + 1);
     }
@@ -41,7 +41,7 @@ fn start_tag(document: &[u8], class: &[u8; 128], at: usize) -> Tag
 }
 
 // The end tag whose `</` stands before `at`; the innermost open element's name starts at `name`.
-fn end_tag(document: &[u8], class: &[u8; 128], name: usize, at: usize) -> Tag
+pub fn end_tag(document: &[u8], class: &[u8; 512], name: usize, at: usize) -> Tag
     requires { ⌜ Classed (now class) × (at ≤ length (now document)) × (name < 65536) ⌝ }
     ensures { λ r. ⌜ Ended (now (document .entry)) name at r ⌝ }
 {
@@ -60,7 +60,7 @@ fn end_tag(document: &[u8], class: &[u8; 128], name: usize, at: usize) -> Tag
 // The tag whose `<` stands at `at`, in `depth` open elements and behind `rows` rows.
 pub fn next_tag(
     document: &[u8],
-    class: &[u8; 128],
+    class: &[u8; 512],
     name: usize,
     depth: usize,
     rows: usize,

@@ -1,18 +1,22 @@
 // The token loops: each goes on while the bytes stay in the token, and answers where it ends.
 ghost use mathlib.Core.Path.{_≡_};
-ghost use Prim.Native.Nat.{_-_, _≤_, _<_};
+ghost use mathlib.Core.Bool.{true};
+ghost use Prim.Native.Nat.{ℕ, _+_, _-_, _≤_, _<_, min};
 ghost use lib.ListN.{length};
+ghost use Rattle.grammar.specs.Classes.{white};
 ghost use Rattle.grammar.specs.Grammar.{brackets};
-ghost use Rattle.judge.specs.Tokens.{Classed, Passed, Span, bytes, whiteAt, nameAt, textAt, sameAt};
+ghost use Rattle.judge.specs.Tokens.{Classed, Passed, Span, SpanTo, bytes, digits, stopAt, whiteAt, nameAt, plainAt, textAt, sameAt};
 use super::class::byte_at;
 use super::class::class_of;
+use super::class::stops;
 
-pub fn white_end(document: &[u8], class: &[u8; 128], from: usize) -> usize
-    requires { ⌜ Classed (now class) × (from ≤ length (now document)) ⌝ }
-    ensures { λ r. ⌜ Span (whiteAt (now (document .entry))) (now (document .entry)) from r ⌝ }
+// The first place before `limit` that is not white, or `limit`.
+fn white_to(document: &[u8], class: &[u8; 512], from: usize, limit: usize) -> usize
+    requires { ⌜ Classed (now class) × (from ≤ limit) × (limit ≤ length (now document)) ⌝ }
+    ensures { λ r. ⌜ SpanTo (whiteAt (now (document .entry))) (now (document .entry)) from limit r ⌝ }
 {
     let mut i = from;
-    while i < document.len() {
+    while i < limit {
         if class_of(class, document[i]) != 3 {
             return i;
         }
@@ -21,7 +25,68 @@ pub fn white_end(document: &[u8], class: &[u8; 128], from: usize) -> usize
     i
 }
 
-pub fn name_end(document: &[u8], class: &[u8; 128], from: usize) -> usize
+pub fn white_end(document: &[u8], class: &[u8; 512], from: usize) -> usize
+    requires { ⌜ Classed (now class) × (from ≤ length (now document)) ⌝ }
+    ensures { λ r. ⌜ Span (whiteAt (now (document .entry))) (now (document .entry)) from r ⌝ }
+{
+    white_to(document, class, from, document.len())
+}
+
+fn is_white(b: u8) -> bool
+    ensures { λ r. ⌜ r ≡ white b ⌝ }
+{
+    (b == 9) | (b == 10) | (b == 32)
+}
+
+// Are the 16 bytes from i on white? The compiler makes one comparison of vectors of the loop.
+fn blank(document: &[u8], i: usize) -> bool
+    requires { ⌜ i + 16 ≤ length (now document) ⌝ }
+    ensures { λ r. ⌜ (r ≡ true → (k : ℕ) → k < 16 → whiteAt (now (document .entry)) (i + k) ≡ true) ⌝ }
+{
+    let mut all = true;
+    let mut k: usize = 0;
+    while k < 16 {
+        all = all & is_white(document[i + k]);
+        k += 1;
+    }
+    all
+}
+
+// White space, sixteen bytes at a time.
+fn blank_end(document: &[u8], from: usize) -> usize
+    requires { ⌜ from ≤ length (now document) ⌝ }
+    ensures { λ r. ⌜ Passed (whiteAt (now (document .entry))) (now (document .entry)) from r ⌝ }
+{
+    let mut i = from;
+    while i + 16 <= document.len() {
+        if !blank(document, i) {
+            return i;
+        }
+        i += 16;
+    }
+    i
+}
+
+fn least(a: usize, b: usize) -> usize
+    ensures { λ r. ⌜ r ≡ min a b ⌝ }
+{
+    if a < b { a } else { b }
+}
+
+// White space between tags, which may be long; mostly it is short.
+pub fn long_white_end(document: &[u8], class: &[u8; 512], from: usize) -> usize
+    requires { ⌜ Classed (now class) × (from ≤ length (now document)) ⌝ }
+    ensures { λ r. ⌜ Span (whiteAt (now (document .entry))) (now (document .entry)) from r ⌝ }
+{
+    let near = least(from + 16, document.len());
+    let end = white_to(document, class, from, near);
+    if end < near {
+        return end;
+    }
+    white_end(document, class, blank_end(document, end))
+}
+
+pub fn name_end(document: &[u8], class: &[u8; 512], from: usize) -> usize
     requires { ⌜ Classed (now class) × (from ≤ length (now document)) ⌝ }
     ensures { λ r. ⌜ Span (nameAt (now (document .entry))) (now (document .entry)) from r ⌝ }
 {
@@ -49,7 +114,7 @@ fn bracketed(document: &[u8], start: usize, k: usize) -> bool
     false
 }
 
-fn text_at(document: &[u8], class: &[u8; 128], start: usize, k: usize) -> bool
+fn text_at(document: &[u8], class: &[u8; 512], start: usize, k: usize) -> bool
     requires { ⌜ Classed (now class) × (start ≤ k) × (k < length (now document)) ⌝ }
     ensures { λ r. ⌜ r ≡ textAt (now (document .entry)) start k ⌝ }
 {
@@ -63,8 +128,47 @@ fn text_at(document: &[u8], class: &[u8; 128], start: usize, k: usize) -> bool
     !bracketed(document, start, k)
 }
 
+// Which of the 4 bytes from i on stop plain text: a binary digit for each, the first the lowest.
+fn four_stops(document: &[u8], class: &[u8; 512], i: usize) -> u32
+    requires { ⌜ Classed (now class) × (i + 4 ≤ length (now document)) ⌝ }
+    ensures { λ r. ⌜ (r ≡ digits (stopAt (now (document .entry))) i 4 0) × (r < 16) ⌝ }
+{
+    let a = stops(class, document[i]);
+    let b = stops(class, document[i + 1]);
+    let c = stops(class, document[i + 2]);
+    let d = stops(class, document[i + 3]);
+    a + 2 * (b + 2 * (c + 2 * d))
+}
+
+// How many of the 8 bytes from i on are plain text, up to the first that is not.
+fn plain_count(document: &[u8], class: &[u8; 512], i: usize) -> usize
+    requires { ⌜ Classed (now class) × (i + 8 ≤ length (now document)) ⌝ }
+    ensures { λ r. ⌜ (r ≤ 8) × ((k : ℕ) → k < r → plainAt (now (document .entry)) (i + k) ≡ true) ⌝ }
+{
+    let near = four_stops(document, class, i);
+    let far = four_stops(document, class, i + 4);
+    let found = near + 16 * far + 256;
+    u32::trailing_zeros(found) as usize
+}
+
+// Plain text, eight bytes at a time.
+fn plain_end(document: &[u8], class: &[u8; 512], from: usize) -> usize
+    requires { ⌜ Classed (now class) × (from ≤ length (now document)) ⌝ }
+    ensures { λ r. ⌜ Passed (plainAt (now (document .entry))) (now (document .entry)) from r ⌝ }
+{
+    let mut i = from;
+    while i + 8 <= document.len() {
+        let count = plain_count(document, class, i);
+        if count < 8 {
+            return i + count;
+        }
+        i += 8;
+    }
+    i
+}
+
 // The end of the run that starts at `start` and is text up to `from`.
-pub fn text_end(document: &[u8], class: &[u8; 128], start: usize, from: usize) -> usize
+pub fn text_end(document: &[u8], class: &[u8; 512], start: usize, from: usize) -> usize
     requires { ⌜ Classed (now class) × Passed (textAt (now document) start) (now document) start from ⌝ }
     ensures { λ r. ⌜ Span (textAt (now (document .entry)) start) (now (document .entry)) start r ⌝ }
 {
@@ -78,8 +182,23 @@ pub fn text_end(document: &[u8], class: &[u8; 128], start: usize, from: usize) -
     i
 }
 
+// The same where a text is likely to follow.
+pub fn long_text_end(document: &[u8], class: &[u8; 512], start: usize, from: usize) -> usize
+    requires { ⌜ Classed (now class) × Passed (textAt (now document) start) (now document) start from ⌝ }
+    ensures { λ r. ⌜ Span (textAt (now (document .entry)) start) (now (document .entry)) start r ⌝ }
+{
+    let mut i = plain_end(document, class, from);
+    while i < document.len() {
+        if !text_at(document, class, start, i) {
+            return i;
+        }
+        i = plain_end(document, class, i + 1);
+    }
+    i
+}
+
 // How far the name that starts at `name` stands again at `from`.
-pub fn same_end(document: &[u8], class: &[u8; 128], name: usize, from: usize) -> usize
+pub fn same_end(document: &[u8], class: &[u8; 512], name: usize, from: usize) -> usize
     requires { ⌜ Classed (now class) × (from ≤ length (now document)) × (name < 65536) ⌝ }
     ensures { λ r. ⌜ Span (sameAt (now (document .entry)) name from) (now (document .entry)) from r ⌝ }
 {

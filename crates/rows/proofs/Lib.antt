@@ -1,4 +1,6 @@
 pub mod Upto
-pub mod InDocument
-pub mod Marking
-pub mod Stepping
+pub mod Holding
+pub mod Sizes
+pub mod Large
+pub mod Names
+pub mod Noting

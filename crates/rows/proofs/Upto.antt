@@ -19,7 +19,7 @@ pub record Upto (xs l₀ : List ℕ) (n : ℕ) (l : List ℕ) : Type 0 where
   pub is : l ≡ take n xs ++ drop n l₀
   pub long : length l ≡ length l₀
 
-pub upto-more : {xs l₀ l l' : List ℕ} {n v : ℕ} → Upto xs l₀ n l → length xs ≤ length l₀ → n < length xs → getD xs n 0 ≡ v → l' ≡ set l n v → Upto xs l₀ (n + 1) l'
+pub upto-more : {xs l₀ l l' : List ℕ} {n v : ℕ} → Upto xs l₀ n l → n < length l₀ → n < length xs → getD xs n 0 ≡ v → l' ≡ set l n v → Upto xs l₀ (n + 1) l'
 upto-more {xs} {l₀} {l} {l'} {n} {v} h room p e q = record {
   is = q ∙ ap (λ (k : List ℕ). set k n v) (h .is) ∙ rw (← e) (one-more xs l₀ n p (omega arith));
   long = ap length q ∙ length-set l n v ∙ h .long;

@@ -17,6 +17,3 @@ starts f = map (λ (x : Row). x .start) (rowsOf f)
 
 abbrev pub lengths : Content → List ℕ
 lengths f = map (λ (x : Row). # (x .spelling)) (rowsOf f)
-
-abbrev pub depths : Content → List ℕ
-depths f = map (λ (x : Row). x .depth) (rowsOf f)

@@ -1,3 +1,2 @@
 pub mod Filled
-pub mod Marks
-pub mod Sizes
+pub mod Notes

@@ -1,4 +1,3 @@
-// The rows of a document that was judged, into lent lists.
-pub mod mark;
-pub mod sizes;
+// The rows of a document, noted in one pass.
+pub mod note;
 pub mod tags;

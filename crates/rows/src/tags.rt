@@ -1,50 +1,51 @@
-// The tags of a document that was judged: nothing in them is wrong, so only their ends are looked for.
-ghost use Prim.Native.Nat.{_≤_, _<_};
-ghost use lib.ListN.{length};
-ghost use Rattle.judge.specs.Tokens.{Classed};
-ghost use Rattle.rows.specs.Marks.{StartsTo, ClosesTo};
+// One tag of a document whose rows are noted: the innermost open element's name and its length are known.
+ghost use mathlib.Core.Path.{_≡_};
+ghost use Prim.Native.Nat.{_+_, _≤_, _<_};
+ghost use lib.ListN;
+ghost use Rattle.judge.specs.Tokens.{Classed, Span, nameAt};
+ghost use Rattle.judge.specs.Tags.{Ended, Tagged};
 use judge::class::byte_at;
-use judge::tokens::name_end;
+use judge::tags::Tag;
+use judge::tags::start_tag;
 use judge::tokens::white_end;
+use words::stands_again;
 
-// Where a start tag's name ends, where the tag ends, and how many elements it leaves open: one or none.
-pub struct Start {
-    pub end: usize,
-    pub next: usize,
-    pub opens: usize,
-}
-
-pub fn start_tag(document: &[u8], class: &[u8; 128], at: usize) -> Start
-    requires { ⌜ Classed (now class) × (at < length (now document)) ⌝ }
-    ensures { λ r. ⌜ StartsTo (now (document .entry)) at (r .end) (r .next) (r .opens) ⌝ }
+// The end tag whose `</` stands before `at`. Where the name does not stand again, the judge says how far it does.
+fn end_tag(document: &[u8], class: &[u8; 512], name: usize, length: usize, at: usize) -> Tag
+    requires { ⌜ Classed (now class) × (at ≤ ListN.length (now document)) × (name < 65536) × Span (nameAt (now document)) (now document) name (name + length) ⌝ }
+    ensures { λ r. ⌜ Ended (now (document .entry)) name at r ⌝ }
 {
-    let end = name_end(document, class, at + 1);
-    let shut = white_end(document, class, end);
+    if !stands_again(document, name, at, length) {
+        return judge::tags::end_tag(document, class, name, at);
+    }
+    let shut = white_end(document, class, at + length);
     if byte_at(document, shut) == 62 {
-        return Start {
-            end: end,
-            next: shut + 1,
-            opens: 1,
-        };
+        return Tag::Closes(shut + 1);
     }
-    Start {
-        end: end,
-        next: shut + 2,
-        opens: 0,
-    }
+    Tag::Refused(shut)
 }
 
-// The place behind the end tag whose name starts at `from`.
-pub fn end_tag(document: &[u8], from: usize) -> usize
-    requires { ⌜ from ≤ length (now document) ⌝ }
-    ensures { λ r. ⌜ ClosesTo (now (document .entry)) from r ⌝ }
+// The tag whose `<` stands at `at`, in `depth` open elements and behind `rows` rows.
+pub fn next_tag(
+    document: &[u8],
+    class: &[u8; 512],
+    name: usize,
+    length: usize,
+    depth: usize,
+    rows: usize,
+    at: usize,
+) -> Tag
+    requires { ⌜ Classed (now class) × (at < ListN.length (now document)) × (name < 65536) × (0 < depth → Span (nameAt (now document)) (now document) name (name + length)) ⌝ }
+    ensures { λ r. ⌜ Tagged (now (document .entry)) name depth rows at r ⌝ }
 {
-    let mut i = from;
-    while i < document.len() {
-        if document[i] == 62 {
-            return i + 1;
+    if depth == 0 {
+        if 0 < rows {
+            return Tag::Refused(at);
         }
-        i += 1;
+        return start_tag(document, class, at + 1);
     }
-    i
+    if byte_at(document, at + 1) == 47 {
+        return end_tag(document, class, name, length, at + 2);
+    }
+    start_tag(document, class, at + 1)
 }

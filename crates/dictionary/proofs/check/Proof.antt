@@ -9,7 +9,7 @@ slice-aggregate-learn-names : tie.Need-slice-aggregate-learn-names
 slice-aggregate-learn-names c = search needs
 
 learn-names-requires : tie.Need-learn-names-requires
-learn-names-requires c κs = fresh 4096 (omega arith)
+learn-names-requires c κs = fresh 5120 (omega arith)
 
 returns : tie.Need-returns
 returns c = search needs

@@ -28,10 +28,10 @@ turn : (c : tie.After-name-end Inv-loop μ-loop) →
     Turn (c .before .before .before .before .before .before .args .dictionary .now) (c .before .before .before .before .before .before .args .index .now) (c .before .before .loop .index) (c .before .before .loop .start) (c .before .before .loop .names) (c .name-end .result)
 turn c = record { learning = c .before .before .loop .inv; here = c .before .loop-test .taken; is-end = c .name-end .ensures .0; inside = c .name-end .ensures .1 }
 
-learnt : (c : tie.After-label Inv-loop μ-loop) →
-    Labelled (c .before .before .before .before .before .before .before .before .before .before .before .args .dictionary .now) (c .before .before .before .before .before .before .before .before .before .before .before .args .dictionary .now) 0 (c .before .before .before .before .before .before .before .loop .index) (c .label .last .1 .1 .1 .0) (take (c .before .before .before .before .before .before .before .loop .names) (pieces (c .before .before .before .before .before .before .before .before .before .before .before .args .dictionary .now)))
-    (range (c .before .before .before .before .before .before .before .before .before .before .before .args .dictionary .now) (c .before .before .before .before .before .before .before .loop .start) (c .before .before .before .before .before .name-end .result)) (c .label .result)
-learnt c = c .label .ensures _ (may-learn (turn (c .before .before .before .before .before)) (omega arith))
+learnt : (c : tie.After-learn Inv-loop μ-loop) →
+    Labelled (c .before .before .before .before .before .before .before .before .before .before .before .args .dictionary .now) (c .before .before .before .before .before .before .before .before .before .before .before .args .dictionary .now) 0 (c .before .before .before .before .before .before .before .loop .index) (c .learn .last .1 .0) (take (c .before .before .before .before .before .before .before .loop .names) (pieces (c .before .before .before .before .before .before .before .before .before .before .before .args .dictionary .now)))
+    (range (c .before .before .before .before .before .before .before .before .before .before .before .args .dictionary .now) (c .before .before .before .before .before .before .before .loop .start) (c .before .before .before .before .before .name-end .result)) (c .learn .result)
+learnt c = c .learn .ensures _ (may-learn (turn (c .before .before .before .before .before)) (omega arith))
 
 same-length : tie.Need-same-length Inv-loop μ-loop
 same-length c = c .before .before .before .loop .inv .kept
@@ -51,8 +51,8 @@ same-length-3 c = c .before .before .before .before .before .loop .inv .kept
 returns-4 : tie.Need-returns-4 Inv-loop μ-loop
 returns-4 c = refused-many (turn (c .before .before .before)) (omega arith)
 
-label-requires : tie.Need-label-requires Inv-loop μ-loop
-label-requires c κs = (_, may-learn (turn (c .before .before .before .before)) (omega arith))
+learn-requires : tie.Need-learn-requires Inv-loop μ-loop
+learn-requires c κs = (_, may-learn (turn (c .before .before .before .before)) (omega arith))
 
 same-length-4 : tie.Need-same-length-4 Inv-loop μ-loop
 same-length-4 c = learnt (c .before .before .before) .kept ∙ c .before .before .before .before .before .before .before .before .before .before .loop .inv .kept
@@ -93,7 +93,7 @@ learn-names-spec =
     returns-3
     same-length-3
     returns-4
-    label-requires
+    learn-requires
     same-length-4
     returns-5
     add-start

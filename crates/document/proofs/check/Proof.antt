@@ -11,8 +11,8 @@ check-requires c κs = search needs
 returns : tie.Need-returns
 returns c = checks-bad (c .before .check .ensures) (not-true _ (c .if1 .taken))
 
-judge-requires : tie.Need-judge-requires
-judge-requires c κs = search needs
+verdict-requires : tie.Need-verdict-requires
+verdict-requires c κs = search needs
 
 wider-requires : tie.Need-wider-requires
 wider-requires c κs = search needs
@@ -30,10 +30,10 @@ add-result : tie.Need-add-result
 add-result c = search needs
 
 add-result-2 : tie.Need-add-result-2
-add-result-2 c = omega (arith, few-codes (c .before .before .before .judge .ensures), c .before .before .wider .ensures, c .before .wider2 .ensures, c .wider3 .ensures)
+add-result-2 c = omega (arith, few-codes (c .before .before .before .verdict .ensures), c .before .before .wider .ensures, c .before .wider2 .ensures, c .wider3 .ensures)
 
 returns-2 : tie.Need-returns-2
-returns-2 c = checks-judged (c .before .before .before .before .before .check .ensures) (not-false _ (c .before .before .before .before .if1 .left)) (c .before .before .before .judge .ensures) (c .before .before .wider .ensures) (c .before .wider2 .ensures) (c .wider3 .ensures)
+returns-2 c = checks-judged (c .before .before .before .before .before .check .ensures) (not-false _ (c .before .before .before .before .if1 .left)) (c .before .before .before .verdict .ensures) (c .before .before .wider .ensures) (c .before .wider2 .ensures) (c .wider3 .ensures)
 
 pub check-spec : {M : Type 1} → statement M
 check-spec =
@@ -41,7 +41,7 @@ check-spec =
     (tie.spec
     check-requires
     returns
-    judge-requires
+    verdict-requires
     wider-requires
     mul-result
     wider-requires-2

@@ -33,14 +33,14 @@ refused-at : (c : tie.After-known-told Inv-loop μ-loop) → OutsideAt (c .befor
 refused-at c = rw (c .before .place .given .1) at (told (c .before .before .before))
 
 opened-to : (c : tie.After-known-told2 Inv-loop μ-loop) →
-    (c .before .before .before .before .before .before .before .run-end .result .end + 1 < c .before .next .given .0 .0)
-    × OpenedTo (c .before .before .before .before .before .before .before .before .before .before .args .document .now) (c .before .before .before .before .before .before .before .run-end .result .end + 1) (c .before .next .given .0 .0) (c .before .before .before .before .before .before .before .before .loop .inv .o) (c .before .before .before .before .before .before .before .before .loop .inv .f)
+    (c .before .before .before .before .before .before .before .run-end .result .end + 1 < c .before .next .given .0 .1 .0)
+    × OpenedTo (c .before .before .before .before .before .before .before .before .before .before .args .document .now) (c .before .before .before .before .before .before .before .run-end .result .end + 1) (c .before .next .given .0 .0) (c .before .next .given .0 .1 .0) (c .before .before .before .before .before .before .before .before .loop .inv .o) (c .before .before .before .before .before .before .before .before .loop .inv .f)
     (bytes (c .before .before .before .before .before .before .before .before .before .before .args .document .now) (c .before .before .before .before .before .before .before .before .loop .i) (c .before .before .before .before .before .before .before .run-end .result .end - c .before .before .before .before .before .before .before .before .loop .i))
 opened-to c = rw (c .before .next .given .1) at (told (c .before .before .before))
 
 emptied-to : (c : tie.After-known-told3 Inv-loop μ-loop) →
-    (c .before .before .before .before .before .before .before .run-end .result .end + 1 < c .before .next2 .given .0 .0)
-    × EmptyTo (c .before .before .before .before .before .before .before .before .before .before .args .document .now) (c .before .next2 .given .0 .0) (c .before .before .before .before .before .before .before .before .loop .inv .o) (c .before .before .before .before .before .before .before .before .loop .inv .f)
+    (c .before .before .before .before .before .before .before .run-end .result .end + 1 < c .before .next2 .given .0 .1 .0)
+    × EmptyTo (c .before .before .before .before .before .before .before .before .before .before .args .document .now) (c .before .before .before .before .before .before .before .run-end .result .end + 1) (c .before .next2 .given .0 .0) (c .before .next2 .given .0 .1 .0) (c .before .before .before .before .before .before .before .before .loop .inv .o) (c .before .before .before .before .before .before .before .before .loop .inv .f)
     (bytes (c .before .before .before .before .before .before .before .before .before .before .args .document .now) (c .before .before .before .before .before .before .before .before .loop .i) (c .before .before .before .before .before .before .before .run-end .result .end - c .before .before .before .before .before .before .before .before .loop .i))
 emptied-to c = rw (c .before .next2 .given .1) at (told (c .before .before .before))
 

@@ -1,5 +1,6 @@
 -- `is_at` meets its contract: another length settles it; else the bytes, in the source where the spelling stands.
 use native.Mathlib.Omega.{arith}
+use Rattle.dictionary.proofs.Ranges.{says-range}
 use Rattle.dictionary.proofs.Entries.{entry-ordered, entry-differs, name-inside, name-says, learnt-inside, learnt-says}
 use borrow.Author.Needs.{needs}
 use Rattle.dictionary.proofs.index.is_at.Statement.{statement}
@@ -32,17 +33,23 @@ sub-if1-2 c = search needs
 returns : tie.Need-returns
 returns c = let s = c .before .before .before .before .before .before in λ known m. entry-differs m (s .args .place) (s .pre .1) (c .before .before .number .ensures) (c .before .number2 .ensures) (c .if1 .taken)
 
+sub-same : tie.Need-sub-same
+sub-same c = search needs
+
 same-requires : tie.Need-same-requires
-same-requires c κs = let s = c .before .before .before .before .before .before .before in (search needs, search needs, name-inside (s .pre .0 .1) (s .args .place) (s .pre .1) (c .before .before .before .number .ensures) (c .before .before .number2 .ensures) (omega arith) (c .before .if1 .left))
+same-requires c κs = let s = c .before .before .before .before .before .before .before in (name-inside (s .pre .0 .1) (s .args .place) (s .pre .1) (c .before .before .before .number .ensures) (c .before .before .number2 .ensures) (omega arith) (c .before .if1 .left), omega (arith, s .pre .0 .1 .ordered, s .pre .0 .1 .inside))
 
 returns-2 : tie.Need-returns-2
-returns-2 c = let s = c .before .before .before .before .before .before .before .before in λ known m. name-says m (s .args .place) (s .pre .1) (c .before .before .before .before .number .ensures) (c .before .before .before .number2 .ensures) (omega arith) (c .before .before .if1 .left) (c .same .result) (c .same .ensures)
+returns-2 c = let s = c .before .before .before .before .before .before .before .before in λ known m. name-says m (s .args .place) (s .pre .1) (c .before .before .before .before .number .ensures) (c .before .before .before .number2 .ensures) (omega arith) (c .before .before .if1 .left) (c .same .result) (says-range (name-inside m (s .args .place) (s .pre .1) (c .before .before .before .before .number .ensures) (c .before .before .before .number2 .ensures) (omega arith) (c .before .before .if1 .left)) (m .inside) (c .same .ensures))
+
+sub-same-2 : tie.Need-sub-same-2
+sub-same-2 c = search needs
 
 same-requires-2 : tie.Need-same-requires-2
-same-requires-2 c κs = let s = c .before .before .before .before .before .before .before in (search needs, search needs, learnt-inside (s .pre .0 .1) (s .args .place) (s .pre .1) (c .before .before .before .number .ensures) (c .before .before .number2 .ensures) (omega arith) (c .before .if1 .left))
+same-requires-2 c κs = let s = c .before .before .before .before .before .before .before in (learnt-inside (s .pre .0 .1) (s .args .place) (s .pre .1) (c .before .before .before .number .ensures) (c .before .before .number2 .ensures) (omega arith) (c .before .if1 .left), omega (arith, s .pre .0 .1 .ordered, s .pre .0 .1 .inside))
 
 returns-3 : tie.Need-returns-3
-returns-3 c = let s = c .before .before .before .before .before .before .before .before in λ known m. learnt-says m (s .args .place) (s .pre .1) (c .before .before .before .before .number .ensures) (c .before .before .before .number2 .ensures) (omega arith) (c .before .before .if1 .left) (c .same2 .result) (c .same2 .ensures)
+returns-3 c = let s = c .before .before .before .before .before .before .before .before in λ known m. learnt-says m (s .args .place) (s .pre .1) (c .before .before .before .before .number .ensures) (c .before .before .before .number2 .ensures) (omega arith) (c .before .before .if1 .left) (c .same2 .result) (says-range (learnt-inside m (s .args .place) (s .pre .1) (c .before .before .before .before .number .ensures) (c .before .before .before .number2 .ensures) (omega arith) (c .before .before .if1 .left)) (m .inside) (c .same2 .ensures))
 
 pub is-at-spec : {M : Type 1} → statement M
 is-at-spec =
@@ -57,7 +64,9 @@ is-at-spec =
     sub-if1
     sub-if1-2
     returns
+    sub-same
     same-requires
     returns-2
+    sub-same-2
     same-requires-2
     returns-3)

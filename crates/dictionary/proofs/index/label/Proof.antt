@@ -23,7 +23,7 @@ returns c = λ known m. labelled-old m (c .before .seek .ensures known m) (c .if
 insert-requires : tie.Need-insert-requires
 insert-requires c κs =
     let a = c .before .before .before .before .before .before .before .before .args in
-    let low : c .before .before .before .before .bucket-of .result < 1024 = rw (c .before .before .before .before .bucket-of .ensures) (bucket-below (range (a .document .now) (a .start) (a .end))) in
+    let low : c .before .before .before .before .bucket-of .result < 2048 = rw (c .before .before .before .before .bucket-of .ensures) (bucket-below (range (a .document .now) (a .start) (a .end))) in
     (omega (arith, c .before .before .before .before .before .before .before .before .pre .1 .room), omega (arith, c .before .before .before .before .before .before .before .before .pre .1 .countable), low, omega (arith, c .before .before .before .before .before .before .before .before .pre .1), omega (arith, c .before .before .before .before .before .before .before .before .pre .1 .short))
 
 same-length-2 : tie.Need-same-length-2

@@ -1,56 +1,66 @@
-use Prim.Native.Nat.{_-_}
-use mathlib.Core.Path.{ap}
-use mathlib.Core.Bool.{not}
+use mathlib.Core.Path.{sym, _∙_}
+use native.Mathlib.Omega.{arith}
+use borrow.Author.Tests.{not-false}
+use Prim.Native.Nat.{_+_, _≤_}
 use lib.ListN.{length}
-use borrow.Author.Tests.{ne-eqb}
-use Rattle.judge.specs.Tokens.{Passed}
-use Rattle.judge.proofs.Spans.{passed-none, passed-more}
-use Rattle.rows.proofs.InDocument.{notShut, closes-at, closes-never}
+use Rattle.words.specs.Words.{Again}
+use Rattle.judge.proofs.Turns.{end-closes, end-other}
+use Rattle.rows.proofs.Names.{name-again, name-whole}
 use borrow.Author.Needs.{needs}
 use Rattle.rows.proofs.tags.end_tag.Statement.{statement}
 use Rattle.rows.proofs.tags.end_tag.Tie as tie
 
-abbrev Inv-loop : tie.InvT-loop
-Inv-loop document from i₀ i = Passed (notShut document) document from i
+-- the name stands again
+stood : (c : tie.Else1) →
+    (c .before .before .before .args .at + c .before .before .before .args .length ≤ length (c .before .before .before .args .document .now))
+    × Again (c .before .before .before .args .document .now) (c .before .before .before .args .name) (c .before .before .before .args .document .now) (c .before .before .before .args .at) (c .before .before .before .args .length)
+stood c = c .before .stands-again .ensures (not-false _ (c .if1 .left))
 
-abbrev μ-loop : tie.MeasureT-loop
-μ-loop document from i₀ i = length document - i
+stands-again-requires : tie.Need-stands-again-requires
+stands-again-requires c κs = search needs
 
-loop-holds : tie.Need-loop-holds Inv-loop μ-loop
-loop-holds c = passed-none _ _ _ (c .pre)
+end-tag-requires : tie.Need-end-tag-requires
+end-tag-requires c κs = search needs
 
-shared-slice-read-if1 : tie.Need-shared-slice-read-if1 Inv-loop μ-loop
-shared-slice-read-if1 c = search needs
+returns : tie.Need-returns
+returns c = search needs
 
-add-result : tie.Need-add-result Inv-loop μ-loop
-add-result c = search needs
+add-white-end : tie.Need-add-white-end
+add-white-end c = omega (arith, stood c .0)
 
-returns : tie.Need-returns Inv-loop μ-loop
-returns c = closes-at (c .before .before .before .loop .inv) (c .if1 .taken)
+white-end-requires : tie.Need-white-end-requires
+white-end-requires c κs = (c .before .before .before .pre .0, stood c .0)
 
-add-i : tie.Need-add-i Inv-loop μ-loop
-add-i c = search needs
+byte-at-requires : tie.Need-byte-at-requires
+byte-at-requires c κs = search needs
 
-loop-less : tie.Need-loop-less Inv-loop μ-loop
-loop-less c = search needs
+add-t11 : tie.Need-add-t11
+add-t11 c = search needs
 
-loop-again : tie.Need-loop-again Inv-loop μ-loop
-loop-again c = passed-more (c .before .before .before .loop .inv) (c .before .before .loop-test .taken) (ap not (ne-eqb _ _ (c .if1 .left)))
+returns-2 : tie.Need-returns-2
+returns-2 c =
+    let c₂ = c .before .before in
+    let c₃ = c₂ .before in
+    let c₆ = c₃ .before .before .before in
+    end-closes (name-again (c₆ .pre .3) (stood c₃ .0) (stood c₃ .1)) (name-whole (c₆ .pre .3) (stood c₃ .0) (stood c₃ .1)) (c₂ .white-end .ensures) (sym (c .before .byte-at .ensures) ∙ c .if2 .taken)
 
-returns-2 : tie.Need-returns-2 Inv-loop μ-loop
-returns-2 c = closes-never (c .before .loop .inv) (c .loop-test .left)
+returns-3 : tie.Need-returns-3
+returns-3 c =
+    let c₂ = c .before .before in
+    let c₃ = c₂ .before in
+    let c₆ = c₃ .before .before .before in
+    end-other (name-again (c₆ .pre .3) (stood c₃ .0) (stood c₃ .1)) (name-whole (c₆ .pre .3) (stood c₃ .0) (stood c₃ .1)) (c₂ .white-end .ensures) (λ e. c .if2 .left (c .before .byte-at .ensures ∙ e))
 
 pub end-tag-spec : {M : Type 1} → statement M
 end-tag-spec =
     tie.close
     (tie.spec
-    Inv-loop
-    μ-loop
-    loop-holds
-    shared-slice-read-if1
-    add-result
+    stands-again-requires
+    end-tag-requires
     returns
-    add-i
-    loop-less
-    loop-again
-    returns-2)
+    add-white-end
+    white-end-requires
+    byte-at-requires
+    add-t11
+    returns-2
+    returns-3)

@@ -1,0 +1,176 @@
+// One pass over a document, which notes the start, the length and the size of each row in lists of its own.
+ghost use mathlib.Core.Path.{_≡_};
+ghost use Prim.Native.Nat.{_≤_, _<_};
+ghost use lib.ListN.{length, getD};
+ghost use Rattle.judge.specs.Tokens.{Classed};
+ghost use Rattle.judge.specs.Tags.{RunTo};
+ghost use Rattle.rows.specs.Notes.{Long, Put, LastOf, Notes};
+use super::tags::next_tag;
+use judge::Run;
+use judge::class::byte_at;
+use judge::class::table;
+use judge::tags::Tag;
+use judge::tokens::long_text_end;
+use judge::tokens::long_white_end;
+
+// So many rows are noted; or the place of code 3; or a document, if it is one, that is too deep or has too many rows.
+pub enum Noted {
+    Rows(usize),
+    Outside(usize),
+    Beyond,
+}
+
+fn wide(x: u16) -> usize
+    ensures { λ r. ⌜ (r ≡ x) × (r < 65536) ⌝ }
+{
+    x as usize
+}
+
+fn number(list: &[u16; 2052], i: usize) -> usize
+    requires { ⌜ i < 2052 ⌝ }
+    ensures { λ r. ⌜ (r ≡ getD (now (list .entry)) i 0) × (r < 65536) ⌝ }
+{
+    wide(list[i])
+}
+
+// The run that starts at `start`: most are empty or white space only.
+fn run(document: &[u8], class: &[u8; 512], depth: usize, start: usize) -> Run
+    requires { ⌜ Classed (now class) × (start ≤ length (now document)) ⌝ }
+    ensures { λ r. ⌜ RunTo (now (document .entry)) depth start (r .end) (r .rows) ⌝ }
+{
+    if byte_at(document, start) == 60 {
+        return Run {
+            end: start,
+            rows: 0,
+        };
+    }
+    let white = long_white_end(document, class, start);
+    if byte_at(document, white) == 60 {
+        return Run {
+            end: white,
+            rows: 0,
+        };
+    }
+    if depth == 0 {
+        return Run {
+            end: white,
+            rows: 0,
+        };
+    }
+    let end = long_text_end(document, class, start, white);
+    if white < end {
+        return Run { end: end, rows: 1 };
+    }
+    Run { end: end, rows: 0 }
+}
+
+fn put(
+    starts: &mut [u16; 2052],
+    lengths: &mut [u16; 2052],
+    sizes: &mut [u16; 2052],
+    row: usize,
+    start: usize,
+    length: usize,
+)
+    requires { ⌜ (row < 2052) × (start < 65536) × (length < 65536) ⌝ }
+    ensures { λ _. ⌜ Put row start length (now (starts .entry)) (now (lengths .entry)) (now (sizes .entry)) (now (starts .exit)) (now (lengths .exit)) (now (sizes .exit)) ⌝ }
+{
+    starts[row] = start as u16;
+    lengths[row] = length as u16;
+    sizes[row] = 1;
+}
+
+// The answer where no tag follows: the last run ends at `at`.
+fn last(length: usize, at: usize, depth: usize, rows: usize) -> Noted
+    ensures { λ r. ⌜ LastOf length at depth rows r ⌝ }
+{
+    if at < length {
+        return Noted::Outside(at);
+    }
+    if 0 < depth {
+        return Noted::Outside(at);
+    }
+    if rows == 0 {
+        return Noted::Outside(at);
+    }
+    Noted::Rows(rows)
+}
+
+// The pass. `top` is the row of the innermost open element, `open` has those of the elements around it. What is put at `row` is
+// a row only where it is counted.
+fn pass(
+    document: &[u8],
+    class: &[u8; 512],
+    starts: &mut [u16; 2052],
+    lengths: &mut [u16; 2052],
+    sizes: &mut [u16; 2052],
+) -> Noted
+    requires { ⌜ Classed (now class) × (lib.ListN.length (now document) ≤ 32768) × Long (now starts) (now lengths) (now sizes) ⌝ }
+    ensures { λ r. ⌜ Notes (now (document .entry)) (now (starts .exit)) (now (lengths .exit)) (now (sizes .exit)) r ⌝ }
+{
+    let mut open = [0u16; 64];
+    let mut top: usize = 0;
+    let mut depth: usize = 0;
+    let mut row: usize = 0;
+    let mut i: usize = 0;
+    loop {
+        if 2048 < row {
+            return Noted::Beyond;
+        }
+        let text = run(document, class, depth, i);
+        let at = text.end;
+        let leaves = text.rows;
+        put(starts, lengths, sizes, row, i, at - i);
+        row = row + leaves;
+        if byte_at(document, at) != 60 {
+            return last(document.len(), at, depth, row);
+        }
+        if 64 < depth + leaves {
+            return Noted::Beyond;
+        }
+        let name = number(starts, top);
+        let length = number(lengths, top);
+        match next_tag(document, class, name, length, depth, row, at) {
+            Tag::Refused(place) => return Noted::Outside(place),
+            Tag::Opens(end, next) => {
+                if 63 < depth {
+                    return Noted::Beyond;
+                }
+                put(starts, lengths, sizes, row, at + 1, end - (at + 1));
+                open[depth] = top as u16;
+                top = row;
+                depth = depth + 1;
+                row = row + 1;
+                i = next;
+            }
+            Tag::Empty(end, next) => {
+                if 63 < depth {
+                    return Noted::Beyond;
+                }
+                put(starts, lengths, sizes, row, at + 1, end - (at + 1));
+                row = row + 1;
+                i = next;
+            }
+            Tag::Closes(next) => {
+                sizes[top] = (row - top) as u16;
+                depth = depth - 1;
+                top = wide(open[depth]);
+                i = next;
+            }
+        }
+    }
+}
+
+// Three rows more than 2,048 have room, since a turn may put two before they are counted.
+pub fn note(
+    document: &[u8],
+    starts: &mut [u16; 2052],
+    lengths: &mut [u16; 2052],
+    sizes: &mut [u16; 2052],
+) -> Noted
+    requires { ⌜ (lib.ListN.length (now document) ≤ 32768) × Long (now starts) (now lengths) (now sizes) ⌝ }
+    ensures { λ r. ⌜ Notes (now (document .entry)) (now (starts .exit)) (now (lengths .exit)) (now (sizes .exit)) r ⌝ }
+{
+    let class = table();
+    pass(document, &class, starts, lengths, sizes)
+}
