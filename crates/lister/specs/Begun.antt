@@ -13,7 +13,7 @@ use Rattle.constraint.proofs.Allowed.{allowed?}
 use Rattle.listing.proofs.Events.{events}
 use Rattle.listing.proofs.Fill.{fill}
 use Rattle.listing.proofs.Whole.{walked}
-use Rattle.search.specs.Search.{Search}
+use Rattle.levels.specs.Levels.{Search}
 use Rattle.search.specs.declared.Found.{Found}
 
 pub record BeginAsked (L S M name first : List ℕ) (null : List Bool) (cont : List ℕ) (ends : List Bool) (C kinds : List ℕ) (room width : ℕ) (before : List ℕ)
