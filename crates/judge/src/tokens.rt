@@ -167,13 +167,13 @@ fn plain_end(document: &[u8], class: &[u8; 512], from: usize) -> usize
     i
 }
 
-// The end of the run that starts at `start` and is text up to `from`.
-pub fn text_end(document: &[u8], class: &[u8; 512], start: usize, from: usize) -> usize
-    requires { ⌜ Classed (now class) × Passed (textAt (now document) start) (now document) start from ⌝ }
-    ensures { λ r. ⌜ Span (textAt (now (document .entry)) start) (now (document .entry)) start r ⌝ }
+// The run that starts at `start` is text up to `from`: the first place before `limit` where it is not, or `limit`.
+fn text_to(document: &[u8], class: &[u8; 512], start: usize, from: usize, limit: usize) -> usize
+    requires { ⌜ Classed (now class) × Passed (textAt (now document) start) (now document) start from × (from ≤ limit) × (limit ≤ length (now document)) ⌝ }
+    ensures { λ r. ⌜ SpanTo (textAt (now (document .entry)) start) (now (document .entry)) start limit r ⌝ }
 {
     let mut i = from;
-    while i < document.len() {
+    while i < limit {
         if !text_at(document, class, start, i) {
             return i;
         }
@@ -182,17 +182,27 @@ pub fn text_end(document: &[u8], class: &[u8; 512], start: usize, from: usize) -
     i
 }
 
-// The same where a text is likely to follow.
+// The end of the run that starts at `start` and is text up to `from`.
+pub fn text_end(document: &[u8], class: &[u8; 512], start: usize, from: usize) -> usize
+    requires { ⌜ Classed (now class) × Passed (textAt (now document) start) (now document) start from ⌝ }
+    ensures { λ r. ⌜ Span (textAt (now (document .entry)) start) (now (document .entry)) start r ⌝ }
+{
+    text_to(document, class, start, from, document.len())
+}
+
+// The same where a text is likely to follow. Behind a byte that stops plain text another one is likely: so a few go one by one.
 pub fn long_text_end(document: &[u8], class: &[u8; 512], start: usize, from: usize) -> usize
     requires { ⌜ Classed (now class) × Passed (textAt (now document) start) (now document) start from ⌝ }
     ensures { λ r. ⌜ Span (textAt (now (document .entry)) start) (now (document .entry)) start r ⌝ }
 {
     let mut i = plain_end(document, class, from);
     while i < document.len() {
-        if !text_at(document, class, start, i) {
-            return i;
+        let near = least(i + 16, document.len());
+        let end = text_to(document, class, start, i, near);
+        if end < near {
+            return end;
         }
-        i = plain_end(document, class, i + 1);
+        i = plain_end(document, class, end);
     }
     i
 }

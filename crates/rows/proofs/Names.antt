@@ -1,6 +1,6 @@
 -- A run that is empty, and a name that stands again.
 use mathlib.Core.Path.{_≡_, refl, sym, ap, _∙_}
-use mathlib.Core.Bool.{Bool, true, false, cond, true≢false}
+use mathlib.Core.Bool.{Bool, true, false, true≢false}
 use mathlib.Core.List.{List}
 use Prim.Native.Nat.{ℕ, _+_, _-_, _≤_, _<_}
 use native.Mathlib.Omega.{arith}
@@ -9,7 +9,6 @@ use lib.ListN.{length, getD, List·getD-eq-default}
 use borrow.Author.Tests.{ltb-true, ltb-false, eq-eqb}
 use Rattle.grammar.specs.Classes.{nameByte, classOf}
 use Rattle.grammar.specs.Grammar.{Bytes, mayFollow, Level}
-use Rattle.grammar.specs.Tree.{inked}
 use Rattle.grammar.proofs.Theory.{not-less}
 use Rattle.judge.specs.Tokens.{Span, bytes, nameAt, sameAt, levelOf, runAt}
 use Rattle.judge.specs.Tags.{RunTo}

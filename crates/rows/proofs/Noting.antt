@@ -4,23 +4,19 @@ use mathlib.Core.Bool.{Bool, true, false, cond}
 use mathlib.Core.List.{List, [], _∷_, _++_, map}
 use Prim.Native.Nat.{ℕ, suc, _+_, _-_, _≤_, _<_, max}
 use native.Mathlib.Omega.{arith}
-use lib.Dec.{ltb, eqb}
 use lib.ListN.{length, getD, set, length-set, length-map, length-append}
 use lib.Seq.{getD-set-same, getD-set-other}
-use borrow.Author.Tests.{eq-eqb}
-use Rattle.meaning.specs.Forest.{none}
-use Rattle.grammar.specs.Grammar.{Bytes, ε, Content, nothing, emptyElement, element}
-use Rattle.grammar.specs.Place.{OutsideAt}
+use Rattle.grammar.specs.Grammar.{Bytes, Content, nothing, emptyElement, element}
 use Rattle.grammar.specs.Tree.{inked}
-use Rattle.grammar.specs.Rows.{#, width, Row, row, rowsOf}
-use Rattle.grammar.specs.Machine.{Open, State, inRun, afterLess, At}
-use Rattle.grammar.proofs.Trees.{leafRows, contentRows, contentDepth, one-leaf, shape-rows, shape-depth}
+use Rattle.grammar.specs.Rows.{#, width, Row, row}
+use Rattle.grammar.specs.Machine.{Open, afterLess, At}
+use Rattle.grammar.proofs.Trees.{leafRows, contentRows, contentDepth, shape-depth}
 use Rattle.grammar.proofs.Positions.{offO, posS, at-place}
 use Rattle.grammar.proofs.Emitted.{leafOn, namedOn, rowsOn, rowsO, atRun, atTag, atName, rowsS, rows-same}
 use Rattle.judge.specs.Tokens.{Span, bytes, nameAt}
 use Rattle.judge.specs.Tags.{RunTo, Named, opened, Closed, closed, OpenedTo, EmptyTo, Top, Tagging}
 use Rattle.judge.proofs.Turns.{count, less}
-use Rattle.judge.proofs.Judging.{rowsO as countO, deepO, Walked, Finished, at-run, made, to-tag, refused, finished}
+use Rattle.judge.proofs.Judging.{rowsO as countO, deepO, Walked, Finished, made, to-tag, refused, finished}
 use Rattle.rows.specs.Notes.{Holds, Long, Put, RowsNoted, TooLarge, Notes, LastOf, ended, early}
 use Rattle.rows.specs.declared.note.Noted.{Noted}
 use Rattle.rows.proofs.Holding.{holds-beside, holds-more, holds-again, row-more}

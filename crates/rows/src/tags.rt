@@ -1,5 +1,5 @@
 // One tag of a document whose rows are noted: the innermost open element's name and its length are known.
-ghost use mathlib.Core.Path.{_≡_};
+
 ghost use Prim.Native.Nat.{_+_, _≤_, _<_};
 ghost use lib.ListN;
 ghost use Rattle.judge.specs.Tokens.{Classed, Span, nameAt};

@@ -1,4 +1,3 @@
-use Prim.Native.Nat.{_+_}
 use native.Mathlib.Omega.{arith}
 use Rattle.words.proofs.Bytes.{again-word, says-front, says-last}
 use borrow.Author.Needs.{needs}

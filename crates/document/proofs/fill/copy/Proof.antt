@@ -1,8 +1,6 @@
 use Prim.Native.Nat.{_-_, _≤_}
-use mathlib.Core.Path.{refl, sym, ap, _∙_}
+use mathlib.Core.Path.{refl, sym}
 use native.Mathlib.Omega.{arith}
-use mathlib.Core.List.{_++_}
-use lib.ListN.{take, drop}
 use Rattle.rows.proofs.Upto.{Upto, upto-more}
 use Rattle.document.proofs.Filling.{copied-so}
 use borrow.Author.Needs.{needs}

@@ -1,5 +1,4 @@
 use Prim.Native.Nat.{_-_}
-use native.Mathlib.Omega.{arith}
 use Rattle.judge.specs.Tokens.{Coded}
 use Rattle.judge.proofs.Classing.{Spreading, spreading, spread-more, spread-all}
 use borrow.Author.Needs.{needs}
