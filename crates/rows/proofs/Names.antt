@@ -7,10 +7,10 @@ use native.Mathlib.Omega.{arith}
 use lib.Dec.{ltb}
 use lib.ListN.{length, getD, List·getD-eq-default}
 use borrow.Author.Tests.{ltb-true, ltb-false, eq-eqb}
-use Rattle.grammar.specs.Classes.{nameByte, classOf}
+use Rattle.grammar.specs.Classes.{white, nameByte, classOf}
 use Rattle.grammar.specs.Grammar.{Bytes, mayFollow, Level}
 use Rattle.grammar.proofs.Theory.{not-less}
-use Rattle.judge.specs.Tokens.{Span, bytes, nameAt, sameAt, levelOf, runAt}
+use Rattle.judge.specs.Tokens.{Span, bytes, whiteAt, nameAt, sameAt, levelOf, runAt}
 use Rattle.judge.specs.Tags.{RunTo}
 use Rattle.judge.proofs.Spans.{passed-none, same-yes, same-ended}
 use Rattle.words.specs.Words.{Again}
@@ -29,6 +29,11 @@ empty-run {w} depth a h e =
     ends : (l : Level) (s : Bytes) (y : Bool) → mayFollow l s (getD w a 0) ≡ y → y ≡ false
     ends l s true q = absurd (true≢false (sym (eq-eqb (getD w a 0) 60 e) ∙ not-less l s (getD w a 0) q))
     ends l s false q = refl
+
+-- a tag that ends at once has no white space
+pub shut-at-once : {w : List ℕ} {e : ℕ} → e ≤ length w → getD w e 0 ≡ 62 → Span (whiteAt w) w e e
+unfolding white classOf
+shut-at-once {w} {e} h q = record { passed = passed-none (whiteAt w) w e h; stop = λ p. ap white q }
 
 module _ {w : List ℕ} {name size a : ℕ} (named : Span (nameAt w) w name (name + size)) (in-w : a + size ≤ length w) (again : Again w name w a size) where
   name-stops : nameByte (getD w (name + size) 0) ≡ false

@@ -18,7 +18,11 @@ fn end_tag(document: &[u8], class: &[u8; 512], name: usize, length: usize, at: u
     if !stands_again(document, name, at, length) {
         return judge::tags::end_tag(document, class, name, at);
     }
-    let shut = white_end(document, class, at + length);
+    let end = at + length;
+    if byte_at(document, end) == 62 {
+        return Tag::Closes(end + 1);
+    }
+    let shut = white_end(document, class, end);
     if byte_at(document, shut) == 62 {
         return Tag::Closes(shut + 1);
     }
