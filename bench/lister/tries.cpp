@@ -63,6 +63,9 @@ Rows between_individuals(uint32_t name) {
     return symbol(name, {sequence(0), individual(1), sequence(2), individual(3), sequence(4)});
 }
 
+// The second sequence stands before one term and the list's end: every value of it is walked with, and all but one fail there.
+Rows walked(uint32_t name) { return symbol(name, {sequence(0), individual(1), sequence(2), individual(3)}); }
+
 Rows two_contexts(const Rows &inside) { return context(0, context(1, inside)); }
 
 Rows any_of(const std::vector<Rows> &letters) {
@@ -141,7 +144,7 @@ void add_larger_trees(Cases &cases, Pairs &pairs) {
 
 // Behind k rows: g and k - 1 leaves to the left, or k - 1 rows around and f.
 void add_longer_patterns(Cases &cases, Pairs &pairs) {
-    const Case *beside[2], *inside[2];
+    const Case *beside[2], *inside[2], *each[2];
     for (int k = 0; k < 2; k++) {
         size_t rows = k ? 30 : 3;
         std::string behind = std::to_string(rows) + " pattern rows, 100 leaves";
@@ -149,9 +152,12 @@ void add_longer_patterns(Cases &cases, Pairs &pairs) {
                                {symbol(G, after(rows - 1, alternating(100))), between_a_and_b(G, after(rows - 1, {}))});
         inside[k] = &cases.add("x\\*, a, y\\*, b, z\\* with, around it, " + behind,
                                {below(rows - 1, symbol(F, alternating(100))), below(rows - 1, between_a_and_b(F))});
+        each[k] = &cases.add("x\\*, i, y\\*, j, each try walked, with, around it, " + behind,
+                             {below(rows - 1, symbol(F, alternating(100))), below(rows - 1, walked(F))});
     }
     pairs.push_back({"a try behind 30 pattern rows / behind 3, to the left", *beside[1], *beside[0], 1.5});
     pairs.push_back({"a try behind 30 pattern rows / behind 3, around", *inside[1], *inside[0], 1.5});
+    pairs.push_back({"a try behind 30 pattern rows / behind 3, around, each try walked", *each[1], *each[0], 1.5});
 }
 
 void add_constrained_sequences(Cases &cases, Pairs &pairs) {
@@ -161,9 +167,12 @@ void add_constrained_sequences(Cases &cases, Pairs &pairs) {
     const Case &three = cases.add("the same, x\\*, y\\*, z\\* in (a\\|b)\\*", {tree, pattern, a_or_b(), {1, 1, 1}});
     const Case &open = cases.add("f(x\\*, i, y\\*, j, z\\*), i and j individuals, on 200 leaves", {tree, free});
     const Case &held = cases.add("the same, x\\*, y\\*, z\\* in (a\\|b)\\*", {tree, free, a_or_b(), {1, 0, 1, 0, 1}});
+    const Case &each = cases.add("f(x\\*, i, y\\*, j), each try walked, on 200 leaves", {tree, walked(F)});
+    const Case &judged = cases.add("the same, x\\*, y\\* in (a\\|b)\\*", {tree, walked(F), a_or_b(), {1, 0, 1, 0}});
     pairs.push_back({"constrained / unconstrained, x\\* before a symbol", one, none, 4});
     pairs.push_back({"constrained / unconstrained, x\\*, y\\*, z\\* before symbols", three, none, 4});
     pairs.push_back({"constrained / unconstrained, x\\*, y\\*, z\\* before individuals", held, open, 4});
+    pairs.push_back({"constrained / unconstrained, x\\*, y\\*, each try walked", judged, each, 4});
 }
 
 void add_constrained_contexts(Cases &cases, Pairs &pairs) {
