@@ -55,9 +55,9 @@ module _ (flag kind a b : ℕ) where
 
 -- ---- the constraint
 
-module _ (L S name first : List ℕ) (null : List Bool) (cont : List ℕ) (ends : List Bool) (start flag kind a b : ℕ) where
+module _ (L S tables : List ℕ) (start flag kind a b : ℕ) where
   abbrev Post : Bool → Type 0
-  Post r = ObeysPost L S name first null cont ends start flag kind a b r
+  Post r = ObeysPost L S tables start flag kind a b r
 
   pub obeys-free : start ≡ 0 → Post true
   obeys-free z = record { is = λ es k c v t e p x. rw (pair-free p z .1) (says-yes tt) }
@@ -72,7 +72,7 @@ module _ (L S name first : List ℕ) (null : List Bool) (cont : List ℕ) (ends 
         }
 
     pub obeys-read : r ≡ false → {root next : ℕ} {end : Bool} → root ≡ start - 1
-        → ((k : Kind) (v : Value) → kind ≡ code k → MayHave k → ValueAt L S a b k v → After name first null cont ends root (word v) next end) → Post end
+        → ((k : Kind) (v : Value) → kind ≡ code k → MayHave k → ValueAt L S a b k v → After tables root (word v) next end) → Post end
     obeys-read f {root} {next} {end} q after =
         record {
           is = λ es k c v t e p x.
@@ -83,23 +83,23 @@ module _ (L S name first : List ℕ) (null : List Bool) (cont : List ℕ) (ends 
         }
 
 -- what is read
-module _ (L S name first : List ℕ) (null : List Bool) (cont : List ℕ) (ends : List Bool) (kind a b : ℕ) where
+module _ (L S tables : List ℕ) (kind a b : ℕ) where
   pub heads-after : {root next : ℕ} {end : Bool} → kind ≡ 2
-      → ((e : ℕ) (f : Forest) → TermsAt L S a e f → b ≤ terms f → After name first null cont ends root (heads (takeT b f)) next end)
-      → (k : Kind) (v : Value) → kind ≡ code k → MayHave k → ValueAt L S a b k v → After name first null cont ends root (word v) next end
+      → ((e : ℕ) (f : Forest) → TermsAt L S a e f → b ≤ terms f → After tables root (heads (takeT b f)) next end)
+      → (k : Kind) (v : Value) → kind ≡ code k → MayHave k → ValueAt L S a b k v → After tables root (word v) next end
   heads-after {root} {next} {end} q after k v e m x = go x (sym e ∙ q) m
     where
-      go : {k : Kind} {v : Value} → ValueAt L S a b k v → code k ≡ 2 → MayHave k → After name first null cont ends root (word v) next end
+      go : {k : Kind} {v : Value} → ValueAt L S a b k v → code k ≡ 2 → MayHave k → After tables root (word v) next end
       go (a-sequence {e = e} {f = f} x h) q m = after e f x h
       go (a-context x) q m = absurd (omega arith)
       go (another n) q m = absurd (n m)
 
   pub path-after : {root next : ℕ} {end : Bool} → kind ≢ 2
-      → ((c : Context) → ContextAt L S a b c → After name first null cont ends root (path c) next end)
-      → (k : Kind) (v : Value) → kind ≡ code k → MayHave k → ValueAt L S a b k v → After name first null cont ends root (word v) next end
+      → ((c : Context) → ContextAt L S a b c → After tables root (path c) next end)
+      → (k : Kind) (v : Value) → kind ≡ code k → MayHave k → ValueAt L S a b k v → After tables root (word v) next end
   path-after {root} {next} {end} n after k v e m x = go x (λ z. n (e ∙ z)) m
     where
-      go : {k : Kind} {v : Value} → ValueAt L S a b k v → code k ≢ 2 → MayHave k → After name first null cont ends root (word v) next end
+      go : {k : Kind} {v : Value} → ValueAt L S a b k v → code k ≢ 2 → MayHave k → After tables root (word v) next end
       go (a-sequence x h) n m = absurd (n refl)
       go (a-context {c = c} x) n m = after c x
       go (another n) _ m = absurd (n m)

@@ -73,7 +73,7 @@ module _ {es : List Expression} {Q : List Kind} {list : List ℕ} {cs : List Con
       record { low = pair-low g p; some = (es, k, _, v, numbered, p, w) }
 
   -- the answer of `obeys` is exactly what is allowed
-  pub obeys-allowed : {L S name first : List ℕ} {null : List Bool} {cont : List ℕ} {ends : List Bool} {a b : ℕ} {r : Bool} {v : Value}
-      → ObeysPost L S name first null cont ends (getD list (x + x) 0) (getD list (x + x + 1) 0) number a b r → TablesOf es name first null cont ends → ValueAt L S a b k v
+  pub obeys-allowed : {L S tables : List ℕ} {a b : ℕ} {r : Bool} {v : Value}
+      → ObeysPost L S tables (getD list (x + x) 0) (getD list (x + x + 1) 0) number a b r → TablesOf es tables → ValueAt L S a b k v
       → Says r (Allowed cs x v)
   obeys-allowed {v = v} post t w = post .is es k _ v t numbered (pair-at x good kept) w

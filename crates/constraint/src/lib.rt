@@ -92,22 +92,20 @@ pub struct Mark {
 pub fn read_on(
     label: &[u32],
     size: &[u32],
-    name: &[u32; 64],
-    cont: &[u64; 64],
-    ends: &[bool; 64],
+    tables: &[u64; 320],
     start: usize,
     next: u64,
     end: bool,
     more: usize,
 ) -> Mark
     requires { ⌜ MorePre (now label) (now size) start more ⌝ }
-    ensures { λ r. ⌜ ReadOn (now (label .entry)) (now (size .entry)) (now (name .entry)) (now (cont .entry)) (now (ends .entry)) start next end more (r .row) (r .next) (r .end) ⌝ }
+    ensures { λ r. ⌜ ReadOn (now (label .entry)) (now (size .entry)) (now (tables .entry)) start next end more (r .row) (r .next) (r .end) ⌝ }
 {
     let mut state = letters::State { next, end };
     let mut row = start;
     let mut left = more;
     while 0 < left {
-        state = letters::step(state.next, name, cont, ends, label[row]);
+        state = letters::step(state.next, tables, label[row]);
         row = tree::next(size, row);
         left -= 1;
     }
@@ -122,53 +120,35 @@ pub fn read_on(
 pub fn after_heads(
     label: &[u32],
     size: &[u32],
-    name: &[u32; 64],
-    first: &[u64; 64],
-    null: &[bool; 64],
-    cont: &[u64; 64],
-    ends: &[bool; 64],
+    tables: &[u64; 320],
     root: usize,
     a: usize,
     count: usize,
 ) -> Mark
     requires { ⌜ HeadsPre (now label) (now size) root a count ⌝ }
-    ensures { λ r. ⌜ ReadTo (now (label .entry)) (now (size .entry)) (now (name .entry)) (now (first .entry)) (now (null .entry)) (now (cont .entry)) (now (ends .entry)) root a count (r .row) (r .next) (r .end) ⌝ }
+    ensures { λ r. ⌜ ReadTo (now (label .entry)) (now (size .entry)) (now (tables .entry)) root a count (r .row) (r .next) (r .end) ⌝ }
 {
-    let state = letters::begin(first, null, root);
-    read_on(
-        label,
-        size,
-        name,
-        cont,
-        ends,
-        a,
-        state.next,
-        state.end,
-        count,
-    )
+    let state = letters::begin(tables, root);
+    read_on(label, size, tables, a, state.next, state.end, count)
 }
 
 // The state after the labels on the path from the row a down to the row b, that of b left out.
 pub fn after_path(
     label: &[u32],
     size: &[u32],
-    name: &[u32; 64],
-    first: &[u64; 64],
-    null: &[bool; 64],
-    cont: &[u64; 64],
-    ends: &[bool; 64],
+    tables: &[u64; 320],
     root: usize,
     a: usize,
     b: usize,
 ) -> letters::State
     requires { ⌜ PathPre (now label) (now size) root a b ⌝ }
     ensures { λ r. ⌜ ((c : Context) → ContextAt (now (label .entry)) (now (size .entry)) a b c
-        → After (now (name .entry)) (now (first .entry)) (now (null .entry)) (now (cont .entry)) (now (ends .entry)) root (path c) (r .next) (r .end)) ⌝ }
+        → After (now (tables .entry)) root (path c) (r .next) (r .end)) ⌝ }
 {
-    let mut state = letters::begin(first, null, root);
+    let mut state = letters::begin(tables, root);
     let mut down = a;
     while down != b {
-        state = letters::step(state.next, name, cont, ends, label[down]);
+        state = letters::step(state.next, tables, label[down]);
         down = tree::child(size, down, b);
     }
     state
@@ -191,11 +171,7 @@ pub fn forbidden(flag: u32, kind: u32, a: usize, b: usize) -> bool
 pub fn obeys(
     label: &[u32],
     size: &[u32],
-    name: &[u32; 64],
-    first: &[u64; 64],
-    null: &[bool; 64],
-    cont: &[u64; 64],
-    ends: &[bool; 64],
+    tables: &[u64; 320],
     start: u32,
     flag: u32,
     kind: u32,
@@ -203,7 +179,7 @@ pub fn obeys(
     b: usize,
 ) -> bool
     requires { ⌜ ObeysPre (now label) (now size) start flag kind a b ⌝ }
-    ensures { λ r. ⌜ ObeysPost (now (label .entry)) (now (size .entry)) (now (name .entry)) (now (first .entry)) (now (null .entry)) (now (cont .entry)) (now (ends .entry)) start flag kind a b r ⌝ }
+    ensures { λ r. ⌜ ObeysPost (now (label .entry)) (now (size .entry)) (now (tables .entry)) start flag kind a b r ⌝ }
 {
     if start == 0 {
         return true;
@@ -214,9 +190,9 @@ pub fn obeys(
     let above = start as usize;
     let root = above - 1;
     if kind == 2 {
-        let state = after_heads(label, size, name, first, null, cont, ends, root, a, b);
+        let state = after_heads(label, size, tables, root, a, b);
         return state.end;
     }
-    let state = after_path(label, size, name, first, null, cont, ends, root, a, b);
+    let state = after_path(label, size, tables, root, a, b);
     state.end
 }

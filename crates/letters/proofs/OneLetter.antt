@@ -29,27 +29,27 @@ stepEnd reads ends s = visit (addEnd reads ends) s false
 or-l : (a b : Bool) → a ≡ true → (a || b) ≡ true
 or-l a b e = rw e
 
-module _ {Letter : Type 0} (Reads : ℕ → Letter → Type 0) (name cont : ℕ → ℕ) (ends : ℕ → Bool) (c : Letter) (reads : ℕ → Bool)
-    (says : (p : ℕ) → Says (reads p) (Reads (name p) c)) (w : List Letter) where
+module _ {Letter : Type 0} (Row : ℕ → Letter → Type 0) (cont : ℕ → ℕ) (ends : ℕ → Bool) (c : Letter) (reads : ℕ → Bool)
+    (says : (p : ℕ) → Says (reads p) (Row p c)) (w : List Letter) where
   abbrev Ac : ℕ → Bool → Type 0
-  Ac n b = Accepts Reads name cont ends n b w
+  Ac n b = Accepts Row cont ends n b w
 
   abbrev A : ℕ → Type 0
-  A p = Accepts Reads name cont ends (cont p) (ends p) w
+  A p = Accepts Row cont ends (cont p) (ends p) w
 
-  none : (v : List Letter) → Accepts Reads name cont ends 0 false v → ⊥
+  none : (v : List Letter) → Accepts Row cont ends 0 false v → ⊥
   none [] e = true≢false (sym e)
   none (x ∷ v) a = has-zero (a .0) (a .1)
 
   -- one row
   one-sound : (p d n : ℕ) (b : Bool) → d < 2 → Ac (pick d (addSet reads cont p) n) (pick d (addEnd reads ends p) b)
-      → Ac n b ⊎ ((d ≡ 1) × Reads (name p) c × A p)
+      → Ac n b ⊎ ((d ≡ 1) × Row p c × A p)
   one-sound p zero n b h a = inl a
   one-sound p (suc d) n b h a = go (reads p) refl a
     where
-      go : (t : Bool) → reads p ≡ t → Ac (cond t (bitOr n (cont p)) n) (cond t (b || ends p) b) → Ac n b ⊎ ((suc d ≡ 1) × Reads (name p) c × A p)
+      go : (t : Bool) → reads p ≡ t → Ac (cond t (bitOr n (cont p)) n) (cond t (b || ends p) b) → Ac n b ⊎ ((suc d ≡ 1) × Row p c × A p)
       go true e a =
-          ⊎-elim (λ x. inl x) (λ x. inr (omega arith, says p .0 e, x)) (accepts-or Reads name cont ends n (cont p) b (ends p) w a)
+          ⊎-elim (λ x. inl x) (λ x. inr (omega arith, says p .0 e, x)) (accepts-or Row cont ends n (cont p) b (ends p) w a)
       go false e a = inl a
 
   one-keep : (p d n : ℕ) (b : Bool) → Ac n b → Ac (pick d (addSet reads cont p) n) (pick d (addEnd reads ends p) b)
@@ -57,15 +57,15 @@ module _ {Letter : Type 0} (Reads : ℕ → Letter → Type 0) (name cont : ℕ 
   one-keep p (suc d) n b a = go (reads p)
     where
       go : (t : Bool) → Ac (cond t (bitOr n (cont p)) n) (cond t (b || ends p) b)
-      go true = mono Reads name cont ends (λ q h. has-or-l n (cont p) q h) (λ e. or-l b (ends p) e) w a
+      go true = mono Row cont ends (λ q h. has-or-l n (cont p) q h) (λ e. or-l b (ends p) e) w a
       go false = a
 
-  one-add : (p n : ℕ) (b : Bool) → Reads (name p) c → A p → Ac (addSet reads cont p n) (addEnd reads ends p b)
-  one-add p n b e a = rw (says p .1 e) (mono Reads name cont ends (λ q h. has-or-r n (cont p) q h) (λ e. true-or b e) w a)
+  one-add : (p n : ℕ) (b : Bool) → Row p c → A p → Ac (addSet reads cont p n) (addEnd reads ends p b)
+  one-add p n b e a = rw (says p .1 e) (mono Row cont ends (λ q h. has-or-r n (cont p) q h) (λ e. true-or b e) w a)
 
   -- the walk
   walk-sound : (k i s n : ℕ) (b : Bool) → Ac (walk (addSet reads cont) k i s n) (walk (addEnd reads ends) k i s b)
-      → Ac n b ⊎ ((q : ℕ) × Has s q × Reads (name (i + q)) c × A (i + q))
+      → Ac n b ⊎ ((q : ℕ) × Has s q × Row (i + q) c × A (i + q))
   unfolding walk
   walk-sound zero i s n b a = inl a
   walk-sound (suc k) i s n b a =
@@ -80,7 +80,7 @@ module _ {Letter : Type 0} (Reads : ℕ → Letter → Type 0) (name cont : ℕ 
   walk-keep zero i s n b a = a
   walk-keep (suc k) i s n b a = walk-keep k (suc i) (s / 2) _ _ (one-keep i (s % 2) n b a)
 
-  walk-add : (k i s n q : ℕ) (b : Bool) → q < k → Has s q → Reads (name (i + q)) c → A (i + q)
+  walk-add : (k i s n q : ℕ) (b : Bool) → q < k → Has s q → Row (i + q) c → A (i + q)
       → Ac (walk (addSet reads cont) k i s n) (walk (addEnd reads ends) k i s b)
   unfolding walk
   walk-add zero i s n q b l h e a = absurd (omega arith)
@@ -88,12 +88,12 @@ module _ {Letter : Type 0} (Reads : ℕ → Letter → Type 0) (name cont : ℕ 
   walk-add (suc k) i s n (suc q) b l h e a =
       walk-add k (suc i) (s / 2) _ q _ (omega arith) h (rw (add-suc, ← suc-add) at e) (rw (add-suc, ← suc-add) at a)
 
-  pub step-sound : (s : ℕ) → Ac (stepSet reads cont s) (stepEnd reads ends s) → (b : Bool) → Accepts Reads name cont ends s b (c ∷ w)
+  pub step-sound : (s : ℕ) → Ac (stepSet reads cont s) (stepEnd reads ends s) → (b : Bool) → Accepts Row cont ends s b (c ∷ w)
   unfolding visit
   step-sound s a b =
       ⊎-elim (λ x. absurd (none w x)) (λ x. (x .0, x .1, rw zero-add at (x .2), rw zero-add at (x .3))) (walk-sound 64 0 s 0 false a)
 
-  pub step-complete : (s : ℕ) → s < 2 ^ 64 → (b : Bool) → Accepts Reads name cont ends s b (c ∷ w) → Ac (stepSet reads cont s) (stepEnd reads ends s)
+  pub step-complete : (s : ℕ) → s < 2 ^ 64 → (b : Bool) → Accepts Row cont ends s b (c ∷ w) → Ac (stepSet reads cont s) (stepEnd reads ends s)
   unfolding visit
   step-complete s l b a =
       walk-add 64 0 s 0 (a .0) false (has-below 64 s (a .0) l (a .1)) (a .1) (rw zero-add (a .2)) (rw zero-add (a .3))

@@ -1,3 +1,4 @@
 pub mod Accepts
+pub mod Tables
 pub mod State
 pub mod Following

@@ -10,6 +10,7 @@ ghost use Rattle.expression.specs.Starts.{StartsAt};
 ghost use Rattle.expression.specs.Rule.{numberAt};
 ghost use Rattle.letters.specs.Accepts.{flagAt};
 ghost use Rattle.letters.specs.State.{StateOf, TablesOf};
+ghost use Rattle.letters.specs.Tables.{noted, five, LayPre, Holds};
 ghost use Rattle.letters.specs.Following.{gate, headSet, headNull, HeadRow, Shape, PartsAre, followed, ContsOf};
 
 // The rows that may read the next letter, and whether the word may end here.
@@ -18,20 +19,17 @@ pub struct State {
     pub end: bool,
 }
 
-// For each row of a table: its name; the rows that may read first in it, and whether it has the empty word; the rows that may
-// read next after it, and whether the word may end after it.
-pub struct Tables {
-    pub name: [u32; 64],
-    pub first: [u64; 64],
-    pub null: [bool; 64],
-    pub cont: [u64; 64],
-    pub ends: [bool; 64],
-}
-
 fn wide(x: u32) -> usize
     ensures { λ r. ⌜ r ≡ x ⌝ }
 {
     x as usize
+}
+
+// A flag as a number.
+pub fn number(flag: bool) -> usize
+    ensures { λ r. ⌜ r ≡ noted flag ⌝ }
+{
+    if flag { 1 } else { 0 }
 }
 
 fn gated(on: bool, x: u64) -> u64
@@ -115,7 +113,8 @@ struct Heads {
 fn heads_of(kind: &[u32], size: &[u32]) -> Heads
     requires { ⌜ (length (now size) ≡ length (now kind)) × (length (now kind) ≤ 64)
         × Shape (numberAt (now kind)) (numberAt (now size)) (length (now kind)) ⌝ }
-    ensures { λ h. ⌜ ((s : ℕ) → s < length (now (kind .entry)) → HeadRow (numberAt (now (kind .entry))) (numberAt (now (size .entry))) (numberAt (h .first)) (flagAt (h .null)) s) ⌝ }
+    ensures { λ h. ⌜ (length (h .first) ≡ 64) × (length (h .null) ≡ 64)
+        × ((s : ℕ) → s < length (now (kind .entry)) → HeadRow (numberAt (now (kind .entry))) (numberAt (now (size .entry))) (numberAt (h .first)) (flagAt (h .null)) s) ⌝ }
 {
     let mut first = [0u64; 64];
     let mut null = [false; 64];
@@ -176,7 +175,8 @@ struct Conts {
 fn conts_of(kind: &[u32], size: &[u32], first: &[u64; 64], null: &[bool; 64]) -> Conts
     requires { ⌜ (length (now size) ≡ length (now kind)) × (length (now kind) ≤ 64)
         × Shape (numberAt (now kind)) (numberAt (now size)) (length (now kind)) ⌝ }
-    ensures { λ r. ⌜ ((name : List ℕ) (es : List Expression) → GoodTable (now (kind .entry)) name (now (size .entry)) es
+    ensures { λ r. ⌜ (length (r .cont) ≡ 64) × (length (r .ends) ≡ 64)
+        × ((name : List ℕ) (es : List Expression) → GoodTable (now (kind .entry)) name (now (size .entry)) es
         → ContsOf (now (first .entry)) (now (null .entry)) (r .cont) (r .ends) es (length (now (kind .entry)))) ⌝ }
 {
     let mut cont = [0u64; 64];
@@ -218,7 +218,7 @@ struct Names {
 
 fn names_of(name: &[u32]) -> Names
     requires { ⌜ length (now name) ≤ 64 ⌝ }
-    ensures { λ r. ⌜ ((s : ℕ) → s < length (now (name .entry)) → numberAt (r .name) s ≡ numberAt (now (name .entry)) s) ⌝ }
+    ensures { λ r. ⌜ (length (r .name) ≡ 64) × ((s : ℕ) → s < length (now (name .entry)) → numberAt (r .name) s ≡ numberAt (now (name .entry)) s) ⌝ }
 {
     let mut copy = [0u32; 64];
     let mut i = 0;
@@ -229,10 +229,51 @@ fn names_of(name: &[u32]) -> Names
     Names { name: copy }
 }
 
-// The tables of a good expression table, computed once for all words.
-pub fn tables_of(kind: &[u32], name: &[u32], size: &[u32]) -> Tables
-    requires { ⌜ ((es : List Expression) × GoodTable (now kind) (now name) (now size) es) ⌝ }
-    ensures { λ t. ⌜ ((es : List Expression) → GoodTable (now (kind .entry)) (now (name .entry)) (now (size .entry)) es → TablesOf es (t .name) (t .first) (t .null) (t .cont) (t .ends)) ⌝ }
+// The five numbers of a row: its name; the rows that may read first in it, and whether it has the empty word; the rows that may read
+// next after it, and whether the word may end after it.
+fn put(tables: &mut [u64; 320], row: usize, name: u32, head: Head, after: State)
+    requires { ⌜ (row < 64) × (length (now tables) ≡ 320) ⌝ }
+    ensures { λ _. ⌜ now (tables .exit) ≡ five (now (tables .entry)) row name (head .first) (noted (head .null)) (after .next) (noted (after .end)) ⌝ }
+{
+    let at = 5 * row;
+    tables[at] = name as u64;
+    tables[at + 1] = head.first;
+    tables[at + 2] = number(head.null) as u64;
+    tables[at + 3] = after.next;
+    tables[at + 4] = number(after.end) as u64;
+}
+
+// Five lists of a number for each row as one list.
+fn lay(
+    name: &[u32; 64],
+    first: &[u64; 64],
+    null: &[bool; 64],
+    cont: &[u64; 64],
+    ends: &[bool; 64],
+    tables: &mut [u64; 320],
+)
+    requires { ⌜ LayPre (now name) (now first) (now null) (now cont) (now ends) (now tables) ⌝ }
+    ensures { λ _. ⌜ Holds (now (name .entry)) (now (first .entry)) (now (null .entry)) (now (cont .entry)) (now (ends .entry)) (now (tables .exit)) ⌝ }
+{
+    let mut row = 0;
+    while row < 64 {
+        let head = Head {
+            first: first[row],
+            null: null[row],
+        };
+        let after = State {
+            next: cont[row],
+            end: ends[row],
+        };
+        put(tables, row, name[row], head, after);
+        row += 1;
+    }
+}
+
+// The tables of a good expression table, computed once for all words: five numbers a row, in one list.
+pub fn tables_of(kind: &[u32], name: &[u32], size: &[u32], tables: &mut [u64; 320])
+    requires { ⌜ (length (now tables) ≡ 320) × ((es : List Expression) × GoodTable (now kind) (now name) (now size) es) ⌝ }
+    ensures { λ _. ⌜ ((es : List Expression) → GoodTable (now (kind .entry)) (now (name .entry)) (now (size .entry)) es → TablesOf es (now (tables .exit))) ⌝ }
 {
     let n = names_of(name);
     let copy = n.name;
@@ -242,42 +283,37 @@ pub fn tables_of(kind: &[u32], name: &[u32], size: &[u32]) -> Tables
     let c = conts_of(kind, size, &first, &null);
     let cont = c.cont;
     let ends = c.ends;
-    Tables {
-        name: copy,
-        first: first,
-        null: null,
-        cont: cont,
-        ends: ends,
-    }
+    lay(&copy, &first, &null, &cont, &ends, tables);
 }
 
 // The state before the first letter, for the expression that starts at the row `root`.
-pub fn begin(first: &[u64; 64], null: &[bool; 64], root: usize) -> State
+pub fn begin(tables: &[u64; 320], root: usize) -> State
     requires { ⌜ root < 64 ⌝ }
-    ensures { λ r. ⌜ ((es : List Expression) (e : Expression) (name cont : List ℕ) (ends : List Bool) → TablesOf es name (now (first .entry)) (now (null .entry)) cont ends
-        → StartsAt es e root → StateOf name cont ends e [] (r .next) (r .end)) ⌝ }
+    ensures { λ r. ⌜ ((es : List Expression) (e : Expression) → TablesOf es (now (tables .entry))
+        → StartsAt es e root → StateOf (now (tables .entry)) e [] (r .next) (r .end)) ⌝ }
 {
-    let heads = first[root];
-    let empty = null[root];
+    let at = 5 * root;
     State {
-        next: heads,
-        end: empty,
+        next: tables[at + 1],
+        end: tables[at + 2] == 1,
     }
 }
 
 // One more letter is read: the rows of the set that have its label are visited from the lowest up.
-pub fn step(next: u64, name: &[u32; 64], cont: &[u64; 64], ends: &[bool; 64], label: u32) -> State
-    ensures { λ r. ⌜ ((e : Expression) (word : List ℕ) (end : Bool) → StateOf (now (name .entry)) (now (cont .entry)) (now (ends .entry)) e word next end
-        → StateOf (now (name .entry)) (now (cont .entry)) (now (ends .entry)) e (word ++ (label ∷ [])) (r .next) (r .end)) ⌝ }
+pub fn step(next: u64, tables: &[u64; 320], label: u32) -> State
+    ensures { λ r. ⌜ ((e : Expression) (word : List ℕ) (end : Bool) → StateOf (now (tables .entry)) e word next end
+        → StateOf (now (tables .entry)) e (word ++ (label ∷ [])) (r .next) (r .end)) ⌝ }
 {
+    let letter = label as u64;
     let mut left = next;
     let mut set: u64 = 0;
     let mut end = false;
     while left != 0 {
         let p = u64::trailing_zeros(left) as usize;
-        if name[p] == label {
-            set = set | cont[p];
-            end = end | ends[p];
+        let at = 5 * p;
+        if tables[at] == letter {
+            set = set | tables[at + 3];
+            end = end | (tables[at + 4] == 1);
         }
         left = left - (1u64 << p);
     }

@@ -11,12 +11,12 @@ use Rattle.walk.specs.declared.Out.the-variants as out
 use Rattle.walk.proofs.Marks.{unchanged-same}
 use Rattle.levels.specs.Levels.{AttemptPre, AttemptPost}
 
-module _ {L S M name first : List ℕ} {null : List Bool} {cont : List ℕ} {ends : List Bool} {C kinds R A : List ℕ} {p x s u v : ℕ}
-    (pre : AttemptPre L S M name first null cont ends C kinds R A p x s u v) where
-  pub try-judged : JudgePre L S name first null cont ends C kinds x s v
+module _ {L S M tables : List ℕ} {C kinds R A : List ℕ} {p x s u v : ℕ}
+    (pre : AttemptPre L S M tables C kinds R A p x s u v) where
+  pub try-judged : JudgePre L S tables C kinds x s v
   try-judged = let h = pre .some in record { some = (h .0, h .2, h .3, h .4, h .5, h .9 .judging, h .10, h .11) }
 
-  pub try-fails : {r : Bool} → JudgePost L S name first null cont ends C kinds x s v r → r ≡ false → AttemptPost L S M name first null cont ends C kinds R A p x s u v out.Fail R A
+  pub try-fails : {r : Bool} → JudgePost L S tables C kinds x s v r → r ≡ false → AttemptPost L S M tables C kinds R A p x s u v out.Fail R A
   try-fails post e =
       record {
         is = λ T P Q es cs k f lo hi w l g a. (λ n. refl, λ b. absurd (said-no (post .is T Q es cs k (w .judging) l g) e b), unchanged-same, unchanged-same);
@@ -25,8 +25,8 @@ module _ {L S M name first : List ℕ} {null : List Bool} {cont : List ℕ} {end
   pub try-asked : TakePre L S M R A p x s u v
   try-asked = let h = pre .some in record { some = (h .9 .K, h .9 .N, h .9 .Z, h .2, h .6, h .7, h .8, h .12) }
 
-  pub try-walked : {r : Bool} {o : Out} {R′ A′ : List ℕ} → JudgePost L S name first null cont ends C kinds x s v r → r ≡ true → TakePost L S M R A p x s u v o R′ A′
-      → AttemptPost L S M name first null cont ends C kinds R A p x s u v o R′ A′
+  pub try-walked : {r : Bool} {o : Out} {R′ A′ : List ℕ} → JudgePost L S tables C kinds x s v r → r ≡ true → TakePost L S M R A p x s u v o R′ A′
+      → AttemptPost L S M tables C kinds R A p x s u v o R′ A′
   try-walked post e walk =
       record {
         is = λ T P Q es cs k f lo hi w l g a.

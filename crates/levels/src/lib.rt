@@ -8,11 +8,7 @@ pub fn attempt(
     label: &[u32],
     size: &[u32],
     pattern: &[u32; 768],
-    name: &[u32; 64],
-    first: &[u64; 64],
-    null: &[bool; 64],
-    cont: &[u64; 64],
-    ends: &[bool; 64],
+    tables: &[u64; 320],
     constraint: &[u32],
     kinds: &[u32; 16],
     record: &mut [u32; 32],
@@ -25,19 +21,15 @@ pub fn attempt(
     memory: &mut [usize; 80],
     path: &mut [usize; 259],
 ) -> walk::Out
-    requires { ⌜ AttemptPre (now label) (now size) (now pattern) (now name) (now first) (now null) (now cont) (now ends) (now constraint) (now kinds) (now «record») (now at) p x s u v
-        × Both (now label) (now size) (now name) (now first) (now null) (now cont) (now ends) (now constraint) (now memory) (now path) ⌝ }
-    ensures { λ r. ⌜ AttemptPost (now (label .entry)) (now (size .entry)) (now (pattern .entry)) (now (name .entry)) (now (first .entry)) (now (null .entry)) (now (cont .entry)) (now (ends .entry)) (now (constraint .entry)) (now (kinds .entry)) (now («record» .entry)) (now (at .entry)) p x s u v r (now («record» .exit)) (now (at .exit))
-        × Both (now (label .entry)) (now (size .entry)) (now (name .entry)) (now (first .entry)) (now (null .entry)) (now (cont .entry)) (now (ends .entry)) (now (constraint .entry)) (now (memory .exit)) (now (path .exit)) ⌝ }
+    requires { ⌜ AttemptPre (now label) (now size) (now pattern) (now tables) (now constraint) (now kinds) (now «record») (now at) p x s u v
+        × Both (now label) (now size) (now tables) (now constraint) (now memory) (now path) ⌝ }
+    ensures { λ r. ⌜ AttemptPost (now (label .entry)) (now (size .entry)) (now (pattern .entry)) (now (tables .entry)) (now (constraint .entry)) (now (kinds .entry)) (now («record» .entry)) (now (at .entry)) p x s u v r (now («record» .exit)) (now (at .exit))
+        × Both (now (label .entry)) (now (size .entry)) (now (tables .entry)) (now (constraint .entry)) (now (memory .exit)) (now (path .exit)) ⌝ }
 {
     if !memory::judge(
         label,
         size,
-        name,
-        first,
-        null,
-        cont,
-        ends,
+        tables,
         constraint,
         kinds,
         x,

@@ -38,18 +38,18 @@ use Rattle.levels.proofs.Pauses.{pauses-first}
 use Rattle.lister.specs.Begun.{BeginAsked, BeginPre, BeginPost}
 
 -- the first walk was made: its answer o, the record R′ and the rows A′
-pub record Begun (L S M name first : List ℕ) (null : List Bool) (cont : List ℕ) (ends : List Bool) (C kinds : List ℕ)
+pub record Begun (L S M tables : List ℕ) (C kinds : List ℕ)
     (room width : ℕ) (before R′ A′ : List ℕ) (o : Out) : Type 0 where
   pub R : List ℕ
   pub A : List ℕ
   pub long : length R ≡ 32
   pub rows-long : length A ≡ 512
-  pub pre : BeginPre L S M name first null cont ends C kinds room width before
+  pub pre : BeginPre L S M tables C kinds room width before
   pub walked : onward.BeginPost L S M R A o R′ A′
 
-module _ {L S M name first : List ℕ} {null : List Bool} {cont : List ℕ} {ends : List Bool} {C kinds : List ℕ} {room width : ℕ} {before : List ℕ} where
+module _ {L S M tables : List ℕ} {C kinds : List ℕ} {room width : ℕ} {before : List ℕ} where
   module _ {T : Term} {P : Pattern} {Q : List Kind} {es : List Expression} {cs : List Constraint}
-      (a : BeginAsked L S M name first null cont ends C kinds room width before T P Q es cs) where
+      (a : BeginAsked L S M tables C kinds room width before T P Q es cs) where
     fixed : Fixed (walked (Allowed cs) (allowed? cs) (a .search .pattern .numbered) T) (count Q) (size T) width room before
     fixed = is-fixed (a .search) (a .wide) (a .fits)
 
@@ -66,15 +66,15 @@ module _ {L S M name first : List ℕ} {null : List Bool} {cont : List ℕ} {end
           marks = record { few = a .search .pattern .few; long = l };
         }
 
-  pub first-asked : {R A : List ℕ} → BeginPre L S M name first null cont ends C kinds room width before → length R ≡ 32 → length A ≡ 512 → onward.BeginPre L S M R A
+  pub first-asked : {R A : List ℕ} → BeginPre L S M tables C kinds room width before → length R ≡ 32 → length A ≡ 512 → onward.BeginPre L S M R A
   first-asked p h l = let s = p .some in record { some = (s .0, s .1, s .2, problem (s .5) h l) }
 
-  module _ {R′ A′ : List ℕ} {o : Out} (b : Begun L S M name first null cont ends C kinds room width before R′ A′ o) where
+  module _ {R′ A′ : List ℕ} {o : Out} (b : Begun L S M tables C kinds room width before R′ A′ o) where
     abbrev Asked : Term → Pattern → List Kind → List Expression → List Constraint → Type 0
-    Asked = BeginAsked L S M name first null cont ends C kinds room width before
+    Asked = BeginAsked L S M tables C kinds room width before
 
     abbrev Post : ℕ → Found → List ℕ → Type 0
-    Post budget = BeginPost L S M name first null cont ends C kinds budget room width before
+    Post budget = BeginPost L S M tables C kinds budget room width before
 
     answered : {T : Term} {P : Pattern} {Q : List Kind} {es : List Expression} {cs : List Constraint} (a : Asked T P Q es cs)
         → Answers R′ o (walk (Allowed cs) (allowed? cs) P T [])
@@ -154,7 +154,7 @@ module _ {L S M name first : List ℕ} {null : List Bool} {cont : List ℕ} {end
             (needs a .1, v .1, omega (arith, m .1, v .0), rw (v .0) at (needed a), subst (λ (i : ℕ). Needs L S R′ A′ (a .search .K) (a .search .N) (a .search .Z) Q [] (walkT Any any? P T 0 []) p x s i (needs a .1)) (v .0) (needs a .2))
 
         asked : {T : Term} {P : Pattern} {Q : List Kind} {es : List Expression} {cs : List Constraint} (a : Asked T P Q es cs)
-            → GoAsked L S M name first null cont ends C kinds room width R′ A′ (level p) (level x) (level s) (level s) (level lo) (level n) 1 before T P Q es cs (replicate 16 0)
+            → GoAsked L S M tables C kinds room width R′ A′ (level p) (level x) (level s) (level s) (level lo) (level n) 1 before T P Q es cs (replicate 16 0)
         asked {T} {P} {Q} {es} {cs} a =
             let d = asks a in
             let none : List ℕ = replicate 16 0 in
@@ -172,7 +172,7 @@ module _ {L S M name first : List ℕ} {null : List Bool} {cont : List ℕ} {end
               pauses = pauses-first (replicate 16 0) (level p) (level x) (level s) (level s) (level lo) (level n) (stops a .marks) (d .2) (d .4) refl refl refl refl refl (sym (d .1));
             }
 
-        pub go-asked : GoPre L S M name first null cont ends C kinds room width R′ A′ (level p) (level x) (level s) (level s) (level lo) (level n) 1 before
+        pub go-asked : GoPre L S M tables C kinds room width R′ A′ (level p) (level x) (level s) (level s) (level lo) (level n) 1 before
         go-asked =
             let h = b .pre .some in
             record {
@@ -187,7 +187,7 @@ module _ {L S M name first : List ℕ} {null : List Bool} {cont : List ℕ} {end
             }
 
         pub begun-need : {budget : ℕ} {r : Found} {after : List ℕ}
-            → GoPost L S M name first null cont ends C kinds budget room width R′ A′ (level p) (level x) (level s) (level s) (level lo) (level n) 1 before r after
+            → GoPost L S M tables C kinds budget room width R′ A′ (level p) (level x) (level s) (level s) (level lo) (level n) 1 before r after
             → Post budget r after
         begun-need {budget} post =
             record {

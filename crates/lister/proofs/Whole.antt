@@ -51,11 +51,11 @@ module _ (l : Lists) {r : Problem} (a : Answered l r) (budget : ℕ) (before : L
     pub few-variables : r .variables ≤ 16
     few-variables = let k = known a z (the a z .poses .rest .pattern) in omega (arith, k .many, k .few)
 
-    module _ {M name first : List ℕ} {null : List Bool} {cont : List ℕ} {ends : List Bool} {room width : ℕ}
-        (tables : (es : List Expression) → GoodTable (l .expressionKind) (l .expressionName) (l .expressionSize) es → TablesOf es name first null cont ends)
+    module _ {M tables : List ℕ} {room width : ℕ}
+        (read : (es : List Expression) → GoodTable (l .expressionKind) (l .expressionName) (l .expressionSize) es → TablesOf es tables)
         (packed : Packed (l .kind) (l .name) (l .patternSize) M) (wide : width ≡ r .variables + r .variables) (fits : room ≡ fitting (length before) width) where
       asked : {T : Term} {P : Pattern} {Q : List Kind} {es : List Expression} {cs : List Constraint} → Poses l T P Q es cs
-          → BeginAsked (l .label) (l .size) M name first null cont ends (l .constraint) (r .kinds) room width before T P Q es cs
+          → BeginAsked (l .label) (l .size) M tables (l .constraint) (r .kinds) room width before T P Q es cs
       asked {es = es} w =
           let k = known a z (w .rest .pattern) in
           record {
@@ -64,7 +64,7 @@ module _ (l : Lists) {r : Problem} (a : Answered l r) (budget : ℕ) (before : L
                   K = l .kind;
                   N = l .name;
                   Z = l .patternSize;
-                  judging = record { tree = w .tree; few = k .few; known = k .are; table = (_, _, _, w .rest .table); tables = tables es (w .rest .table); given = w .rest .constraints };
+                  judging = record { tree = w .tree; few = k .few; known = k .are; table = (_, _, _, w .rest .table); read = read es (w .rest .table); given = w .rest .constraints };
                   pattern = w .rest .pattern;
                   packed = packed;
                 };
@@ -72,10 +72,10 @@ module _ (l : Lists) {r : Problem} (a : Answered l r) (budget : ℕ) (before : L
             fits = rw fits (room-fits (length before) width);
           }
 
-      pub begin-asked : BeginPre (l .label) (l .size) M name first null cont ends (l .constraint) (r .kinds) room width before
+      pub begin-asked : BeginPre (l .label) (l .size) M tables (l .constraint) (r .kinds) room width before
       begin-asked = record { some = (the a z .T, the a z .P, the a z .Q, the a z .es, the a z .cs, asked (the a z .poses)) }
 
-      pub list-done : {f : Found} {after : List ℕ} → BeginPost (l .label) (l .size) M name first null cont ends (l .constraint) (r .kinds) budget room width before f after
+      pub list-done : {f : Found} {after : List ℕ} → BeginPost (l .label) (l .size) M tables (l .constraint) (r .kinds) budget room width before f after
           → Settled l budget before (record { code = 0; ending = f .ending; records = f .records; tries = f .tries }) after
       list-done {f} {after} post =
           record {

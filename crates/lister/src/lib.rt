@@ -25,11 +25,7 @@ fn begin(
     label: &[u32],
     size: &[u32],
     pattern: &[u32; 768],
-    name: &[u32; 64],
-    first: &[u64; 64],
-    null: &[bool; 64],
-    cont: &[u64; 64],
-    ends: &[bool; 64],
+    tables: &[u64; 320],
     constraint: &[u32],
     kinds: &[u32; 16],
     budget: u32,
@@ -37,8 +33,8 @@ fn begin(
     width: usize,
     out: &mut [u32],
 ) -> Found
-    requires { ⌜ BeginPre (now label) (now size) (now pattern) (now name) (now first) (now null) (now cont) (now ends) (now constraint) (now kinds) room width (now out) ⌝ }
-    ensures { λ r. ⌜ BeginPost (now (label .entry)) (now (size .entry)) (now (pattern .entry)) (now (name .entry)) (now (first .entry)) (now (null .entry)) (now (cont .entry)) (now (ends .entry)) (now (constraint .entry)) (now (kinds .entry)) budget room width (now (out .entry)) r (now (out .exit)) ⌝ }
+    requires { ⌜ BeginPre (now label) (now size) (now pattern) (now tables) (now constraint) (now kinds) room width (now out) ⌝ }
+    ensures { λ r. ⌜ BeginPost (now (label .entry)) (now (size .entry)) (now (pattern .entry)) (now (tables .entry)) (now (constraint .entry)) (now (kinds .entry)) budget room width (now (out .entry)) r (now (out .exit)) ⌝ }
 {
     let mut record = [0u32; 32];
     let mut at = [0usize; 512];
@@ -65,11 +61,7 @@ fn begin(
                 label,
                 size,
                 pattern,
-                name,
-                first,
-                null,
-                cont,
-                ends,
+                tables,
                 constraint,
                 kinds,
                 budget,
@@ -153,12 +145,13 @@ pub fn list(
     }
     let kinds = p.kinds;
     let variables = p.variables;
-    let tables = letters::tables_of(expression_kind, expression_name, expression_size);
-    let letter = tables.name;
-    let first = tables.first;
-    let null = tables.null;
-    let cont = tables.cont;
-    let ends = tables.ends;
+    let mut tables = [0u64; 320];
+    letters::tables_of(
+        expression_kind,
+        expression_name,
+        expression_size,
+        &mut tables,
+    );
     let mut packed = [0u32; 768];
     walk::pack(kind, name, pattern_size, &mut packed);
     let width = variables + variables;
@@ -167,11 +160,7 @@ pub fn list(
         label,
         size,
         &packed,
-        &letter,
-        &first,
-        &null,
-        &cont,
-        &ends,
+        &tables,
         constraint,
         &kinds,
         budget,

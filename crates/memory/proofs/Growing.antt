@@ -18,13 +18,13 @@ use Rattle.memory.specs.Memory.{kept, RecallPost, GrownPre, GrownPost, G
 use Rattle.memory.proofs.Numbers.{remembers}
 
 -- RECALLED
-module _ (first : List ℕ) (null : List Bool) (root : ℕ) (memory : List ℕ) (x a b : ℕ) where
+module _ (tables : List ℕ) (root : ℕ) (memory : List ℕ) (x a b : ℕ) where
   pub recalled : (getD memory (5 * x) 0 ≡ 0 → ⊥) → getD memory (5 * x + 1) 0 ≡ a → getD memory (5 * x + 2) 0 ≤ b
-      → RecallPost first null root memory x a b (getD memory (5 * x) 0) (getD memory (5 * x + 3) 0) (getD memory (5 * x + 2) 0) (eqb (getD memory (5 * x + 4) 0) 1)
-  recalled n e h = record { most = h; is = λ L S name cont ends k. rw e at (k .is n) }
+      → RecallPost tables root memory x a b (getD memory (5 * x) 0) (getD memory (5 * x + 3) 0) (getD memory (5 * x + 2) 0) (eqb (getD memory (5 * x + 4) 0) 1)
+  recalled n e h = record { most = h; is = λ L S k. rw e at (k .is n) }
 
-  pub begun : {next : ℕ} {end : Bool} → Begun first null root next end → RecallPost first null root memory x a b a next 0 end
-  begun g = record { most = omega arith; is = λ L S name cont ends k. no-head g }
+  pub begun : {next : ℕ} {end : Bool} → Begun tables root next end → RecallPost tables root memory x a b a next 0 end
+  begun g = record { most = omega arith; is = λ L S k. no-head g }
 
 -- GROWN
 terms-drop : (c : ℕ) (f : Forest) → terms (dropT c f) ≡ terms f - c
@@ -33,55 +33,55 @@ terms-drop zero f = omega arith
 terms-drop (suc c) none = omega arith
 terms-drop (suc c) (some l us rest) = let e = terms-drop c rest in omega arith
 
-module _ {L S name first : List ℕ} {null : List Bool} {cont : List ℕ} {ends : List Bool} {C : List ℕ} {root x a b : ℕ} {memory : List ℕ} (p : GrownPre L S name first null cont ends C root x a b memory)
-    {row next count : ℕ} {end : Bool} (post : RecallPost first null root memory x a b row next count end) where
-  was : ReadTo L S name first null cont ends root a count row next end
-  was = post .is L S name cont ends (rw (p .its) (p .remembers .each x (p .few)))
+module _ {L S tables : List ℕ} {C : List ℕ} {root x a b : ℕ} {memory : List ℕ} (p : GrownPre L S tables C root x a b memory)
+    {row next count : ℕ} {end : Bool} (post : RecallPost tables root memory x a b row next count end) where
+  was : ReadTo L S tables root a count row next end
+  was = post .is L S (rw (p .its) (p .remembers .each x (p .few)))
 
   pub more-there : MorePre L S row (b - count)
   more-there =
       let w = p .heads .some in
       record { some = (w .0, dropT count (w .1), was .is (w .0) (w .1) (w .2) (omega (arith, w .3, post .most)) .0, omega (arith, terms-drop count (w .1), w .3)) }
 
-  pub grown-read : {row′ next′ : ℕ} {end′ : Bool} → ReadOn L S name cont ends row next end (b - count) row′ next′ end′
-      → GrownPost L S name first null cont ends C root a b end′ (kept memory x row′ a b next′ end′)
+  pub grown-read : {row′ next′ : ℕ} {end′ : Bool} → ReadOn L S tables row next end (b - count) row′ next′ end′
+      → GrownPost L S tables C root a b end′ (kept memory x row′ a b next′ end′)
   grown-read {row′} {next′} {end′} on =
       let y : count + (b - count) ≡ b = omega (arith, post .most) in
-      let read : ReadTo L S name first null cont ends root a b row′ next′ end′ = rw y at (on .on first null root a count was) in
+      let read : ReadTo L S tables root a b row′ next′ end′ = rw y at (on .on root a count was) in
       record { row = row′; next = next′; read = read; remembers = remembers (p .remembers) (p .few) (rw (p .its) at read) }
 
 -- JUDGED
-module _ {L S name first : List ℕ} {null : List Bool} {cont : List ℕ} {ends : List Bool} {C kinds : List ℕ} {x a b : ℕ} {memory path : List ℕ}
-    (p : GrowPre L S name first null cont ends C kinds x a b memory path) where
+module _ {L S tables : List ℕ} {C kinds : List ℕ} {x a b : ℕ} {memory path : List ℕ}
+    (p : GrowPre L S tables C kinds x a b memory path) where
   abbrev Post : Bool → List ℕ → List ℕ → Type 0
-  Post = GrowPost L S name first null cont ends C kinds x a b
+  Post = GrowPost L S tables C kinds x a b
 
   pub grow-free : getD C (x + x) 0 ≡ 0 → Post true memory path
-  grow-free z = record { judged = judged-by x a b (obeys-free L S name first null cont ends _ _ _ a b z); remembers = p .remembers }
+  grow-free z = record { judged = judged-by x a b (obeys-free L S tables _ _ _ a b z); remembers = p .remembers }
 
   module _ (start : getD C (x + x) 0 ≢ 0) {r : Bool} (f : ForbiddenPost (getD C (x + x + 1) 0) (getD kinds x 0) a b r) where
     pub grow-forbidden : r ≡ true → Post false memory path
-    grow-forbidden t = record { judged = judged-by x a b (obeys-forbidden L S name first null cont ends _ _ _ a b start f t); remembers = p .remembers }
+    grow-forbidden t = record { judged = judged-by x a b (obeys-forbidden L S tables _ _ _ a b start f t); remembers = p .remembers }
 
-    pub grow-read : r ≡ false → getD kinds x 0 ≡ 2 → {root : ℕ} {end : Bool} {later : List ℕ} → root ≡ getD C (x + x) 0 - 1 → GrownPost L S name first null cont ends C root a b end later → Post end later path
+    pub grow-read : r ≡ false → getD kinds x 0 ≡ 2 → {root : ℕ} {end : Bool} {later : List ℕ} → root ≡ getD C (x + x) 0 - 1 → GrownPost L S tables C root a b end later → Post end later path
     grow-read n k q g =
         record {
-          judged = judged-by x a b (obeys-read L S name first null cont ends _ _ _ a b start f n q (heads-after L S name first null cont ends _ a b k (all-heads (g .read))));
+          judged = judged-by x a b (obeys-read L S tables _ _ _ a b start f n q (heads-after L S tables _ a b k (all-heads (g .read))));
           remembers = record { sequences = g .remembers; contexts = p .remembers .contexts };
         }
 
-    pub grow-path : r ≡ false → getD kinds x 0 ≢ 2 → {root : ℕ} {end : Bool} {later : List ℕ} → root ≡ getD C (x + x) 0 - 1 → AcceptedPost L S name first null cont ends root x a b end later → Post end memory later
+    pub grow-path : r ≡ false → getD kinds x 0 ≢ 2 → {root : ℕ} {end : Bool} {later : List ℕ} → root ≡ getD C (x + x) 0 - 1 → AcceptedPost L S tables root x a b end later → Post end memory later
     grow-path n k q g =
         record {
-          judged = judged-by x a b (obeys-read L S name first null cont ends _ _ _ a b start f n q (path-after L S name first null cont ends _ a b k (g .after)));
+          judged = judged-by x a b (obeys-read L S tables _ _ _ a b start f n q (path-after L S tables _ a b k (g .after)));
           remembers = record { sequences = p .remembers .sequences; contexts = g .remembers C q };
         }
 
   module _ (start : getD C (x + x) 0 ≢ 0) {root : ℕ} (q : root ≡ getD C (x + x) 0 - 1) where
-    pub grow-asked : getD kinds x 0 ≡ 2 → GrownPre L S name first null cont ends C root x a b memory
+    pub grow-asked : getD kinds x 0 ≡ 2 → GrownPre L S tables C root x a b memory
     grow-asked k = record { heads = heads-asked (judge-asks (p .asked)) start q k; few = asked-within (p .asked) .0; its = q; remembers = p .remembers .sequences }
 
-    pub path-asks : getD kinds x 0 ≢ 2 → AcceptedPre L S name first null cont ends root x a b path
+    pub path-asks : getD kinds x 0 ≢ 2 → AcceptedPre L S tables root x a b path
     path-asks k =
         let t = p .asked .some .5 .tree in
         record {

@@ -3,7 +3,7 @@
 ghost use mathlib.Core.Path.{_≡_};
 ghost use Prim.Native.Nat.{_<_, _-_};
 ghost use lib.ListN.{length};
-ghost use Rattle.memory.specs.Memory.{noted, kept, RecallPre, RecallPost, GrownPre, GrownPost, GrowPre, GrowPost};
+ghost use Rattle.memory.specs.Memory.{kept, RecallPre, RecallPost, GrownPre, GrownPost, GrowPre, GrowPost};
 
 // A reading of the heads of a sequence: where it stands, its state, and how many are read.
 struct Recalled {
@@ -13,24 +13,17 @@ struct Recalled {
     count: usize,
 }
 
-fn number(end: bool) -> usize
-    ensures { λ r. ⌜ r ≡ noted end ⌝ }
-{
-    if end { 1 } else { 0 }
-}
-
 // The reading of x that is remembered, where it began at the row a and is not beyond b; else one that begins.
 fn recall(
     memory: &[usize; 80],
-    first: &[u64; 64],
-    null: &[bool; 64],
+    tables: &[u64; 320],
     root: usize,
     x: usize,
     a: usize,
     b: usize,
 ) -> Recalled
     requires { ⌜ RecallPre root (now memory) x ⌝ }
-    ensures { λ r. ⌜ RecallPost (now (first .entry)) (now (null .entry)) root (now (memory .entry)) x a b (r .row) (r .next) (r .count) (r .end) ⌝ }
+    ensures { λ r. ⌜ RecallPost (now (tables .entry)) root (now (memory .entry)) x a b (r .row) (r .next) (r .count) (r .end) ⌝ }
 {
     let at = 5 * x;
     let row = memory[at];
@@ -47,7 +40,7 @@ fn recall(
             }
         }
     }
-    let state = letters::begin(first, null, root);
+    let state = letters::begin(tables, root);
     Recalled {
         row: a,
         next: state.next,
@@ -74,7 +67,7 @@ fn keep(
     memory[at + 1] = a;
     memory[at + 2] = count;
     memory[at + 3] = next as usize;
-    memory[at + 4] = number(end);
+    memory[at + 4] = letters::number(end);
 }
 
 // Whether the heads of b neighbours from the row a on are a word of the expression at the row root: read on from what is
@@ -82,11 +75,7 @@ fn keep(
 fn grown(
     label: &[u32],
     size: &[u32],
-    name: &[u32; 64],
-    first: &[u64; 64],
-    null: &[bool; 64],
-    cont: &[u64; 64],
-    ends: &[bool; 64],
+    tables: &[u64; 320],
     constraint: &[u32],
     root: usize,
     x: usize,
@@ -94,15 +83,15 @@ fn grown(
     b: usize,
     memory: &mut [usize; 80],
 ) -> bool
-    requires { ⌜ GrownPre (now label) (now size) (now name) (now first) (now null) (now cont) (now ends) (now constraint) root x a b (now memory) ⌝ }
-    ensures { λ r. ⌜ GrownPost (now (label .entry)) (now (size .entry)) (now (name .entry)) (now (first .entry)) (now (null .entry)) (now (cont .entry)) (now (ends .entry)) (now (constraint .entry)) root a b r (now (memory .exit)) ⌝ }
+    requires { ⌜ GrownPre (now label) (now size) (now tables) (now constraint) root x a b (now memory) ⌝ }
+    ensures { λ r. ⌜ GrownPost (now (label .entry)) (now (size .entry)) (now (tables .entry)) (now (constraint .entry)) root a b r (now (memory .exit)) ⌝ }
 {
-    let was = recall(memory, first, null, root, x, a, b);
+    let was = recall(memory, tables, root, x, a, b);
     let row = was.row;
     let next = was.next;
     let end = was.end;
     let more = b - was.count;
-    let mark = constraint::read_on(label, size, name, cont, ends, row, next, end, more);
+    let mark = constraint::read_on(label, size, tables, row, next, end, more);
     keep(memory, x, mark.row, a, b, mark.next, mark.end);
     mark.end
 }
@@ -120,11 +109,7 @@ fn row_of(start: u32) -> usize
 pub fn judge(
     label: &[u32],
     size: &[u32],
-    name: &[u32; 64],
-    first: &[u64; 64],
-    null: &[bool; 64],
-    cont: &[u64; 64],
-    ends: &[bool; 64],
+    tables: &[u64; 320],
     constraint: &[u32],
     kinds: &[u32; 16],
     x: usize,
@@ -133,8 +118,8 @@ pub fn judge(
     memory: &mut [usize; 80],
     path: &mut [usize; 259],
 ) -> bool
-    requires { ⌜ GrowPre (now label) (now size) (now name) (now first) (now null) (now cont) (now ends) (now constraint) (now kinds) x a b (now memory) (now path) ⌝ }
-    ensures { λ r. ⌜ GrowPost (now (label .entry)) (now (size .entry)) (now (name .entry)) (now (first .entry)) (now (null .entry)) (now (cont .entry)) (now (ends .entry)) (now (constraint .entry)) (now (kinds .entry)) x a b r (now (memory .exit)) (now (path .exit)) ⌝ }
+    requires { ⌜ GrowPre (now label) (now size) (now tables) (now constraint) (now kinds) x a b (now memory) (now path) ⌝ }
+    ensures { λ r. ⌜ GrowPost (now (label .entry)) (now (size .entry)) (now (tables .entry)) (now (constraint .entry)) (now (kinds .entry)) x a b r (now (memory .exit)) (now (path .exit)) ⌝ }
 {
     let start = constraint[x + x];
     if start == 0 {
@@ -147,34 +132,7 @@ pub fn judge(
     }
     let root = row_of(start);
     if kind == 2 {
-        return grown(
-            label,
-            size,
-            name,
-            first,
-            null,
-            cont,
-            ends,
-            constraint,
-            root,
-            x,
-            a,
-            b,
-            memory,
-        );
+        return grown(label, size, tables, constraint, root, x, a, b, memory);
     }
-    paths::accepted(
-        label,
-        size,
-        name,
-        first,
-        null,
-        cont,
-        ends,
-        root,
-        x,
-        a,
-        b,
-        path,
-    )
+    paths::accepted(label, size, tables, root, x, a, b, path)
 }

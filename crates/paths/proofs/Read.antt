@@ -19,23 +19,23 @@ use Rattle.paths.proofs.Steps.{context-next, context-in, from-first, th
 use Rattle.paths.proofs.Numbers.{put-row, put-other, places-more, places-first, places-fewer, places-noted, places-child}
 
 -- nothing is remembered yet
-pub blank : (L S name first : List ℕ) (null : List Bool) (cont : List ℕ) (ends : List Bool) (C : List ℕ) → Remembers L S name first null cont ends C (replicate 259 0)
-blank L S name first null cont ends C = record { long = length-replicate {A = ℕ} 259 0; is = λ x e. absurd (omega (arith, getD-replicate {A = ℕ} 259 0 0 0 (omega arith))) }
+pub blank : (L S tables : List ℕ) (C : List ℕ) → Remembers L S tables C (replicate 259 0)
+blank L S tables C = record { long = length-replicate {A = ℕ} 259 0; is = λ x e. absurd (omega (arith, getD-replicate {A = ℕ} 259 0 0 0 (omega arith))) }
 
 -- RECALLED
-module _ {S first : List ℕ} {null : List Bool} {root x a b : ℕ} {P : List ℕ} where
-  pub recall-rows : RecallPre S first null root x a b P → getD P 0 0 ≡ x + 1 → HoldingPre S P (getD P 2 0) b
+module _ {S tables : List ℕ} {root x a b : ℕ} {P : List ℕ} where
+  pub recall-rows : RecallPre S tables root x a b P → getD P 0 0 ≡ x + 1 → HoldingPre S P (getD P 2 0) b
   recall-rows pre e =
-      let r = pre .some .7 in
+      let r = pre .some .4 in
       let p = r .is x e in
       record { long = r .long; few = p .few; rows = λ i h. p .each i h .entry .inside }
 
-  pub recall-again : {i : ℕ} → getD P 0 0 ≡ x + 1 → getD P 1 0 ≡ a → HoldingPost S P (getD P 2 0) b i → RecallPost S first null root x a b P i P
+  pub recall-again : {i : ℕ} → getD P 0 0 ≡ x + 1 → getD P 1 0 ≡ a → HoldingPost S P (getD P 2 0) b i → RecallPost S tables root x a b P i P
   recall-again {i} e f post =
       record {
-        is = λ L name cont ends C path q r.
-            let p : Places L S name first null cont ends root a P (getD P 2 0) =
-            subst (λ (k : ℕ). Places L S name first null cont ends k a P (getD P 2 0)) (sym q) (subst (λ (k : ℕ). Places L S name first null cont ends (getD C (x + x) 0 - 1) k P (getD P 2 0)) f (r .is x e)) in
+        is = λ L C path q r.
+            let p : Places L S tables root a P (getD P 2 0) =
+            subst (λ (k : ℕ). Places L S tables k a P (getD P 2 0)) (sym q) (subst (λ (k : ℕ). Places L S tables (getD C (x + x) 0 - 1) k P (getD P 2 0)) f (r .is x e)) in
             let c = context-in (path .some .1) in
             let h = on (decLt 0 i) (p .starts) c in
             record { places = places-fewer p (post .few); its = e; start = f; low = h .0; high = h .1 };
@@ -47,17 +47,17 @@ module _ {S first : List ℕ} {null : List Bool} {root x a b : ℕ} {P : List �
           let z : i ≡ 0 = omega arith in
           rw (z, e) c
 
-  pub recall-new : {next : ℕ} {end : Bool} → length P ≡ 259 → Begun first null root next end → RecallPost S first null root x a b P 0 (put (set (set P 0 (x + 1)) 1 a) 0 a next end)
+  pub recall-new : {next : ℕ} {end : Bool} → length P ≡ 259 → Begun tables root next end → RecallPost S tables root x a b P 0 (put (set (set P 0 (x + 1)) 1 a) 0 a next end)
   recall-new {next} {end} long begun =
       record {
-        is = λ L name cont ends C path q r.
+        is = λ L C path q r.
             let c = path .some .1 in
             let n = context-next c in
             let h = context-in c in
             let P′ : List ℕ = set (set P 0 (x + 1)) 1 a in
             let l : length P′ ≡ 259 = simp length-set long in
             let o = put-other P′ 0 a next end l (omega arith) in
-            let e : Entry L S name first null cont ends root a a next end (a + 1) = record { word = []; through = through-first; after = after-none begun; from = from-first S a; inside = n .sized } in
+            let e : Entry L S tables root a a next end (a + 1) = record { word = []; through = through-first; after = after-none begun; from = from-first S a; inside = n .sized } in
             let p = places-first P′ next end l e in
             let z : 1 < length (set P 0 (x + 1)) = simp length-set (omega arith) in
             record {
@@ -70,9 +70,9 @@ module _ {S first : List ℕ} {null : List Bool} {root x a b : ℕ} {P : List �
       }
 
 -- READ
-module _ {L S name first : List ℕ} {null : List Bool} {cont : List ℕ} {ends : List Bool} {root x a b : ℕ} {P : List ℕ} {i : ℕ} (s : Standing L S name first null cont ends root x a b P i) where
+module _ {L S tables : List ℕ} {root x a b : ℕ} {P : List ℕ} {i : ℕ} (s : Standing L S tables root x a b P i) where
   -- the last place is noted
-  pub standing-noted : Standing L S name first null cont ends root x a b (set P 2 i) i
+  pub standing-noted : Standing L S tables root x a b (set P 2 i) i
   standing-noted =
       let o : (k : ℕ) → k ≢ 2 → getD (set P 2 i) k 0 ≡ getD P k 0 = λ k n. getD-set-other P 2 k i 0 n in
       let e = o (4 * i + 3) (λ e. omega arith) in
@@ -87,7 +87,7 @@ module _ {L S name first : List ℕ} {null : List Bool} {cont : List ℕ} {ends 
   noted-is : getD (set P 2 i) 2 0 ≡ i
   noted-is = getD-set-same P 2 i 0 (omega (arith, s .places .long))
 
-  pub standing-kept : (C : List ℕ) → root ≡ getD C (x + x) 0 - 1 → Remembers L S name first null cont ends C (set P 2 i)
+  pub standing-kept : (C : List ℕ) → root ≡ getD C (x + x) 0 - 1 → Remembers L S tables C (set P 2 i)
   standing-kept C q =
       let n = standing-noted in
       record {
@@ -100,7 +100,7 @@ module _ {L S name first : List ℕ} {null : List Bool} {cont : List ℕ} {ends 
   abbrev row : ℕ
   row = getD P (4 * i + 3) 0
 
-  entry : Entry L S name first null cont ends root a row (getD P (4 * i + 4) 0) (eqb (getD P (4 * i + 5) 0) 1) (getD P (4 * i + 6) 0)
+  entry : Entry L S tables root a row (getD P (4 * i + 4) 0) (eqb (getD P (4 * i + 5) 0) 1) (getD P (4 * i + 6) 0)
   entry = s .places .each i (omega arith) .entry
 
   -- the context below the row
@@ -115,16 +115,16 @@ module _ {L S name first : List ℕ} {null : List Bool} {cont : List ℕ} {ends 
     standing-child n = record { below = record { below = n; some = (L, below .0, below .1) }; ahead = entry .from }
 
   -- the row is the hole's
-  pub standing-all : row ≡ b → (c : Context) → ContextAt L S a b c → After name first null cont ends root (path c) (getD P (4 * i + 4) 0) (eqb (getD P (4 * i + 5) 0) 1)
+  pub standing-all : row ≡ b → (c : Context) → ContextAt L S a b c → After tables root (path c) (getD P (4 * i + 4) 0) (eqb (getD P (4 * i + 5) 0) 1)
   standing-all e = through-all (rw e at (entry .through)) (entry .after)
 
   -- one place more
-  pub standing-more : {u next : ℕ} {end : Bool} → i ≢ 63 → ChildFromPost S row b u → u < length S → Stepped name cont ends (getD L row 0) (getD P (4 * i + 4) 0) next end
-      → Standing L S name first null cont ends root x a b (put (set P (4 * i + 6) u) (i + 1) u next end) (i + 1)
+  pub standing-more : {u next : ℕ} {end : Bool} → i ≢ 63 → ChildFromPost S row b u → u < length S → Stepped tables (getD L row 0) (getD P (4 * i + 4) 0) next end
+      → Standing L S tables root x a b (put (set P (4 * i + 6) u) (i + 1) u next end) (i + 1)
   standing-more {u} {next} {end} few child inside step =
       let l = s .places .few in
       let q = places-child (s .places) (child .ahead) in
-      let e : Entry L S name first null cont ends root a u next end (u + 1) =
+      let e : Entry L S tables root a u next end (u + 1) =
       record { word = _; through = through-child (entry .through) child; after = after-more (entry .after) step; from = from-first S u; inside = inside } in
       let p = places-more u next end q (omega arith) e in
       let o = put-other (set P (4 * i + 6) u) (i + 1) u next end (q .long) (omega arith) in

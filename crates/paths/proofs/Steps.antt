@@ -94,8 +94,8 @@ through-child {L} {S} {a} {r} {u} {w = w} t post =
     down d (at-node {l = l} {left = left} {right = right} {c = c} x p q k) f = (l, left, c, right, refl, at-node x p q k)
 
 -- it is read whole where the row is the hole's
-pub through-all : {L S name first : List ℕ} {null : List Bool} {cont : List ℕ} {ends : List Bool} {root a b next : ℕ} {end : Bool} {w : List ℕ}
-    → Through L S a b w → After name first null cont ends root w next end → (c : Context) → ContextAt L S a b c → After name first null cont ends root (path c) next end
+pub through-all : {L S tables : List ℕ} {root a b next : ℕ} {end : Bool} {w : List ℕ}
+    → Through L S a b w → After tables root w next end → (c : Context) → ContextAt L S a b c → After tables root (path c) next end
 unfolding path
 through-all {b = b} {w = w} t after c x =
     let h = context-hole x .positive in

@@ -2,7 +2,7 @@
 -- that are new to it.
 use Prim.Native.Nat.{ℕ, _+_, _-_, _*_, _<_, _≤_}
 use mathlib.Core.Path.{_≡_}
-use mathlib.Core.Bool.{Bool, cond}
+use mathlib.Core.Bool.{Bool}
 use mathlib.Core.List.{List, _++_}
 use lib.Dec.{eqb}
 use lib.ListN.{length, getD, set}
@@ -10,6 +10,7 @@ use Rattle.meaning.specs.Forest.{Context}
 use Rattle.tree.specs.Places.{ContextAt}
 use Rattle.tree.specs.Helpers.{ChildPre}
 use Rattle.tree.proofs.Ways.{Ahead}
+use Rattle.letters.specs.Tables.{noted}
 use Rattle.constraint.specs.Word.{path}
 use Rattle.constraint.specs.Reading.{PathPre, After}
 
@@ -22,32 +23,29 @@ pub record From (S : List ℕ) (r u : ℕ) : Type 0 where
   pub is : (b : ℕ) → u ≤ b → Ahead S r b u
 
 -- a row of the path: the state before its label is read, and the child from which on the next row is looked for
-pub record Entry (L S name first : List ℕ) (null : List Bool) (cont : List ℕ) (ends : List Bool) (root a row next : ℕ) (end : Bool) (child : ℕ) : Type 0 where
+pub record Entry (L S tables : List ℕ) (root a row next : ℕ) (end : Bool) (child : ℕ) : Type 0 where
   pub word : List ℕ
   pub through : Through L S a row word
-  pub after : After name first null cont ends root word next end
+  pub after : After tables root word next end
   pub from : From S row child
   pub inside : row < length S
 
 -- the list has the variable plus one, or 0 where no path is remembered; the row where it starts; its last place; and then four numbers
 -- for each place
-pub record Place (L S name first : List ℕ) (null : List Bool) (cont : List ℕ) (ends : List Bool) (root a : ℕ) (P : List ℕ) (i : ℕ) : Type 0 where
-  pub entry : Entry L S name first null cont ends root a (getD P (4 * i + 3) 0) (getD P (4 * i + 4) 0) (eqb (getD P (4 * i + 5) 0) 1) (getD P (4 * i + 6) 0)
+pub record Place (L S tables : List ℕ) (root a : ℕ) (P : List ℕ) (i : ℕ) : Type 0 where
+  pub entry : Entry L S tables root a (getD P (4 * i + 3) 0) (getD P (4 * i + 4) 0) (eqb (getD P (4 * i + 5) 0) 1) (getD P (4 * i + 6) 0)
 
 -- the places up to m are those of a path from the row a
-pub record Places (L S name first : List ℕ) (null : List Bool) (cont : List ℕ) (ends : List Bool) (root a : ℕ) (P : List ℕ) (m : ℕ) : Type 0 where
+pub record Places (L S tables : List ℕ) (root a : ℕ) (P : List ℕ) (m : ℕ) : Type 0 where
   pub long : length P ≡ 259
   pub few : m < 64
   pub starts : getD P 3 0 ≡ a
-  pub each : (i : ℕ) → i ≤ m → Place L S name first null cont ends root a P i
+  pub each : (i : ℕ) → i ≤ m → Place L S tables root a P i
 
 -- C is the constraint list: it has the row of a variable's expression plus one
-pub record Remembers (L S name first : List ℕ) (null : List Bool) (cont : List ℕ) (ends : List Bool) (C P : List ℕ) : Type 0 where
+pub record Remembers (L S tables : List ℕ) (C P : List ℕ) : Type 0 where
   pub long : length P ≡ 259
-  pub is : (x : ℕ) → getD P 0 0 ≡ x + 1 → Places L S name first null cont ends (getD C (x + x) 0 - 1) (getD P 1 0) P (getD P 2 0)
-
-abbrev pub noted : Bool → ℕ
-noted end = cond end 1 0
+  pub is : (x : ℕ) → getD P 0 0 ≡ x + 1 → Places L S tables (getD C (x + x) 0 - 1) (getD P 1 0) P (getD P 2 0)
 
 -- put: the four numbers of the place i
 abbrev pub put : List ℕ → (i row next : ℕ) → Bool → List ℕ
@@ -76,31 +74,31 @@ pub record HoldingPost (S P : List ℕ) (m b i : ℕ) : Type 0 where
   pub holds : 0 < i → (getD P (4 * i + 3) 0 ≤ b) × (b < getD P (4 * i + 3) 0 + getD S (getD P (4 * i + 3) 0) 0)
 
 -- the place i is on the path to the row b
-pub record Standing (L S name first : List ℕ) (null : List Bool) (cont : List ℕ) (ends : List Bool) (root x a b : ℕ) (P : List ℕ) (i : ℕ) : Type 0 where
-  pub places : Places L S name first null cont ends root a P i
+pub record Standing (L S tables : List ℕ) (root x a b : ℕ) (P : List ℕ) (i : ℕ) : Type 0 where
+  pub places : Places L S tables root a P i
   pub its : getD P 0 0 ≡ x + 1
   pub start : getD P 1 0 ≡ a
   pub low : getD P (4 * i + 3) 0 ≤ b
   pub high : b < getD P (4 * i + 3) 0 + getD S (getD P (4 * i + 3) 0) 0
 
 -- recall: the place from which on the path to the row b is read
-pub record RecallPre (S first : List ℕ) (null : List Bool) (root x a b : ℕ) (P : List ℕ) : Type 0 where
+pub record RecallPre (S tables : List ℕ) (root x a b : ℕ) (P : List ℕ) : Type 0 where
   pub few : x < 16
   pub small : a < 4294967296
-  pub some : (L : List ℕ) × (name : List ℕ) × (cont : List ℕ) × (ends : List Bool) × (C : List ℕ) × PathPre L S root a b × (root ≡ getD C (x + x) 0 - 1) × Remembers L S name first null cont ends C P
+  pub some : (L : List ℕ) × (C : List ℕ) × PathPre L S root a b × (root ≡ getD C (x + x) 0 - 1) × Remembers L S tables C P
 
-pub record RecallPost (S first : List ℕ) (null : List Bool) (root x a b : ℕ) (P : List ℕ) (i : ℕ) (P′ : List ℕ) : Type 0 where
-  pub is : (L name cont : List ℕ) (ends : List Bool) (C : List ℕ) → PathPre L S root a b → root ≡ getD C (x + x) 0 - 1 → Remembers L S name first null cont ends C P
-      → Standing L S name first null cont ends root x a b P′ i
+pub record RecallPost (S tables : List ℕ) (root x a b : ℕ) (P : List ℕ) (i : ℕ) (P′ : List ℕ) : Type 0 where
+  pub is : (L C : List ℕ) → PathPre L S root a b → root ≡ getD C (x + x) 0 - 1 → Remembers L S tables C P
+      → Standing L S tables root x a b P′ i
 
 -- accepted: whether the labels on the path from the row a to the row b are a word of the expression at the row root
-pub record AcceptedPre (L S name first : List ℕ) (null : List Bool) (cont : List ℕ) (ends : List Bool) (root x a b : ℕ) (P : List ℕ) : Type 0 where
+pub record AcceptedPre (L S tables : List ℕ) (root x a b : ℕ) (P : List ℕ) : Type 0 where
   pub path : PathPre L S root a b
   pub few : x < 16
   pub small : length L < 4294967296
-  pub some : (C : List ℕ) × (root ≡ getD C (x + x) 0 - 1) × Remembers L S name first null cont ends C P
+  pub some : (C : List ℕ) × (root ≡ getD C (x + x) 0 - 1) × Remembers L S tables C P
 
-pub record AcceptedPost (L S name first : List ℕ) (null : List Bool) (cont : List ℕ) (ends : List Bool) (root x a b : ℕ) (end : Bool) (P : List ℕ) : Type 0 where
+pub record AcceptedPost (L S tables : List ℕ) (root x a b : ℕ) (end : Bool) (P : List ℕ) : Type 0 where
   pub next : ℕ
-  pub after : (c : Context) → ContextAt L S a b c → After name first null cont ends root (path c) next end
-  pub remembers : (C : List ℕ) → root ≡ getD C (x + x) 0 - 1 → Remembers L S name first null cont ends C P
+  pub after : (c : Context) → ContextAt L S a b c → After tables root (path c) next end
+  pub remembers : (C : List ℕ) → root ≡ getD C (x + x) 0 - 1 → Remembers L S tables C P

@@ -3,14 +3,8 @@
 ghost use mathlib.Core.Path.{_≡_};
 ghost use Prim.Native.Nat.{_+_, _<_, _≤_};
 ghost use lib.ListN.{length};
-ghost use Rattle.paths.specs.Paths.{noted, ChildFromPre, ChildFromPost, HoldingPre, HoldingPost, RecallPre, RecallPost, AcceptedPre, AcceptedPost};
+ghost use Rattle.paths.specs.Paths.{ChildFromPre, ChildFromPost, HoldingPre, HoldingPost, RecallPre, RecallPost, AcceptedPre, AcceptedPost};
 ghost use Rattle.paths.specs.Paths as kept;
-
-fn number(end: bool) -> usize
-    ensures { λ r. ⌜ r ≡ noted end ⌝ }
-{
-    if end { 1 } else { 0 }
-}
 
 // The place i of the path: its row, and the state before the row's label is read.
 fn put(path: &mut [usize; 259], i: usize, row: usize, next: u64, end: bool)
@@ -19,7 +13,7 @@ fn put(path: &mut [usize; 259], i: usize, row: usize, next: u64, end: bool)
 {
     path[4 * i + 3] = row;
     path[4 * i + 4] = next as usize;
-    path[4 * i + 5] = number(end);
+    path[4 * i + 5] = letters::number(end);
     path[4 * i + 6] = row + 1;
 }
 
@@ -69,16 +63,15 @@ fn holding(size: &[u32], path: &[usize; 259], m: usize, b: usize) -> usize
 // The place from which on the path to the row b is read: one of the path that is remembered, or the first of a new one.
 fn recall(
     size: &[u32],
-    first: &[u64; 64],
-    null: &[bool; 64],
+    tables: &[u64; 320],
     root: usize,
     x: usize,
     a: usize,
     b: usize,
     path: &mut [usize; 259],
 ) -> usize
-    requires { ⌜ RecallPre (now size) (now first) (now null) root x a b (now path) ⌝ }
-    ensures { λ r. ⌜ RecallPost (now (size .entry)) (now (first .entry)) (now (null .entry)) root x a b (now (path .entry)) r (now (path .exit)) ⌝ }
+    requires { ⌜ RecallPre (now size) (now tables) root x a b (now path) ⌝ }
+    ensures { λ r. ⌜ RecallPost (now (size .entry)) (now (tables .entry)) root x a b (now (path .entry)) r (now (path .exit)) ⌝ }
 {
     if path[0] == x + 1 {
         if path[1] == a {
@@ -86,7 +79,7 @@ fn recall(
             return holding(size, path, m, b);
         }
     }
-    let state = letters::begin(first, null, root);
+    let state = letters::begin(tables, root);
     path[0] = x + 1;
     path[1] = a;
     put(path, 0, a, state.next, state.end);
@@ -98,21 +91,17 @@ fn recall(
 pub fn accepted(
     label: &[u32],
     size: &[u32],
-    name: &[u32; 64],
-    first: &[u64; 64],
-    null: &[bool; 64],
-    cont: &[u64; 64],
-    ends: &[bool; 64],
+    tables: &[u64; 320],
     root: usize,
     x: usize,
     a: usize,
     b: usize,
     path: &mut [usize; 259],
 ) -> bool
-    requires { ⌜ AcceptedPre (now label) (now size) (now name) (now first) (now null) (now cont) (now ends) root x a b (now path) ⌝ }
-    ensures { λ r. ⌜ AcceptedPost (now (label .entry)) (now (size .entry)) (now (name .entry)) (now (first .entry)) (now (null .entry)) (now (cont .entry)) (now (ends .entry)) root x a b r (now (path .exit)) ⌝ }
+    requires { ⌜ AcceptedPre (now label) (now size) (now tables) root x a b (now path) ⌝ }
+    ensures { λ r. ⌜ AcceptedPost (now (label .entry)) (now (size .entry)) (now (tables .entry)) root x a b r (now (path .exit)) ⌝ }
 {
-    let mut i = recall(size, first, null, root, x, a, b, path);
+    let mut i = recall(size, tables, root, x, a, b, path);
     loop {
         path[2] = i;
         let row = path[4 * i + 3];
@@ -120,24 +109,13 @@ pub fn accepted(
             return path[4 * i + 5] == 1;
         }
         if i == 63 {
-            return constraint::after_path(
-                label,
-                size,
-                name,
-                first,
-                null,
-                cont,
-                ends,
-                root,
-                a,
-                b,
-            ).end;
+            return constraint::after_path(label, size, tables, root, a, b).end;
         }
         let next = path[4 * i + 4] as u64;
         let from = path[4 * i + 6];
         let u = child(size, row, from, b);
         path[4 * i + 6] = u;
-        let state = letters::step(next, name, cont, ends, label[row]);
+        let state = letters::step(next, tables, label[row]);
         i += 1;
         put(path, i, u, state.next, state.end);
     }

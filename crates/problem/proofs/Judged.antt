@@ -20,27 +20,27 @@ use Rattle.constraint.proofs.Constraints.{numbers-many}
 use Rattle.constraint.proofs.Values.{value-at, obeys-asked, obeys-allowed}
 use Rattle.problem.specs.Judge.{Judging, JudgePre, JudgePost}
 
-module _ {L S name first : List ℕ} {null : List Bool} {cont : List ℕ} {ends : List Bool} {list kinds : List ℕ} where
+module _ {L S tables : List ℕ} {list kinds : List ℕ} where
   -- the variable's two numbers are in the list
-  pub asked-within : {x a b : ℕ} → JudgePre L S name first null cont ends list kinds x a b → (x < 16) × (x + x + 1 < length list)
+  pub asked-within : {x a b : ℕ} → JudgePre L S tables list kinds x a b → (x < 16) × (x + x + 1 < length list)
   asked-within {x} p =
       let h = p .some in
       let l = look-old (h .1) x (h .4) (h .6) in
       (omega (arith, h .5 .few), omega (arith, numbers-many (h .5 .given)))
 
-  kind-number : (x : ℕ) {T : Term} {Q : List Kind} {es : List Expression} {cs : List Constraint} (k : Kind) → Judging L S name first null cont ends list kinds T Q es cs → look Q x ≡ old k → getD kinds x 0 ≡ code k
+  kind-number : (x : ℕ) {T : Term} {Q : List Kind} {es : List Expression} {cs : List Constraint} (k : Kind) → Judging L S tables list kinds T Q es cs → look Q x ≡ old k → getD kinds x 0 ≡ code k
   kind-number x {Q = Q} k j e = rw (j .known) (listed-look Q x k e)
 
-  value-there : (a b : ℕ) {T : Term} {Q : List Kind} {es : List Expression} {cs : List Constraint} (k : Kind) → Judging L S name first null cont ends list kinds T Q es cs → Fits k (T ◂ none) a b
+  value-there : (a b : ℕ) {T : Term} {Q : List Kind} {es : List Expression} {cs : List Constraint} (k : Kind) → Judging L S tables list kinds T Q es cs → Fits k (T ◂ none) a b
       → ValueAt L S a b k (valueAt k (T ◂ none) a b)
   value-there a b k j f = value-at (good-at (j .tree)) k a b f
 
-  pub judge-asks : {x a b : ℕ} → JudgePre L S name first null cont ends list kinds x a b → ObeysPre L S (getD list (x + x) 0) (getD list (x + x + 1) 0) (getD kinds x 0) a b
+  pub judge-asks : {x a b : ℕ} → JudgePre L S tables list kinds x a b → ObeysPre L S (getD list (x + x) 0) (getD list (x + x + 1) 0) (getD kinds x 0) a b
   judge-asks {x} {a} {b} p =
       let h = p .some in
       obeys-asked x (h .5 .given) (h .6) (kind-number x (h .4) (h .5) (h .6)) (h .5 .table .3) (value-there a b (h .4) (h .5) (h .7))
 
-  pub judged-by : (x a b : ℕ) {r : Bool} → ObeysPost L S name first null cont ends (getD list (x + x) 0) (getD list (x + x + 1) 0) (getD kinds x 0) a b r
-      → JudgePost L S name first null cont ends list kinds x a b r
+  pub judged-by : (x a b : ℕ) {r : Bool} → ObeysPost L S tables (getD list (x + x) 0) (getD list (x + x + 1) 0) (getD kinds x 0) a b r
+      → JudgePost L S tables list kinds x a b r
   judged-by x a b post =
-      record { is = λ T Q es cs k j e f. obeys-allowed x (j .given) e (kind-number x k j e) post (j .tables) (value-there a b k j f) }
+      record { is = λ T Q es cs k j e f. obeys-allowed x (j .given) e (kind-number x k j e) post (j .read) (value-there a b k j f) }

@@ -71,34 +71,17 @@ pub fn check(
 pub fn judge(
     label: &[u32],
     size: &[u32],
-    name: &[u32; 64],
-    first: &[u64; 64],
-    null: &[bool; 64],
-    cont: &[u64; 64],
-    ends: &[bool; 64],
+    tables: &[u64; 320],
     constraint: &[u32],
     kinds: &[u32; 16],
     x: usize,
     a: usize,
     b: usize,
 ) -> bool
-    requires { ⌜ JudgePre (now label) (now size) (now name) (now first) (now null) (now cont) (now ends) (now constraint) (now kinds) x a b ⌝ }
-    ensures { λ r. ⌜ JudgePost (now (label .entry)) (now (size .entry)) (now (name .entry)) (now (first .entry)) (now (null .entry)) (now (cont .entry)) (now (ends .entry)) (now (constraint .entry)) (now (kinds .entry)) x a b r ⌝ }
+    requires { ⌜ JudgePre (now label) (now size) (now tables) (now constraint) (now kinds) x a b ⌝ }
+    ensures { λ r. ⌜ JudgePost (now (label .entry)) (now (size .entry)) (now (tables .entry)) (now (constraint .entry)) (now (kinds .entry)) x a b r ⌝ }
 {
     let start = constraint[x + x];
     let flag = constraint[x + x + 1];
-    constraint::obeys(
-        label,
-        size,
-        name,
-        first,
-        null,
-        cont,
-        ends,
-        start,
-        flag,
-        kinds[x],
-        a,
-        b,
-    )
+    constraint::obeys(label, size, tables, start, flag, kinds[x], a, b)
 }

@@ -48,11 +48,7 @@ pub record Input : Type 0 where
   pub L : List ℕ
   pub S : List ℕ
   pub M : List ℕ
-  pub name : List ℕ
-  pub first : List ℕ
-  pub null : List Bool
-  pub cont : List ℕ
-  pub ends : List Bool
+  pub tables : List ℕ
   pub C : List ℕ
   pub kinds : List ℕ
   pub budget : ℕ
@@ -70,18 +66,14 @@ pub record Input : Type 0 where
   pub before : List ℕ
 
 abbrev pub given :
-    (L S M name first : List ℕ) (null : List Bool) (cont : List ℕ) (ends : List Bool) (C kinds : List ℕ) (budget room width : ℕ)
+    (L S M tables : List ℕ) (C kinds : List ℕ) (budget room width : ℕ)
     (R A G X St U N F : List ℕ) (start : ℕ) (before : List ℕ) → Input
-given L S M name first null cont ends C kinds budget room width R A G X St U N F start before =
+given L S M tables C kinds budget room width R A G X St U N F start before =
     record {
       L = L;
       S = S;
       M = M;
-      name = name;
-      first = first;
-      null = null;
-      cont = cont;
-      ends = ends;
+      tables = tables;
       C = C;
       kinds = kinds;
       budget = budget;
@@ -119,17 +111,17 @@ pub record Placed (N F : List ℕ) (depth : ℕ) : Type 0 where
 module _ (i : Input) where
   abbrev Asked : Term → Pattern → List Kind → List Expression → List Constraint → List ℕ → Type 0
   Asked T P Q es cs vals =
-      GoAsked (i .L) (i .S) (i .M) (i .name) (i .first) (i .null) (i .cont) (i .ends) (i .C) (i .kinds) (i .room) (i .width)
+      GoAsked (i .L) (i .S) (i .M) (i .tables) (i .C) (i .kinds) (i .room) (i .width)
       (i .R) (i .A) (i .G) (i .X) (i .St) (i .U) (i .N) (i .F) (i .start) (i .before) T P Q es cs vals
 
   abbrev Post : Found → List ℕ → Type 0
   Post r after =
-      GoPost (i .L) (i .S) (i .M) (i .name) (i .first) (i .null) (i .cont) (i .ends) (i .C) (i .kinds) (i .budget) (i .room) (i .width)
+      GoPost (i .L) (i .S) (i .M) (i .tables) (i .C) (i .kinds) (i .budget) (i .room) (i .width)
       (i .R) (i .A) (i .G) (i .X) (i .St) (i .U) (i .N) (i .F) (i .start) (i .before) r after
 
   abbrev Pre : Type 0
   Pre =
-      GoPre (i .L) (i .S) (i .M) (i .name) (i .first) (i .null) (i .cont) (i .ends) (i .C) (i .kinds) (i .room) (i .width)
+      GoPre (i .L) (i .S) (i .M) (i .tables) (i .C) (i .kinds) (i .room) (i .width)
       (i .R) (i .A) (i .G) (i .X) (i .St) (i .U) (i .N) (i .F) (i .start) (i .before)
 
   module _ {T : Term} {P : Pattern} {Q : List Kind} {es : List Expression} {cs : List Constraint} {vals₀ : List ℕ} (a : Asked T P Q es cs vals₀) where
@@ -290,7 +282,7 @@ module _ {i : Input} where
         }
 
     pub attempt-asked : Pre i
-        → AttemptPre (i .L) (i .S) (i .M) (i .name) (i .first) (i .null) (i .cont) (i .ends) (i .C) (i .kinds) R A
+        → AttemptPre (i .L) (i .S) (i .M) (i .tables) (i .C) (i .kinds) R A
         (getD G (depth - 1) 0) (getD X (depth - 1) 0) (getD St (depth - 1) 0) (getD U (depth - 1) 0) (getD N (depth - 1) 0)
     attempt-asked p =
         let h = p .some in
@@ -329,7 +321,7 @@ module _ {i : Input} where
 
     pub going-try : {o : Out} {R′ A′ : List ℕ} {u : ℕ} → Pre i → (tries ≡ i .budget → ⊥)
         → FurtherPost (i .S) (i .M) (getD G (depth - 1) 0) (getD U (depth - 1) 0) (getD F (depth - 1) 0 - 1) u
-        → AttemptPost (i .L) (i .S) (i .M) (i .name) (i .first) (i .null) (i .cont) (i .ends) (i .C) (i .kinds) R A
+        → AttemptPost (i .L) (i .S) (i .M) (i .tables) (i .C) (i .kinds) R A
         (getD G (depth - 1) 0) (getD X (depth - 1) 0) (getD St (depth - 1) 0) (getD U (depth - 1) 0) (getD N (depth - 1) 0) o R′ A′
         → Tried i out R′ A′ G X St (set U (depth - 1) u) N′ F′ depth cnt (tries + 1) (getD U (depth - 1) 0) (getD F (depth - 1) 0 - 1) o
     going-try {o} {R′} {A′} {u} p b further post =
@@ -391,7 +383,7 @@ module _ {i : Input} where
     pub passed-small : (failed ≤ limit) × (depth ≤ 16) × (getD N (depth - 1) 0 + getD F (depth - 1) 0 ≤ 2049)
     passed-small = let q = placed (g .ready) (g .pre) in (g .post .few, q .deep, q .small)
 
-    pub passed-asked : AttemptPre (i .L) (i .S) (i .M) (i .name) (i .first) (i .null) (i .cont) (i .ends) (i .C) (i .kinds) R A
+    pub passed-asked : AttemptPre (i .L) (i .S) (i .M) (i .tables) (i .C) (i .kinds) R A
         (getD G (depth - 1) 0) (getD X (depth - 1) 0) (getD St (depth - 1) 0) u (getD N (depth - 1) 0 + failed)
     passed-asked = rw (row-is, next-is) at (attempt-asked ready (g .pre))
 
@@ -400,7 +392,7 @@ module _ {i : Input} where
 
     pub passed-tried : {o : Out} {R′ A′ : List ℕ} {r : ℕ}
         → FurtherPost (i .S) (i .M) (getD G (depth - 1) 0) u (getD F (depth - 1) 0 - failed - 1) r
-        → AttemptPost (i .L) (i .S) (i .M) (i .name) (i .first) (i .null) (i .cont) (i .ends) (i .C) (i .kinds) R A
+        → AttemptPost (i .L) (i .S) (i .M) (i .tables) (i .C) (i .kinds) R A
         (getD G (depth - 1) 0) (getD X (depth - 1) 0) (getD St (depth - 1) 0) u (getD N (depth - 1) 0 + failed) o R′ A′
         → Tried i out R′ A′ G X St (set U (depth - 1) r) (set N (depth - 1) (getD N (depth - 1) 0 + failed + 1)) (set F (depth - 1) (getD F (depth - 1) 0 - failed - 1)) depth cnt (tries + failed + 1) u (getD F (depth - 1) 0 - failed - 1) o
     passed-tried {o} {R′} {A′} {r} further post =

@@ -57,11 +57,7 @@ pub fn go(
     label: &[u32],
     size: &[u32],
     pattern: &[u32; 768],
-    name: &[u32; 64],
-    first: &[u64; 64],
-    null: &[bool; 64],
-    cont: &[u64; 64],
-    ends: &[bool; 64],
+    tables: &[u64; 320],
     constraint: &[u32],
     kinds: &[u32; 16],
     budget: u32,
@@ -78,8 +74,8 @@ pub fn go(
     start: usize,
     out: &mut [u32],
 ) -> Found
-    requires { ⌜ GoPre (now label) (now size) (now pattern) (now name) (now first) (now null) (now cont) (now ends) (now constraint) (now kinds) room width «record» (now at) places variables starts rows nexts lefts start (now out) ⌝ }
-    ensures { λ r. ⌜ GoPost (now (label .entry)) (now (size .entry)) (now (pattern .entry)) (now (name .entry)) (now (first .entry)) (now (null .entry)) (now (cont .entry)) (now (ends .entry)) (now (constraint .entry)) (now (kinds .entry)) budget room width «record» (now (at .entry)) places variables starts rows nexts lefts start (now (out .entry)) r (now (out .exit)) ⌝ }
+    requires { ⌜ GoPre (now label) (now size) (now pattern) (now tables) (now constraint) (now kinds) room width «record» (now at) places variables starts rows nexts lefts start (now out) ⌝ }
+    ensures { λ r. ⌜ GoPost (now (label .entry)) (now (size .entry)) (now (pattern .entry)) (now (tables .entry)) (now (constraint .entry)) (now (kinds .entry)) budget room width «record» (now (at .entry)) places variables starts rows nexts lefts start (now (out .entry)) r (now (out .exit)) ⌝ }
 {
     let mut memory = [0usize; 80];
     let mut path = [0usize; 259];
@@ -127,11 +123,7 @@ pub fn go(
             label,
             size,
             pattern,
-            name,
-            first,
-            null,
-            cont,
-            ends,
+            tables,
             constraint,
             kinds,
             &mut record,

@@ -58,9 +58,9 @@ pub record ObeyedPost (L S EK EN EZ C kinds list : List ℕ) (r : Bool) : Type 0
   pub is : (T : Term) (Q : List Kind) (es : List Expression) (cs : List Constraint) → Constrained L S EK EN EZ C kinds list T Q es cs → Says r (AllObey Q T cs list (length Q))
 
 -- the same with the tables of the expressions at hand
-pub record AllPre (L S name first : List ℕ) (null : List Bool) (cont : List ℕ) (ends : List Bool) (C kinds : List ℕ) (variables : ℕ) (list : List ℕ) : Type 0 where
-  pub some : (T : Term) × (Q : List Kind) × (es : List Expression) × (cs : List Constraint) × Judging L S name first null cont ends C kinds T Q es cs × GoodRecord Q (T ◂ none) list × (variables ≡ length Q)
+pub record AllPre (L S tables : List ℕ) (C kinds : List ℕ) (variables : ℕ) (list : List ℕ) : Type 0 where
+  pub some : (T : Term) × (Q : List Kind) × (es : List Expression) × (cs : List Constraint) × Judging L S tables C kinds T Q es cs × GoodRecord Q (T ◂ none) list × (variables ≡ length Q)
 
-pub record AllPost (L S name first : List ℕ) (null : List Bool) (cont : List ℕ) (ends : List Bool) (C kinds : List ℕ) (variables : ℕ) (list : List ℕ) (r : Bool) : Type 0 where
-  pub is : (T : Term) (Q : List Kind) (es : List Expression) (cs : List Constraint) → Judging L S name first null cont ends C kinds T Q es cs → GoodRecord Q (T ◂ none) list → variables ≡ length Q
+pub record AllPost (L S tables : List ℕ) (C kinds : List ℕ) (variables : ℕ) (list : List ℕ) (r : Bool) : Type 0 where
+  pub is : (T : Term) (Q : List Kind) (es : List Expression) (cs : List Constraint) → Judging L S tables C kinds T Q es cs → GoodRecord Q (T ◂ none) list → variables ≡ length Q
       → Says r (AllObey Q T cs list (length Q))

@@ -87,37 +87,20 @@ fn placed(
 fn all_obey(
     label: &[u32],
     size: &[u32],
-    name: &[u32; 64],
-    first: &[u64; 64],
-    null: &[bool; 64],
-    cont: &[u64; 64],
-    ends: &[bool; 64],
+    tables: &[u64; 320],
     constraint: &[u32],
     kinds: &[u32; 16],
     variables: usize,
     record: &[u32],
 ) -> bool
-    requires { ⌜ AllPre (now label) (now size) (now name) (now first) (now null) (now cont) (now ends) (now constraint) (now kinds) variables (now «record») ⌝ }
-    ensures { λ r. ⌜ AllPost (now (label .entry)) (now (size .entry)) (now (name .entry)) (now (first .entry)) (now (null .entry)) (now (cont .entry)) (now (ends .entry)) (now (constraint .entry)) (now (kinds .entry)) variables (now («record» .entry)) r ⌝ }
+    requires { ⌜ AllPre (now label) (now size) (now tables) (now constraint) (now kinds) variables (now «record») ⌝ }
+    ensures { λ r. ⌜ AllPost (now (label .entry)) (now (size .entry)) (now (tables .entry)) (now (constraint .entry)) (now (kinds .entry)) variables (now («record» .entry)) r ⌝ }
 {
     let mut x = 0;
     while x < variables {
         let a = tree::at(record, x + x);
         let b = tree::at(record, x + x + 1);
-        if !problem::judge(
-            label,
-            size,
-            name,
-            first,
-            null,
-            cont,
-            ends,
-            constraint,
-            kinds,
-            x,
-            a,
-            b,
-        ) {
+        if !problem::judge(label, size, tables, constraint, kinds, x, a, b) {
             return false;
         }
         x += 1;
@@ -140,25 +123,14 @@ fn obeyed(
     requires { ⌜ ConstrainedPre (now label) (now size) (now «expression_kind») (now «expression_name») (now «expression_size») (now constraint) (now kinds) variables (now «record») ⌝ }
     ensures { λ r. ⌜ ObeyedPost (now (label .entry)) (now (size .entry)) (now («expression_kind» .entry)) (now («expression_name» .entry)) (now («expression_size» .entry)) (now (constraint .entry)) (now (kinds .entry)) (now («record» .entry)) r ⌝ }
 {
-    let tables = letters::tables_of(expression_kind, expression_name, expression_size);
-    let name = tables.name;
-    let first = tables.first;
-    let null = tables.null;
-    let cont = tables.cont;
-    let ends = tables.ends;
-    all_obey(
-        label,
-        size,
-        &name,
-        &first,
-        &null,
-        &cont,
-        &ends,
-        constraint,
-        kinds,
-        variables,
-        record,
-    )
+    let mut tables = [0u64; 320];
+    letters::tables_of(
+        expression_kind,
+        expression_name,
+        expression_size,
+        &mut tables,
+    );
+    all_obey(label, size, &tables, constraint, kinds, variables, record)
 }
 
 // Whether the record is that of a matcher.

@@ -98,10 +98,9 @@ loop-again c =
 
 returns : tie.Need-returns Inv-loop μ-loop
 returns c =
-    λ name es g.
     let lo = c .before .loop in
     let q : lo .i ≡ length (c .before .before .before .before .args .kind .now) = omega arith in
-    rw q at (lo .inv .3 name es g)
+    (lo .inv .1, lo .inv .2, λ name es g. rw q at (lo .inv .3 name es g))
 
 pub conts-of-spec : {M : Type 1} → statement M
 conts-of-spec =

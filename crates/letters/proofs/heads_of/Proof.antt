@@ -87,7 +87,7 @@ loop-again c =
     )
 
 returns : tie.Need-returns Inv-loop μ-loop
-returns c = λ s l. c .before .loop .inv .3 s (omega arith) l
+returns c = (c .before .loop .inv .1, c .before .loop .inv .2, λ s l. c .before .loop .inv .3 s (omega arith) l)
 
 pub heads-of-spec : {M : Type 1} → statement M
 heads-of-spec =

@@ -46,7 +46,7 @@ loop-again c =
     )
 
 returns : tie.Need-returns Inv-loop μ-loop
-returns c = λ s l. c .before .loop .inv .2 s (omega (arith, c .loop-test .left))
+returns c = (c .before .loop .inv .1, λ s l. c .before .loop .inv .2 s (omega (arith, c .loop-test .left)))
 
 pub names-of-spec : {M : Type 1} → statement M
 names-of-spec =

@@ -8,7 +8,7 @@ use Rattle.lister.proofs.begin.Tie as tie
 -- the first walk, from a record of zeros
 begun : (c : tie.After-begin) →
     let a = c .before .before .before .before .before .before .before .args in
-    Begun (a .label .now) (a .size .now) (a .pattern .now) (a .name .now) (a .first .now) (a .null .now) (a .cont .now) (a .ends .now)
+    Begun (a .label .now) (a .size .now) (a .pattern .now) (a .tables .now)
     (a .constraint .now) (a .kinds .now) (a .room) (a .width) (a .out .now) (c .begin .last .1 .1 .1 .0) (c .begin .last .1 .1 .1 .1 .0) (c .begin .result)
 begun c = record { R = replicate 32 0; A = replicate 512 0; long = refl; rows-long = refl; pre = c .before .before .before .before .before .before .before .pre; walked = c .begin .ensures }
 

@@ -1,4 +1,6 @@
 use native.Mathlib.Omega.{arith}
+use Prim.Native.Nat.{ℕ}
+use lib.ListN.{length-replicate}
 use mathlib.Core.Path.{refl}
 use mathlib.Core.List.{[]}
 use Rattle.problem.proofs.Posed.{the}
@@ -10,10 +12,10 @@ use Rattle.lister.proofs.list.Tie as tie
 
 -- from the packed pattern to the expressions' tables, and from these to the test of the code
 abbrev tabled : tie.After-pack → tie.After-tables-of
-tabled k = k .before .before .before .before .before .before .before
+tabled k = k .before .before
 
 abbrev accepted : tie.After-tables-of → tie.Else1
-accepted t = t .before .before
+accepted t = t .before .before .before
 
 check-requires : tie.Need-check-requires
 check-requires c κs = search needs
@@ -22,14 +24,14 @@ returns : tie.Need-returns
 returns c = list-refused _ (c .before .check .ensures) _ _ (c .if1 .taken)
 
 tables-of-requires : tie.Need-tables-of-requires
-tables-of-requires c κs = tables-asked _ (c .before .before .check .ensures) 0 [] (c .before .if1 .left)
+tables-of-requires c κs = (length-replicate {A = ℕ} 320 0, tables-asked _ (c .before .before .before .check .ensures) 0 [] (c .before .before .if1 .left))
 
 slice-aggregate-pack : tie.Need-slice-aggregate-pack
 slice-aggregate-pack c = search needs
 
 pack-requires : tie.Need-pack-requires
 pack-requires c κs =
-    let z = accepted (c .before .before .before .before .before .before) in
+    let z = accepted (c .before) in
     pack-asked (the (z .before .check .ensures) (z .if1 .left) .poses .rest .pattern) refl
 
 add-width : tie.Need-add-width
@@ -42,7 +44,7 @@ room-for-requires c κs = search needs
 
 begin-requires : tie.Need-begin-requires
 begin-requires c κs =
-    let w = c .before .before .before .before .before .before .before .before in
+    let w = c .before .before .before .before in
     let k = w .before .before in
     let t = tabled k in
     let z = accepted t in
@@ -53,7 +55,7 @@ same-length c = search needs
 
 returns-2 : tie.Need-returns-2
 returns-2 c =
-    let w = c .before .before .before .before .before .before .before .before .before .before .before in
+    let w = c .before .before .before .before .before .before .before in
     let k = w .before .before in
     let t = tabled k in
     let z = accepted t in

@@ -41,32 +41,32 @@ element-copy-out-if2 : tie.Need-element-copy-out-if2
 element-copy-out-if2 c = search needs
 
 -- src/lib.rt:42:34
-add-t27 : tie.Need-add-t27
-add-t27 c = search needs
+add-t26 : tie.Need-add-t26
+add-t26 c = search needs
 
 -- src/lib.rt:42:27
-mul-t28 : tie.Need-mul-t28
-mul-t28 c = search needs
+mul-t27 : tie.Need-mul-t27
+mul-t27 c = search needs
 
 -- src/lib.rt:42:27
-element-copy-out-t31 : tie.Need-element-copy-out-t31
-element-copy-out-t31 c = search needs
+element-copy-out-t30 : tie.Need-element-copy-out-t30
+element-copy-out-t30 c = search needs
 
 -- src/lib.rt:43:33
-add-t33 : tie.Need-add-t33
-add-t33 c = search needs
+add-t32 : tie.Need-add-t32
+add-t32 c = search needs
 
 -- src/lib.rt:43:26
-mul-t34 : tie.Need-mul-t34
-mul-t34 c = search needs
+mul-t33 : tie.Need-mul-t33
+mul-t33 c = search needs
 
 -- src/lib.rt:43:26
-element-copy-out-t37 : tie.Need-element-copy-out-t37
-element-copy-out-t37 c = search needs
+element-copy-out-t36 : tie.Need-element-copy-out-t36
+element-copy-out-t36 c = search needs
 
 -- src/lib.rt:40:17
 returns : tie.Need-returns
-returns c = recalled _ _ _ _ _ _ _ (c .before .before .before .before .before .if1 .taken) (c .before .before .before .if2 .taken) (omega (arith, c .before .before .if3 .taken))
+returns c = recalled _ _ _ _ _ _ (c .before .before .before .before .before .if1 .taken) (c .before .before .before .if2 .taken) (omega (arith, c .before .before .if3 .taken))
 
 -- src/lib.rt:49:9
 begin-requires : tie.Need-begin-requires
@@ -74,7 +74,7 @@ begin-requires c κs = search needs
 
 -- src/lib.rt:22:1
 returns-2 : tie.Need-returns-2
-returns-2 c = begun _ _ _ _ _ _ _ (c .begin .ensures)
+returns-2 c = begun _ _ _ _ _ _ (c .begin .ensures)
 
 pub recall-spec : {M : Type 1} → statement M
 recall-spec =
@@ -89,12 +89,12 @@ recall-spec =
     add-if2
     mul-if2
     element-copy-out-if2
-    add-t27
-    mul-t28
-    element-copy-out-t31
-    add-t33
-    mul-t34
-    element-copy-out-t37
+    add-t26
+    mul-t27
+    element-copy-out-t30
+    add-t32
+    mul-t33
+    element-copy-out-t36
     returns
     begin-requires
     returns-2)

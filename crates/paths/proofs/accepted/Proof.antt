@@ -10,11 +10,11 @@ use Rattle.paths.proofs.accepted.Statement.{statement}
 use Rattle.paths.proofs.accepted.Tie as tie
 
 abbrev Inv-loop : tie.InvT-loop
-Inv-loop label size name first null cont ends root x a b path₀ i₀ path i =
-    Standing label size name first null cont ends root x a b path i
+Inv-loop label size tables root x a b path₀ i₀ path i =
+    Standing label size tables root x a b path i
 
 abbrev μ-loop : tie.MeasureT-loop
-μ-loop label size name first null cont ends root x a b path₀ i₀ path i =
+μ-loop label size tables root x a b path₀ i₀ path i =
     b - getD path (4 * i + 3) 0
 
 -- the rows of a turn
@@ -31,10 +31,10 @@ child-in c =
     (n .0, n .3)
 
 recall-requires : tie.Need-recall-requires Inv-loop μ-loop
-recall-requires c κs = let p = c .before .before .before .pre in record { few = p .few; small = omega (arith, context-next (p .path .some .1), p .small); some = (c .before .before .before .args .label .now, c .before .before .before .args .name .now, c .before .before .before .args .cont .now, c .before .before .before .args .ends .now, p .some .0, p .path, p .some .1, p .some .2) }
+recall-requires c κs = let p = c .before .before .before .pre in record { few = p .few; small = omega (arith, context-next (p .path .some .1), p .small); some = (c .before .before .before .args .label .now, p .some .0, p .path, p .some .1, p .some .2) }
 
 loop-holds : tie.Need-loop-holds Inv-loop μ-loop
-loop-holds c = let p = c .before .before .before .before .pre in c .recall .ensures .is (c .before .before .before .before .args .label .now) (c .before .before .before .before .args .name .now) (c .before .before .before .before .args .cont .now) (c .before .before .before .before .args .ends .now) (p .some .0) (p .path) (p .some .1) (p .some .2)
+loop-holds c = let p = c .before .before .before .before .pre in c .recall .ensures .is (c .before .before .before .before .args .label .now) (p .some .0) (p .path) (p .some .1) (p .some .2)
 
 element-write-path : tie.Need-element-write-path Inv-loop μ-loop
 element-write-path c = omega (arith, c .loop .inv .places .long)

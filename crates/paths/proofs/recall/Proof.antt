@@ -37,7 +37,7 @@ put-requires : tie.Need-put-requires
 put-requires c κs = search needs
 
 returns-2 : tie.Need-returns-2
-returns-2 c = rw (c .put .ensures) (recall-new (c .before .before .before .before .before .before .pre .some .7 .long) (c .before .before .begin .ensures))
+returns-2 c = rw (c .put .ensures) (recall-new (c .before .before .before .before .before .before .pre .some .4 .long) (c .before .before .begin .ensures))
 
 pub recall-spec : {M : Type 1} → statement M
 recall-spec =

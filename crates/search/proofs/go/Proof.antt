@@ -14,15 +14,15 @@ use Rattle.search.proofs.go.Statement.{statement}
 use Rattle.search.proofs.go.Tie as tie
 
 abbrev Inv-loop : tie.InvT-loop
-Inv-loop label size pattern name first null cont ends constraint kinds budget room width at₀ start
+Inv-loop label size pattern tables constraint kinds budget room width at₀ start
     out₀ record₀ places₀ variables₀ starts₀ rows₀ nexts₀ lefts₀ memory₀ path₀ depth₀ count₀ tries₀ at₁ out «record» places variables starts rows nexts lefts memory path depth count tries =
     Going
-    (given label size pattern name first null cont ends constraint kinds budget room width record₀ at₀ places₀ variables₀ starts₀ rows₀ nexts₀ lefts₀ start out₀)
+    (given label size pattern tables constraint kinds budget room width record₀ at₀ places₀ variables₀ starts₀ rows₀ nexts₀ lefts₀ start out₀)
     out «record» at₁ places variables starts rows nexts lefts depth count tries
-    × Both label size name first null cont ends constraint memory path
+    × Both label size tables constraint memory path
 
 abbrev μ-loop : tie.MeasureT-loop
-μ-loop label size pattern name first null cont ends constraint kinds budget room width at₀ start
+μ-loop label size pattern tables constraint kinds budget room width at₀ start
     out₀ record₀ places₀ variables₀ starts₀ rows₀ nexts₀ lefts₀ memory₀ path₀ depth₀ count₀ tries₀ at₁ out «record» places variables starts rows nexts lefts memory path depth count tries =
     budget - tries
 
@@ -30,8 +30,8 @@ abbrev μ-loop : tie.MeasureT-loop
 abbrev input : tie.Start Inv-loop μ-loop → Input
 input s =
     let a = s .args in
-    given (a .label .now) (a .size .now) (a .pattern .now) (a .name .now) (a .first .now) (a .null .now) (a .cont .now) (a .ends .now)
-    (a .constraint .now) (a .kinds .now) (a .budget) (a .room) (a .width) (a .t14) (a .at .now) (a .t16) (a .t17) (a .t18) (a .t19) (a .t20) (a .t21) (a .start) (a .out .now)
+    given (a .label .now) (a .size .now) (a .pattern .now) (a .tables .now)
+    (a .constraint .now) (a .kinds .now) (a .budget) (a .room) (a .width) (a .t10) (a .at .now) (a .t12) (a .t13) (a .t14) (a .t15) (a .t16) (a .t17) (a .start) (a .out .now)
 
 -- from a turn's head to the function's start, and from a turn's try to its head
 abbrev begun : tie.At-loop Inv-loop μ-loop → tie.Start Inv-loop μ-loop
@@ -86,7 +86,7 @@ tried : (c : tie.After-attempt Inv-loop μ-loop) →
     let l = head c .loop in
     let depth = c .before .before .before .before .before .before .before .before .before .before .before .back .result in
     let failed = c .before .before .before .before .before .before .skip .result .count in
-    Tried (input (begun (head c))) (l .out) (c .attempt .last .1 .1 .1 .1 .1 .1 .1 .1 .1 .1 .0) (c .attempt .last .1 .1 .1 .1 .1 .1 .1 .1 .1 .1 .1 .0) (l .places) (l .variables) (l .starts)
+    Tried (input (begun (head c))) (l .out) (c .attempt .last .1 .1 .1 .1 .1 .1 .0) (c .attempt .last .1 .1 .1 .1 .1 .1 .1 .0) (l .places) (l .variables) (l .starts)
     (set (l .rows) (depth - 1) (c .before .before .before .before .before .further .result)) (set (l .nexts) (depth - 1) (getD (l .nexts) (depth - 1) 0 + failed + 1)) (set (l .lefts) (depth - 1) (getD (l .lefts) (depth - 1) 0 - failed - 1))
     depth (l .count) (l .tries + failed + 1) (c .before .before .before .before .before .before .skip .result .row) (getD (l .lefts) (depth - 1) 0 - failed - 1) (c .attempt .result)
 tried c = passed-tried (passing (c .before .before .before .before .before .before)) (c .before .before .before .before .before .further .ensures) (c .attempt .ensures .0)
@@ -103,7 +103,7 @@ room-left : (c : tie.Else3 Inv-loop μ-loop) →
 room-left c = put-asked (tried (c .before .before .before)) (c .before .enum-told2 .given .1) (begun (head (c .before .before .before)) .pre) (c .if3 .left)
 
 loop-holds : tie.Need-loop-holds Inv-loop μ-loop
-loop-holds c = (going-start (c .before .before .before .before .pre), record { sequences = blank _ _ _ _ _ _ _ _; contexts = paths.blank _ _ _ _ _ _ _ _ })
+loop-holds c = (going-start (c .before .before .before .before .pre), record { sequences = blank _ _ _ _; contexts = paths.blank _ _ _ _ })
 
 back-requires : tie.Need-back-requires Inv-loop μ-loop
 back-requires c κs = (going-depth (c .before .loop .inv .0) (begun (c .before) .pre), c .before .loop .inv .0 .long .lefts-long)
