@@ -18,10 +18,10 @@ use Rattle.walk.specs.Onward.{Lands, at-terms}
 use Rattle.choice.specs.Stops.{many, StopAt, AtStop, LeastPost, ValuesPost, LandingPre, LandingPost, FurtherPost, FewerPre, Fewer, from-there, Before, MorePre, MorePost}
 use Rattle.choice.specs.declared.Counted.{Counted}
 use Rattle.choice.specs.declared.Counted.the-variants as counted
-use Rattle.choice.proofs.Stops.{list-end, lands-list, lands-at, terms-left, at-row, at-room, at-list, at-the-term}
+use Rattle.choice.proofs.Stops.{list-end, lands-list, lands-at, terms-left, at-row, at-room, at-list, at-holder, at-the-term}
 
 -- the least value
-module _ {M : List ℕ} {p s k : ℕ} (ek : k ≡ getD M (3 * p) 0) where
+module _ {M : List ℕ} {p s k : ℕ} (ek : k ≡ getD M (6 * p) 0) where
   pub least-terms : k ≡ 2 → LeastPost M p s 0
   least-terms two = record { is = λ L S A K N Z Q x w fs a. let i = at-list a ek two in rw (i .is) }
 
@@ -30,32 +30,32 @@ module _ {M : List ℕ} {p s k : ℕ} (ek : k ≡ getD M (3 * p) 0) where
 
 -- the number of values
 module _ {S M A : List ℕ} {p s : ℕ} where
-  pub values-room : AtStop S M A p s → (p < 256) × (3 * p + 2 < length M)
+  pub values-room : AtStop S M A p s → (p < 256) × (6 * p + 5 < length M)
   values-room pre = at-room (pre .some .8)
 
-  module _ {k : ℕ} (ek : k ≡ getD M (3 * p) 0) where
+  module _ {k : ℕ} (ek : k ≡ getD M (6 * p) 0) where
     pub values-row : k ≢ 2 → AtStop S M A p s → s < length S
     values-row two pre = term-next (at-the-term (pre .some .8) ek two .tree) .sized
 
     pub values-holes : {r : ℕ} → k ≢ 2 → r ≡ getD S s 0 → ValuesPost S M A p s r
     values-holes two er = record { is = λ L K N Z Q x w fs a. let i = at-the-term a ek two in rw (i .is) (er ∙ i .tree .row .size) }
 
-    module _ (two : k ≡ 2) {h : ℕ} (eh : h ≡ getD A (2 * p + 1) 0) where
+    module _ (two : k ≡ 2) {h : ℕ} (eh : h ≡ getD M (6 * p + 3) 0) where
       holding : {L K N Z : List ℕ} {Q : List Kind} {x : ℕ} {w : Stop} {fs : List Frame} (a : StopAt L S M A p s K N Z Q x w fs) → at-list a ek two .h ≡ h
-      holding a = sym (at-list a ek two .holder) ∙ sym eh
+      holding a = sym (at-holder a (at-list a ek two)) ∙ sym eh
 
-      pub values-holder : AtStop S M A p s → (h < 256) × (getD A (2 * h) 0 < length S)
+      pub values-holder : AtStop S M A p s → (h < 256) × (getD A h 0 < length S)
       values-holder pre =
           let a = pre .some .8 in
           let i = at-list a ek two in
           let e = holding a in
           (omega (arith, i .lower, at-row a, a .marks .few), rw (sym e) (i .held .marked .row))
 
-      module _ {g e : ℕ} (eg : g ≡ getD A (2 * h) 0) (ee : e ≡ g + getD S g 0) where
+      module _ {g e : ℕ} (eg : g ≡ getD A h 0) (ee : e ≡ g + getD S g 0) where
         ends : {L K N Z : List ℕ} {Q : List Kind} {x : ℕ} {w : Stop} {fs : List Frame} (a : StopAt L S M A p s K N Z Q x w fs) → TermsAt L S s e (at-list a ek two .us)
         ends {L} a =
             let i = at-list a ek two in
-            let j : i .te ≡ e = sym (i .held .marked .behind) ∙ ap (λ (b : ℕ). getD A (2 * b) 0 + getD S (getD A (2 * b) 0) 0) (holding a) ∙ ap (λ (b : ℕ). b + getD S b 0) (sym eg) ∙ sym ee in
+            let j : i .te ≡ e = sym (i .held .marked .behind) ∙ ap (λ (b : ℕ). getD A b 0 + getD S (getD A b 0) 0) (holding a) ∙ ap (λ (b : ℕ). b + getD S b 0) (sym eg) ∙ sym ee in
             subst (λ (b : ℕ). TermsAt L S s b (i .us)) j (i .tree)
 
         pub values-counted : AtStop S M A p s → CountPre S s e
@@ -73,10 +73,10 @@ module _ {S M A : List ℕ} {p s : ℕ} where
 
 -- the row at which the walk goes on
 module _ {S M : List ℕ} {p s v : ℕ} where
-  pub landing-room : LandingPre S M p s v → 3 * p + 2 < length M
+  pub landing-room : LandingPre S M p s v → 6 * p + 5 < length M
   landing-room pre = at-room (pre .some .9) .1
 
-  module _ {k : ℕ} (ek : k ≡ getD M (3 * p) 0) where
+  module _ {k : ℕ} (ek : k ≡ getD M (6 * p) 0) where
     pub landing-past : k ≡ 2 → LandingPre S M p s v → PastPre S s v
     landing-past two pre =
         let z = pre .some in
@@ -111,10 +111,10 @@ module _ {S M : List ℕ} {p u left : ℕ} where
   pub further-last : left ≡ 0 → FurtherPost S M p u left u
   further-last e = record { terms = λ h. absurd (omega arith); hole = λ h. absurd (omega arith) }
 
-  pub further-terms : {k r : ℕ} → k ≡ getD M (3 * p) 0 → k ≡ 2 → r ≡ u + getD S u 0 → FurtherPost S M p u left r
+  pub further-terms : {k r : ℕ} → k ≡ getD M (6 * p) 0 → k ≡ 2 → r ≡ u + getD S u 0 → FurtherPost S M p u left r
   further-terms ek two er = record { terms = λ h g. er; hole = λ h n. absurd (n (omega arith)) }
 
-  pub further-hole : {k : ℕ} → k ≡ getD M (3 * p) 0 → k ≢ 2 → FurtherPost S M p u left (u + 1)
+  pub further-hole : {k : ℕ} → k ≡ getD M (6 * p) 0 → k ≢ 2 → FurtherPost S M p u left (u + 1)
   further-hole ek two = record { terms = λ h g. absurd (two (ek ∙ g)); hole = λ h n. refl }
 
 -- fewer terms: n are left from the row on
@@ -171,19 +171,19 @@ module _ {S M A : List ℕ} {q u left p s : ℕ} where
   more-before : {L K N Z : List ℕ} {Q : List Kind} {x : ℕ} {w : Stop} {fs : List Frame} → StopAt L S M A p s K N Z Q x w fs → (b : Before L S A q u left K N Z Q) → StopAt L S M A q (b .s) K N Z Q (b .x) (b .stop) (b .frames)
   more-before a b = record { packed = a .packed; marks = a .marks; stands = b .stands }
 
-  pub more-room : MorePre S M A q u left p s → (q < 256) × (3 * q + 2 < length M)
+  pub more-room : MorePre S M A q u left p s → (q < 256) × (6 * q + 5 < length M)
   more-room pre = let z = pre .some in at-room (more-before (z .8) (z .9))
 
   -- both stand in one list
-  module _ {k j h g : ℕ} (ek : k ≡ getD M (3 * q) 0) (ek2 : k ≡ 2) (ej : j ≡ getD M (3 * p) 0) (ej2 : j ≡ 2) (eh : h ≡ getD A (2 * q + 1) 0) (eg : g ≡ getD A (2 * p + 1) 0) (one : h ≡ g) where
+  module _ {k j h g : ℕ} (ek : k ≡ getD M (6 * q) 0) (ek2 : k ≡ 2) (ej : j ≡ getD M (6 * p) 0) (ej2 : j ≡ 2) (eh : h ≡ getD M (6 * q + 3) 0) (eg : g ≡ getD M (6 * p + 3) 0) (one : h ≡ g) where
     both : {L K N Z : List ℕ} {Q : List Kind} {x : ℕ} {w : Stop} {fs : List Frame} (a : StopAt L S M A p s K N Z Q x w fs) → Before L S A q u left K N Z Q → Left L S u (at-list a ej ej2 .te) left
     both {L} a b =
         let i = at-list a ej ej2 in
         let o = at-list (more-before a b) ek ek2 in
-        let m : o .h ≡ i .h = sym (o .holder) ∙ sym eh ∙ one ∙ eg ∙ i .holder in
+        let m : o .h ≡ i .h = sym (at-holder (more-before a b) o) ∙ sym eh ∙ one ∙ eg ∙ at-holder a i in
         let l = lands-list (subst (Lands L S (b .s) u (b .above)) (o .is) (b .lands)) in
         let e : l .0 ≡ o .te = list-end (b .above) (o .tree) (l .1) in
-        let f : o .te ≡ i .te = sym (o .held .marked .behind) ∙ ap (λ (c : ℕ). getD A (2 * c) 0 + getD S (getD A (2 * c) 0) 0) m ∙ i .held .marked .behind in
+        let f : o .te ≡ i .te = sym (o .held .marked .behind) ∙ ap (λ (c : ℕ). getD A c 0 + getD S (getD A c 0) 0) m ∙ i .held .marked .behind in
         let y : suc (b .above + left) ≡ suc (terms (o .us)) = b .left-over ∙ ap many (o .is) in
         record {
           behind = dropT (b .above) (o .us);

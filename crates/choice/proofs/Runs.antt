@@ -26,7 +26,7 @@ use Rattle.walk.specs.Onward.{Lands, at-terms, at-hole}
 use Rattle.walk.proofs.Views.{term-seen, list-seen, TermView, v-symbol, v-individual, v-function, v-context, term-view, term-first, no-arguments}
 use Rattle.choice.specs.Stops.{many}
 use Rattle.choice.specs.Runs.{HolesPost, Unlike, NeighboursPre, NeighboursPost, WholePre, WholePost, Level, LevelPre, SkipPost}
-use Rattle.choice.proofs.Stops.{drop-more, terms-left, behind-more, one-behind, some-left, InList, AtTerm, lands-list, lands-row, lands-at, list-end, at-room, at-list, at-the-term}
+use Rattle.choice.proofs.Stops.{drop-more, terms-left, behind-more, one-behind, some-left, InList, AtTerm, lands-list, lands-row, lands-at, list-end, at-room, at-list, at-holder, at-the-term}
 
 -- the rows of holes
 module _ {L : List ℕ} {symbol row limit : ℕ} where
@@ -82,17 +82,17 @@ all-terms none = (refl, refl)
 all-terms (some l vs rest) = let h = all-terms rest in (h .0, ap (some l vs) (h .1))
 
 module _ {S A : List ℕ} {h u left limit : ℕ} where
-  pub whole-end : {g r : ℕ} → limit + 1 ≡ left → g ≡ getD A (2 * h) 0 → r ≡ g + getD S g 0 → WholePost S A h u left limit limit r
+  pub whole-end : {g r : ℕ} → limit + 1 ≡ left → g ≡ getD A h 0 → r ≡ g + getD S g 0 → WholePost S A h u left limit limit r
   whole-end {g} {r} e eg er =
       record {
         all = refl;
         is = λ L us t k.
-            let i : getD A (2 * h) 0 + getD S (getD A (2 * h) 0) 0 ≡ r = ap (λ (b : ℕ). b + getD S b 0) (sym eg) ∙ sym er in
+            let i : getD A h 0 + getD S (getD A h 0) 0 ≡ r = ap (λ (b : ℕ). b + getD S b 0) (sym eg) ∙ sym er in
             let j : limit ≡ terms us = omega arith in
             let a = all-terms us in
             let n = terms-end t in
-            let o : TermsAt L S (getD A (2 * h) 0 + getD S (getD A (2 * h) 0) 0) (getD A (2 * h) 0 + getD S (getD A (2 * h) 0) 0) none = nothing-at _ (n .0) (n .1) in
-            subst (λ (b : ℕ). Behind L S u (getD A (2 * h) 0 + getD S (getD A (2 * h) 0) 0) us b limit) i
+            let o : TermsAt L S (getD A h 0 + getD S (getD A h 0) 0) (getD A h 0 + getD S (getD A h 0) 0) none = nothing-at _ (n .0) (n .1) in
+            subst (λ (b : ℕ). Behind L S u (getD A h 0 + getD S (getD A h 0) 0) us b limit) i
             (rw (j, a .0, a .1) (o, terms-rows t));
       }
 
@@ -113,7 +113,7 @@ hole-label : {L S : List ℕ} {s u d : ℕ} {q : Pattern} {T : Term} → Lands L
 hole-label (at-hole b) = b .1 .row .label
 
 -- a symbol of the pattern
-symbol-at : {K N Z M : List ℕ} {Q : List Kind} {p k y : ℕ} {q : Pattern} (n : ℕ) → Packed K N Z M → PatternAt K N Z Q p q → GoodT Q q n → k ≡ getD M (3 * p) 0 → k ≡ 0 → y ≡ getD M (3 * p + 1) 0
+symbol-at : {K N Z M : List ℕ} {Q : List Kind} {p k y : ℕ} {q : Pattern} (n : ℕ) → Packed K N Z M → PatternAt K N Z Q p q → GoodT Q q n → k ≡ getD M (6 * p) 0 → k ≡ 0 → y ≡ getD M (6 * p + 1) 0
     → (qs : Patterns) × (q ≡ symbol y qs)
 symbol-at n m a g ek zero ey = go zero (term-view m a g ek ey)
   where
@@ -150,11 +150,11 @@ skip-none {L} {S} {u = u} =
       is = λ K N Z Q x s w fs above v. (subst (λ (d : ℕ). Lands L S s u d w) (omega arith) (v .lands), λ j h. absurd (omega arith));
     }
 
-pub skip-room : {L S M A : List ℕ} {p u left limit : ℕ} → LevelPre L S M A p u left limit → (p < 256) × (3 * p + 2 < length M)
+pub skip-room : {L S M A : List ℕ} {p u left limit : ℕ} → LevelPre L S M A p u left limit → (p < 256) × (6 * p + 5 < length M)
 skip-room pre = at-room (pre .some .9 .at)
 
 -- a sequence variable
-module _ {L S M A : List ℕ} {p u left k : ℕ} (ek : k ≡ getD M (3 * p) 0) (two : k ≡ 2) where
+module _ {L S M A : List ℕ} {p u left k : ℕ} (ek : k ≡ getD M (6 * p) 0) (two : k ≡ 2) where
   module _ {K N Z : List ℕ} {Q : List Kind} {x s : ℕ} {w : Stop} {fs : List Frame} {above : ℕ} (v : Level L S M A p u left K N Z Q x s w fs above) where
     -- the list that it stands in
     list : InList L S A K N Z Q p x s w fs
@@ -176,19 +176,19 @@ module _ {L S M A : List ℕ} {p u left k : ℕ} (ek : k ≡ getD M (3 * p) 0) (
     some-terms h = omega (arith, all, terms-left above (list .us) (omega (arith, all)))
 
     -- the row that holds it
-    module _ {h : ℕ} (eh : h ≡ getD A (2 * p + 1) 0) where
+    module _ {h : ℕ} (eh : h ≡ getD M (6 * p + 3) 0) where
       held : list .h ≡ h
-      held = sym (list .holder) ∙ sym eh
+      held = sym (at-holder (v .at) list) ∙ sym eh
 
-      ends : list .te ≡ getD A (2 * h) 0 + getD S (getD A (2 * h) 0) 0
-      ends = sym (list .held .marked .behind) ∙ ap (λ (b : ℕ). getD A (2 * b) 0 + getD S (getD A (2 * b) 0) 0) held
+      ends : list .te ≡ getD A h 0 + getD S (getD A h 0) 0
+      ends = sym (list .held .marked .behind) ∙ ap (λ (b : ℕ). getD A b 0 + getD S (getD A b 0) 0) held
 
-      bounds : {pe : ℕ} → pe ≡ h + getD M (3 * h + 2) 0 → list .pe ≡ pe
+      bounds : {pe : ℕ} → pe ≡ h + getD M (6 * h + 2) 0 → list .pe ≡ pe
       bounds ep =
           sym (list .held .ends) ∙ ap (λ (b : ℕ). b + getD Z b 0) held ∙ ap (λ (b : ℕ). h + b) (sym (v .at .packed .sizes h (rw held at (list .held .inside)))) ∙ sym ep
 
-  module _ {h : ℕ} (eh : h ≡ getD A (2 * p + 1) 0) where
-    pub skip-holder : {limit : ℕ} → LevelPre L S M A p u left limit → (h < 256) × (3 * h + 2 < length M)
+  module _ {h : ℕ} (eh : h ≡ getD M (6 * p + 3) 0) where
+    pub skip-holder : {limit : ℕ} → LevelPre L S M A p u left limit → (h < 256) × (6 * h + 5 < length M)
     skip-holder pre =
         let v = pre .some .9 in
         let e = held v eh in
@@ -209,7 +209,7 @@ module _ {L S M A : List ℕ} {p u left k : ℕ} (ek : k ≡ getD M (3 * p) 0) (
           some = (L, dropT (pre .some .8) (list v .us), rw (ends v eh) at b, sym n);
         }
 
-    module _ {pe : ℕ} (ep : pe ≡ h + getD M (3 * h + 2) 0) where
+    module _ {pe : ℕ} (ep : pe ≡ h + getD M (6 * h + 2) 0) where
       -- it ends its list
       pub skip-whole : {limit count r : ℕ} → p + 1 ≡ pe → limit < left → WholePost S A h u left limit count r → SkipPost L S M A p u left limit count r
       skip-whole {limit} {count} {r} last fewer whole =
@@ -230,7 +230,7 @@ module _ {L S M A : List ℕ} {p u left k : ℕ} (ek : k ≡ getD M (3 * p) 0) (
         follows : {K N Z : List ℕ} {Q : List Kind} {x s : ℕ} {w : Stop} {fs : List Frame} {above : ℕ} (v : Level L S M A p u left K N Z Q x s w fs above) → p + 1 ≢ list v .pe
         follows v e = more (e ∙ bounds v eh ep)
 
-        pub skip-next : {limit : ℕ} → LevelPre L S M A p u left limit → 3 * (p + 1) + 2 < length M
+        pub skip-next : {limit : ℕ} → LevelPre L S M A p u left limit → 6 * (p + 1) + 5 < length M
         skip-next pre = let v = pre .some .9 in list-seen (v .at .packed) (list v .pattern) (follows v) .room
 
         pub skip-neighbours-pre : {limit : ℕ} → LevelPre L S M A p u left limit → NeighboursPre L S u limit
@@ -239,7 +239,7 @@ module _ {L S M A : List ℕ} {p u left k : ℕ} (ek : k ≡ getD M (3 * p) 0) (
             let f = pre .fewer in
             record { some = (list v .te, dropT (pre .some .8) (list v .us), behind v .0, omega (arith, some-terms v (omega arith))) }
 
-        pub skip-neighbours : {limit count r j y : ℕ} → limit < left → j ≡ getD M (3 * (p + 1)) 0 → j ≡ 0 → y ≡ getD M (3 * (p + 1) + 1) 0 → NeighboursPost L S y u limit count r
+        pub skip-neighbours : {limit count r j y : ℕ} → limit < left → j ≡ getD M (6 * (p + 1)) 0 → j ≡ 0 → y ≡ getD M (6 * (p + 1) + 1) 0 → NeighboursPost L S y u limit count r
             → SkipPost L S M A p u left limit count r
         skip-neighbours {count = count} fewer ej zero ey post =
             record {
@@ -256,7 +256,7 @@ module _ {L S M A : List ℕ} {p u left k : ℕ} (ek : k ≡ getD M (3 * p) 0) (
             }
 
 -- a context variable
-module _ {L S M A : List ℕ} {p u left k : ℕ} (ek : k ≡ getD M (3 * p) 0) (two : k ≢ 2) where
+module _ {L S M A : List ℕ} {p u left k : ℕ} (ek : k ≡ getD M (6 * p) 0) (two : k ≢ 2) where
   module _ {K N Z : List ℕ} {Q : List Kind} {x s : ℕ} {w : Stop} {fs : List Frame} {above : ℕ} (v : Level L S M A p u left K N Z Q x s w fs above) where
     place : AtTerm L S K N Z Q p x s w
     place = at-the-term (v .at) ek two
@@ -267,7 +267,7 @@ module _ {L S M A : List ℕ} {p u left k : ℕ} (ek : k ≡ getD M (3 * p) 0) (
     holes-all : above + left ≡ suc (rows (place .T .args))
     holes-all = v .left-over ∙ ap many (place .is)
 
-  pub skip-under : {limit : ℕ} → LevelPre L S M A p u left limit → 3 * (p + 1) + 2 < length M
+  pub skip-under : {limit : ℕ} → LevelPre L S M A p u left limit → 6 * (p + 1) + 5 < length M
   skip-under pre = let v = pre .some .9 in term-seen (v .at .packed) (place v .pattern) .room
 
   pub skip-holes-pre : {limit : ℕ} → LevelPre L S M A p u left limit → u + limit ≤ length L
@@ -276,7 +276,7 @@ module _ {L S M A : List ℕ} {p u left k : ℕ} (ek : k ≡ getD M (3 * p) 0) (
       let t = place v .tree in
       omega (arith, pre .fewer, starts v, holes-all v, t .row .size, term-next t .inLabels)
 
-  pub skip-holes : {limit count j y : ℕ} → limit < left → j ≡ getD M (3 * (p + 1)) 0 → j ≡ 0 → y ≡ getD M (3 * (p + 1) + 1) 0 → HolesPost L y u limit count
+  pub skip-holes : {limit count j y : ℕ} → limit < left → j ≡ getD M (6 * (p + 1)) 0 → j ≡ 0 → y ≡ getD M (6 * (p + 1) + 1) 0 → HolesPost L y u limit count
       → SkipPost L S M A p u left limit count (u + count)
   skip-holes {count = count} {y = y} fewer ej zero ey post =
       record {

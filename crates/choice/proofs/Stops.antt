@@ -15,6 +15,7 @@ use Rattle.tree.proofs.Terms.{terms-rows, FirstAt}
 use Rattle.tree.proofs.Cuts.{cut-at}
 use Rattle.pattern.specs.Places.{PatternAt, PatternsAt}
 use Rattle.variable.specs.Steps.{Behind}
+use Rattle.walk.specs.Packed.{Holds}
 use Rattle.walk.specs.Above.{Stands, before-terms, over-term, Held}
 use Rattle.walk.specs.Onward.{Lands, at-terms, at-hole}
 use Rattle.walk.proofs.Resumes.{stop-row}
@@ -73,7 +74,7 @@ pub record InList (L S A K N Z : List ℕ) (Q : List Kind) (p x s : ℕ) (w : St
   pub ps : Patterns
   pub us : Forest
   pub is : w ≡ at-sequence ps us
-  pub holder : getD A (2 * p + 1) 0 ≡ h
+  pub holds : Holds Z h p
   pub lower : h < p
   pub pattern : PatternsAt K N Z Q (p + 1) pe ps
   pub good : GoodF Q ps (x + 1)
@@ -92,7 +93,7 @@ pub record AtTerm (L S K N Z : List ℕ) (Q : List Kind) (p x s : ℕ) (w : Stop
 module _ {L S A K N Z : List ℕ} {Q : List Kind} {p x s : ℕ} where
   pub in-list : {w : Stop} {fs : List Frame} → Stands L S A K N Z Q p x s w fs → getD K p 0 ≡ 2 → InList L S A K N Z Q p x s w fs
   in-list (before-terms {h} {pe} {te} {ps} {us} c k e l pt g t hd) two =
-      record { h = h; pe = pe; te = te; ps = ps; us = us; is = refl; holder = e; lower = l; pattern = pt; good = g; tree = t; held = hd }
+      record { h = h; pe = pe; te = te; ps = ps; us = us; is = refl; holds = e; lower = e .past .lower; pattern = pt; good = g; tree = t; held = hd }
   in-list (over-term c k z i g t m b) two = absurd (omega arith)
 
   pub at-term : {w : Stop} {fs : List Frame} → Stands L S A K N Z Q p x s w fs → getD K p 0 ≢ 2 → AtTerm L S K N Z Q p x s w
@@ -121,14 +122,18 @@ module _ {L S M A : List ℕ} {p s : ℕ} {K N Z : List ℕ} {Q : List Kind} {x 
   pub at-row : p < length K
   at-row = stop-row (a .packed) (a .stands)
 
-  pub at-room : (p < 256) × (3 * p + 2 < length M)
+  pub at-room : (p < 256) × (6 * p + 5 < length M)
   at-room = (omega (arith, at-row, a .marks .few), omega (arith, at-row, a .packed .room))
 
-  pub at-kind : {k : ℕ} → k ≡ getD M (3 * p) 0 → k ≡ getD K p 0
+  pub at-kind : {k : ℕ} → k ≡ getD M (6 * p) 0 → k ≡ getD K p 0
   at-kind e = e ∙ a .packed .kinds p at-row
 
-  pub at-list : {k : ℕ} → k ≡ getD M (3 * p) 0 → k ≡ 2 → InList L S A K N Z Q p x s w fs
+  pub at-list : {k : ℕ} → k ≡ getD M (6 * p) 0 → k ≡ 2 → InList L S A K N Z Q p x s w fs
   at-list e two = in-list (a .stands) (sym (at-kind e) ∙ two)
 
-  pub at-the-term : {k : ℕ} → k ≡ getD M (3 * p) 0 → k ≢ 2 → AtTerm L S K N Z Q p x s w
+  -- the row that holds it, as the code reads it
+  pub at-holder : (l : InList L S A K N Z Q p x s w fs) → getD M (6 * p + 3) 0 ≡ l .h
+  at-holder l = a .packed .holders (l .h) p at-row (l .holds)
+
+  pub at-the-term : {k : ℕ} → k ≡ getD M (6 * p) 0 → k ≢ 2 → AtTerm L S K N Z Q p x s w
   at-the-term e two = at-term (a .stands) (λ f. two (at-kind e ∙ f))

@@ -40,15 +40,15 @@ pub record NeighboursPost (L S : List ℕ) (symbol row limit count r : ℕ) : Ty
 -- whole: left values of a sequence variable are left at the row u, where it ends the list of the pattern row h
 pub record WholePre (S A : List ℕ) (h u left limit : ℕ) : Type 0 where
   pub inside : h < 256
-  pub row : getD A (2 * h) 0 < length S
+  pub row : getD A h 0 < length S
   pub fewer : limit < left
   pub small : left ≤ suc (length S)
-  pub some : (L : List ℕ) × (us : Forest) × TermsAt L S u (getD A (2 * h) 0 + getD S (getD A (2 * h) 0) 0) us × (left ≡ suc (terms us))
+  pub some : (L : List ℕ) × (us : Forest) × TermsAt L S u (getD A h 0 + getD S (getD A h 0) 0) us × (left ≡ suc (terms us))
 
 pub record WholePost (S A : List ℕ) (h u left limit count r : ℕ) : Type 0 where
   pub all : count ≡ limit
-  pub is : (L : List ℕ) (us : Forest) → TermsAt L S u (getD A (2 * h) 0 + getD S (getD A (2 * h) 0) 0) us → left ≡ suc (terms us)
-      → Behind L S u (getD A (2 * h) 0 + getD S (getD A (2 * h) 0) 0) us r count
+  pub is : (L : List ℕ) (us : Forest) → TermsAt L S u (getD A h 0 + getD S (getD A h 0) 0) us → left ≡ suc (terms us)
+      → Behind L S u (getD A h 0 + getD S (getD A h 0) 0) us r count
 
 -- the variable at a stop has left values, and the walk goes on at the row u with the first of them
 pub record Level (L S M A : List ℕ) (p u left : ℕ) (K N Z : List ℕ) (Q : List Kind) (x s : ℕ) (w : Stop) (fs : List Frame) (above : ℕ) : Type 0 where

@@ -47,13 +47,13 @@ pub record LandingPost (S M : List ℕ) (p s v u : ℕ) : Type 0 where
 
 -- further: the row of the next value, where the walk goes on at the row u with this one and left values come after it
 pub record FurtherPre (S M : List ℕ) (p u left : ℕ) : Type 0 where
-  pub room : 3 * p + 2 < length M
+  pub room : 6 * p + 5 < length M
   pub small : u < 4294967296
-  pub inside : 0 < left → getD M (3 * p) 0 ≡ 2 → u < length S
+  pub inside : 0 < left → getD M (6 * p) 0 ≡ 2 → u < length S
 
 pub record FurtherPost (S M : List ℕ) (p u left r : ℕ) : Type 0 where
-  pub terms : 0 < left → getD M (3 * p) 0 ≡ 2 → r ≡ u + getD S u 0
-  pub hole : 0 < left → getD M (3 * p) 0 ≢ 2 → r ≡ u + 1
+  pub terms : 0 < left → getD M (6 * p) 0 ≡ 2 → r ≡ u + getD S u 0
+  pub hole : 0 < left → getD M (6 * p) 0 ≢ 2 → r ≡ u + 1
 
 -- fewer: left terms stand from the row u on, up to a row that s is not behind. If s is the row of one of them, or behind the last,
 -- the answer is how many stand from there on.

@@ -19,28 +19,28 @@ pub struct Run {
 }
 
 // The least value: the row of a context's start, or no terms.
-pub fn least(pattern: &[u32; 768], p: usize, s: usize) -> usize
-    requires { ⌜ 3 * p + 2 < length (now pattern) ⌝ }
+pub fn least(pattern: &[u32; 1536], p: usize, s: usize) -> usize
+    requires { ⌜ 6 * p + 5 < length (now pattern) ⌝ }
     ensures { λ r. ⌜ LeastPost (now (pattern .entry)) p s r ⌝ }
 {
     if walk::kind(pattern, p) == 2 { 0 } else { s }
 }
 
 // How many values there are: a row of the term each, or a count of the terms that are left in the list.
-pub fn values(size: &[u32], pattern: &[u32; 768], at: &[usize; 512], p: usize, s: usize) -> usize
+pub fn values(size: &[u32], pattern: &[u32; 1536], at: &[usize; 256], p: usize, s: usize) -> usize
     requires { ⌜ AtStop (now size) (now pattern) (now at) p s ⌝ }
     ensures { λ r. ⌜ ValuesPost (now (size .entry)) (now (pattern .entry)) (now (at .entry)) p s r ⌝ }
 {
     if walk::kind(pattern, p) != 2 {
         return tree::at(size, s);
     }
-    let h = walk::holder(at, p);
+    let h = walk::holder(pattern, p);
     let g = walk::row(at, h);
     tree::count(size, s, tree::next(size, g)) + 1
 }
 
 // The row at which the walk goes on with the value v.
-pub fn landing(size: &[u32], pattern: &[u32; 768], p: usize, s: usize, v: usize) -> usize
+pub fn landing(size: &[u32], pattern: &[u32; 1536], p: usize, s: usize, v: usize) -> usize
     requires { ⌜ LandingPre (now size) (now pattern) p s v ⌝ }
     ensures { λ r. ⌜ LandingPost (now (size .entry)) (now (pattern .entry)) p s v r ⌝ }
 {
@@ -51,7 +51,7 @@ pub fn landing(size: &[u32], pattern: &[u32; 768], p: usize, s: usize, v: usize)
 }
 
 // The row of the next value: behind one term more of a sequence, or one row further for a context's hole. The last stays.
-pub fn further(size: &[u32], pattern: &[u32; 768], p: usize, u: usize, left: usize) -> usize
+pub fn further(size: &[u32], pattern: &[u32; 1536], p: usize, u: usize, left: usize) -> usize
     requires { ⌜ FurtherPre (now size) (now pattern) p u left ⌝ }
     ensures { λ r. ⌜ FurtherPost (now (size .entry)) (now (pattern .entry)) p u left r ⌝ }
 {
@@ -85,8 +85,8 @@ fn fewer(size: &[u32], u: usize, s: usize, left: usize) -> Counted
 // more. Where both stand in one list, only the terms between them are counted.
 pub fn more_values(
     size: &[u32],
-    pattern: &[u32; 768],
-    at: &[usize; 512],
+    pattern: &[u32; 1536],
+    at: &[usize; 256],
     q: usize,
     u: usize,
     left: usize,
@@ -98,7 +98,7 @@ pub fn more_values(
 {
     if walk::kind(pattern, q) == 2 {
         if walk::kind(pattern, p) == 2 {
-            if walk::holder(at, q) == walk::holder(at, p) {
+            if walk::holder(pattern, q) == walk::holder(pattern, p) {
                 return match fewer(size, u, s, left) {
                     Counted::Unknown => values(size, pattern, at, p, s),
                     Counted::Terms(n) => n + 1,
@@ -142,7 +142,7 @@ fn neighbours(label: &[u32], size: &[u32], symbol: usize, row: usize, limit: usi
 }
 
 // The values of a sequence variable that ends its list: all but the last leave terms behind.
-fn whole(size: &[u32], at: &[usize; 512], h: usize, u: usize, left: usize, limit: usize) -> Run
+fn whole(size: &[u32], at: &[usize; 256], h: usize, u: usize, left: usize, limit: usize) -> Run
     requires { ⌜ WholePre (now size) (now at) h u left limit ⌝ }
     ensures { λ r. ⌜ WholePost (now (size .entry)) (now (at .entry)) h u left limit (r .count) (r .row) ⌝ }
 {
@@ -158,17 +158,17 @@ fn whole(size: &[u32], at: &[usize; 512], h: usize, u: usize, left: usize, limit
 fn terms(
     label: &[u32],
     size: &[u32],
-    pattern: &[u32; 768],
-    at: &[usize; 512],
+    pattern: &[u32; 1536],
+    at: &[usize; 256],
     p: usize,
     u: usize,
     left: usize,
     limit: usize,
 ) -> Run
-    requires { ⌜ LevelPre (now label) (now size) (now pattern) (now at) p u left limit × (getD (now pattern) (3 * p) 0 ≡ 2) ⌝ }
+    requires { ⌜ LevelPre (now label) (now size) (now pattern) (now at) p u left limit × (getD (now pattern) (6 * p) 0 ≡ 2) ⌝ }
     ensures { λ r. ⌜ SkipPost (now (label .entry)) (now (size .entry)) (now (pattern .entry)) (now (at .entry)) p u left limit (r .count) (r .row) ⌝ }
 {
-    let h = walk::holder(at, p);
+    let h = walk::holder(pattern, p);
     if p + 1 == walk::next(pattern, h) {
         return whole(size, at, h, u, left, limit);
     }
@@ -184,8 +184,8 @@ fn terms(
 pub fn skip(
     label: &[u32],
     size: &[u32],
-    pattern: &[u32; 768],
-    at: &[usize; 512],
+    pattern: &[u32; 1536],
+    at: &[usize; 256],
     p: usize,
     u: usize,
     left: usize,

@@ -1,15 +1,16 @@
 -- Five numbers a row in one list: what a row's replacement leaves and gives, and five lists laid into one.
 use mathlib.Core.Path.{_≡_, refl, sym, _∙_, subst, fun-ext}
 use mathlib.Core.Bool.{Bool, true, false}
-use mathlib.Core.List.{List, [], _∷_}
+use mathlib.Core.List.{List}
 use mathlib.Core.Logic.{_⊎_, inl, inr, ⊎-elim}
-use Prim.Native.Nat.{ℕ, zero, suc, _+_, _-_, _*_, _<_, _≤_}
+use Prim.Native.Nat.{ℕ, _+_, _-_, _*_, _<_, _≤_}
 use native.Mathlib.Omega.{arith}
 use native.Mathlib.Nat.{eq-zero-or-pos}
 use native.Mathlib.Decide.{ℕ-discrete}
 use lib.Dec.{eqb}
 use lib.ListN.{length, getD, set, length-set}
 use lib.Seq.{getD-set-same, getD-set-other}
+use Rattle.meaning.proofs.Lists.{none-there}
 use Rattle.letters.specs.Tables.{noted, five, nameOf, firstOf, nullOf, contOf, endsOf, Holds}
 
 pub noted-is : (flag : Bool) → eqb (noted flag) 1 ≡ flag
@@ -95,11 +96,6 @@ grow P rows old here row h = elim (ℕ-discrete row rows) [
 inside : (row : ℕ) → (row < 64) ⊎ (64 ≤ row)
 inside row = ⊎-elim (λ e. inr (omega arith)) (λ h. inl (omega arith)) (eq-zero-or-pos (64 - row))
 
-beyond : {A : Type 0} (list : List A) (row : ℕ) (d : A) → length list ≤ row → getD list row d ≡ d
-beyond [] row d h = refl
-beyond (x ∷ list) zero d h = absurd (omega arith)
-beyond (x ∷ list) (suc row) d h = beyond list row d (omega arith)
-
 module _ {name first : List ℕ} {null : List Bool} {cont : List ℕ} {ends : List Bool} {tables : List ℕ} where
   pub laid-none : length tables ≡ 320 → Laid name first null cont ends tables 0
   laid-none long =
@@ -139,12 +135,12 @@ module _ {name first : List ℕ} {null : List Bool} {cont : List ℕ} {ends : Li
       → Holds name first null cont ends tables
   laid-whole l most a b c d e =
       record {
-        names = fun-ext (λ row. ⊎-elim (λ h. l .names row (omega arith)) (λ h. none row (5 * row) h (omega arith) ∙ sym (beyond name row 0 (omega arith))) (inside row));
-        firsts = fun-ext (λ row. ⊎-elim (λ h. l .firsts row (omega arith)) (λ h. none row (5 * row + 1) h (omega arith) ∙ sym (beyond first row 0 (omega arith))) (inside row));
-        nulls = fun-ext (λ row. ⊎-elim (λ h. l .nulls row (omega arith)) (λ h. rw (none row (5 * row + 2) h (omega arith), beyond null row false (omega arith)) refl) (inside row));
-        conts = fun-ext (λ row. ⊎-elim (λ h. l .conts row (omega arith)) (λ h. none row (5 * row + 3) h (omega arith) ∙ sym (beyond cont row 0 (omega arith))) (inside row));
-        finals = fun-ext (λ row. ⊎-elim (λ h. l .finals row (omega arith)) (λ h. rw (none row (5 * row + 4) h (omega arith), beyond ends row false (omega arith)) refl) (inside row));
+        names = fun-ext (λ row. ⊎-elim (λ h. l .names row (omega arith)) (λ h. none row (5 * row) h (omega arith) ∙ sym (none-there name row 0 (omega arith))) (inside row));
+        firsts = fun-ext (λ row. ⊎-elim (λ h. l .firsts row (omega arith)) (λ h. none row (5 * row + 1) h (omega arith) ∙ sym (none-there first row 0 (omega arith))) (inside row));
+        nulls = fun-ext (λ row. ⊎-elim (λ h. l .nulls row (omega arith)) (λ h. rw (none row (5 * row + 2) h (omega arith), none-there null row false (omega arith)) refl) (inside row));
+        conts = fun-ext (λ row. ⊎-elim (λ h. l .conts row (omega arith)) (λ h. none row (5 * row + 3) h (omega arith) ∙ sym (none-there cont row 0 (omega arith))) (inside row));
+        finals = fun-ext (λ row. ⊎-elim (λ h. l .finals row (omega arith)) (λ h. rw (none row (5 * row + 4) h (omega arith), none-there ends row false (omega arith)) refl) (inside row));
       }
     where
       none : (row i : ℕ) → 64 ≤ row → 5 * row ≤ i → getD tables i 0 ≡ 0
-      none row i h f = beyond tables i 0 (omega (arith, l .long))
+      none row i h f = none-there tables i 0 (omega (arith, l .long))

@@ -205,13 +205,13 @@ module _ {L S M tables : List ℕ} {C kinds : List ℕ} {T : Term} {P : Pattern}
 
         is : ((Fitting v → ⊥) → o ≡ out.Fail)
             × (Fitting v → (m : ℕ) × Agree L S R′ A′ (w .K) (w .N) (w .Z) Q (getD G d 0 + 1) m [] (λ ds. asking (v ∷ ds)) o)
-            × Unchanged (getD X d 0) R R′ × Unchanged (getD G d 0 + 1) A A′
+            × Unchanged (getD X d 0 + getD X d 0) R R′ × Unchanged (getD G d 0 + 1) A A′
         is = post .is T P Q es cs (its-kind .0) asking (last .lo) (last .hi) w (its-kind .1) (try-kind .2) (taking long)
 
         chosen : take (suc d) (set vals d v) ≡ take d vals ++ (v ∷ [])
         chosen = take-suc-set vals d v (omega (arith, lv .long))
 
-        kinded : getD M (3 * getD G d 0) 0 ≡ getD (w .K) (getD G d 0) 0
+        kinded : getD M (6 * getD G d 0) 0 ≡ getD (w .K) (getD G d 0) 0
         kinded = w .packed .kinds (getD G d 0) (at-row stopped)
 
         after : Leveled (set vals d v) X St (set Nx d (v + 1)) (set F d (getD F d 0 - 1)) (suc d)

@@ -66,7 +66,7 @@ module _ {L S K N Z : List ℕ} {Q : List Kind} {P : Pattern} {T : Term} where
         })
 
     -- the last level has tried the value v: nothing before its variable is changed
-    pub pauses-kept : {R′ A′ : List ℕ} (v : ℕ) → ((k : ℕ) → k ≤ d → getD X k 0 ≤ getD X d 0) → Unchanged (getD X d 0) R R′ → Unchanged (getD places d 0 + 1) A A′
+    pub pauses-kept : {R′ A′ : List ℕ} (v : ℕ) → ((k : ℕ) → k ≤ d → getD X k 0 ≤ getD X d 0) → Unchanged (getD X d 0 + getD X d 0) R R′ → Unchanged (getD places d 0 + 1) A A′
         → Pauses L S R′ A′ K N Z Q P T (set vals d v) places X St U Nx F (suc d)
     unfolding needs-same needs-kept
     pauses-kept v low kr ka =

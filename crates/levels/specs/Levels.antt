@@ -43,7 +43,7 @@ pub record AttemptPost (L S M tables : List ℕ) (C kinds R A : List ℕ) (p x s
       (w : Search L S M tables C kinds T P Q es cs) → look Q x ≡ old k → Fits k (T ◂ none) s v → TakeAsked L S M R A p x s u v (w .K) (w .N) (w .Z) Q f lo hi
       → ((Allowed cs x (valueAt k (T ◂ none) s v) → ⊥) → o ≡ out.Fail)
       × (Allowed cs x (valueAt k (T ◂ none) s v) → (m : ℕ) × Agree L S R′ A′ (w .K) (w .N) (w .Z) Q (p + 1) m [] (λ ds. f (v ∷ ds)) o)
-      × Unchanged x R R′ × Unchanged (p + 1) A A′
+      × Unchanged (x + x) R R′ × Unchanged (p + 1) A A′
 
 -- a level: the walk f asked for the variable x, and goes on at the row u with the next value v; left values are left
 pub record Pause (L S R A K N Z : List ℕ) (Q : List Kind) (f : List ℕ → Res) (p x s u v left : ℕ) : Type 0 where

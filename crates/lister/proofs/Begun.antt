@@ -43,7 +43,7 @@ pub record Begun (L S M tables : List ℕ) (C kinds : List ℕ)
   pub R : List ℕ
   pub A : List ℕ
   pub long : length R ≡ 32
-  pub rows-long : length A ≡ 512
+  pub rows-long : length A ≡ 256
   pub pre : BeginPre L S M tables C kinds room width before
   pub walked : onward.BeginPost L S M R A o R′ A′
 
@@ -53,7 +53,7 @@ module _ {L S M tables : List ℕ} {C kinds : List ℕ} {room width : ℕ} {befo
     fixed : Fixed (walked (Allowed cs) (allowed? cs) (a .search .pattern .numbered) T) (count Q) (size T) width room before
     fixed = is-fixed (a .search) (a .wide) (a .fits)
 
-    problem : {R A : List ℕ} → length R ≡ 32 → length A ≡ 512 → Problem L S M R A T P Q
+    problem : {R A : List ℕ} → length R ≡ 32 → length A ≡ 256 → Problem L S M R A T P Q
     problem h l =
         record {
           K = a .search .K;
@@ -66,7 +66,7 @@ module _ {L S M tables : List ℕ} {C kinds : List ℕ} {room width : ℕ} {befo
           marks = record { few = a .search .pattern .few; long = l };
         }
 
-  pub first-asked : {R A : List ℕ} → BeginPre L S M tables C kinds room width before → length R ≡ 32 → length A ≡ 512 → onward.BeginPre L S M R A
+  pub first-asked : {R A : List ℕ} → BeginPre L S M tables C kinds room width before → length R ≡ 32 → length A ≡ 256 → onward.BeginPre L S M R A
   first-asked p h l = let s = p .some in record { some = (s .0, s .1, s .2, problem (s .5) h l) }
 
   module _ {R′ A′ : List ℕ} {o : Out} (b : Begun L S M tables C kinds room width before R′ A′ o) where
@@ -128,7 +128,7 @@ module _ {L S M tables : List ℕ} {C kinds : List ℕ} {room width : ℕ} {befo
       pub at-stop : AtStop S M A′ p s
       at-stop = let h = b .pre .some in let a = h .5 in record { some = (L, a .search .K, a .search .N, a .search .Z, h .2, x, needs a .2 .stop, needs a .2 .frames, stops a) }
 
-      pub need-room : 3 * p + 2 < length M
+      pub need-room : 6 * p + 5 < length M
       need-room = at-room (stops (b .pre .some .5)) .1
 
       -- the levels' lists with the first level in them

@@ -24,7 +24,7 @@ fn room_for(n: usize, width: usize) -> usize
 fn begin(
     label: &[u32],
     size: &[u32],
-    pattern: &[u32; 768],
+    pattern: &[u32; 1536],
     tables: &[u64; 320],
     constraint: &[u32],
     kinds: &[u32; 16],
@@ -37,7 +37,7 @@ fn begin(
     ensures { λ r. ⌜ BeginPost (now (label .entry)) (now (size .entry)) (now (pattern .entry)) (now (tables .entry)) (now (constraint .entry)) (now (kinds .entry)) budget room width (now (out .entry)) r (now (out .exit)) ⌝ }
 {
     let mut record = [0u32; 32];
-    let mut at = [0usize; 512];
+    let mut at = [0usize; 256];
     match walk::begin(label, size, pattern, &mut record, &mut at) {
         walk::Out::Fail => Found {
             ending: 0,
@@ -152,8 +152,8 @@ pub fn list(
         expression_size,
         &mut tables,
     );
-    let mut packed = [0u32; 768];
-    walk::pack(kind, name, pattern_size, &mut packed);
+    let mut packed = [0u32; 1536];
+    walk::pack(kind, name, pattern_size, constraint, &mut packed);
     let width = variables + variables;
     let room = room_for(out.len(), width);
     let found = begin(

@@ -430,7 +430,7 @@ module _ {i : Input} where
           → StopAt (i .L) (i .S) (i .M) A p₁ s (a .search .K) (a .search .N) (a .search .Z) Q x (asks a .needs .stop) (asks a .needs .frames)
       need-stops a = record { packed = a .search .packed; marks = t .each a .4 .marks; stands = asks a .needs .stands }
 
-      pub need-room : Pre i → 3 * p₁ + 2 < length (i .M)
+      pub need-room : Pre i → 6 * p₁ + 5 < length (i .M)
       need-room p = at-room (need-stops (p .some .6)) .1
 
       pub more-asked : Pre i → MorePre (i .S) (i .M) A (getD G (depth - 1) 0) u left p₁ s

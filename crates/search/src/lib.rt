@@ -56,7 +56,7 @@ fn spare(left: usize, budget: u32, tries: u32) -> usize
 pub fn go(
     label: &[u32],
     size: &[u32],
-    pattern: &[u32; 768],
+    pattern: &[u32; 1536],
     tables: &[u64; 320],
     constraint: &[u32],
     kinds: &[u32; 16],
@@ -64,7 +64,7 @@ pub fn go(
     room: usize,
     width: usize,
     mut record: [u32; 32],
-    at: &mut [usize; 512],
+    at: &mut [usize; 256],
     mut places: [usize; 16],
     mut variables: [usize; 16],
     mut starts: [usize; 16],

@@ -88,11 +88,11 @@ pub record Made (L S R A K N Z list : List ℕ) (T : Term) (P : Pattern) (Q : Li
 
 pub record Following (L S M list R A : List ℕ) (o : Out) : Type 0 where
   pub long : length R ≡ 32
-  pub rows-long : length A ≡ 512
+  pub rows-long : length A ≡ 256
   pub is : (K N Z : List ℕ) (T : Term) (P : Pattern) (Q : List Kind) → Walkable L S K N Z list T P Q → Packed K N Z M → Made L S R A K N Z list T P Q o
 
 module _ {L S M list R : List ℕ} where
-  problem : {K N Z A : List ℕ} {T : Term} {P : Pattern} {Q : List Kind} → length R ≡ 32 → length A ≡ 512 → Walkable L S K N Z list T P Q → Packed K N Z M → Problem L S M R A T P Q
+  problem : {K N Z A : List ℕ} {T : Term} {P : Pattern} {Q : List Kind} → length R ≡ 32 → length A ≡ 256 → Walkable L S K N Z list T P Q → Packed K N Z M → Problem L S M R A T P Q
   problem {K} {N} {Z} h l w m =
       record {
         K = K;
@@ -105,10 +105,10 @@ module _ {L S M list R : List ℕ} where
         marks = record { few = w .pattern .few; long = l };
       }
 
-  pub follow-begins : {A : List ℕ} → FollowPre L S M list R → length A ≡ 512 → BeginPre L S M R A
+  pub follow-begins : {A : List ℕ} → FollowPre L S M list R → length A ≡ 256 → BeginPre L S M R A
   follow-begins p l = let s = p .some in record { some = (s .3, s .4, s .5, problem (p .long) l (s .6) (s .7)) }
 
-  pub follow-first : {A R′ A′ : List ℕ} {o : Out} → FollowPre L S M list R → length A ≡ 512 → BeginPost L S M R A o R′ A′ → Following L S M list R′ A′ o
+  pub follow-first : {A R′ A′ : List ℕ} {o : Out} → FollowPre L S M list R → length A ≡ 256 → BeginPost L S M R A o R′ A′ → Following L S M list R′ A′ o
   unfolding problem
   follow-first p l post =
       let s = p .some in
@@ -203,7 +203,7 @@ module _ {L S M list R A : List ℕ} {o : Out} (w : Following L S M list R A o) 
         let h = made pre in
         record { some = (L, s .0, s .1, s .2, s .5, x, needs h .2 .stop, needs h .2 .frames, stops (s .6) (s .7) h) }
 
-    pub follow-room : FollowPre L S M list R → 3 * p + 2 < length M
+    pub follow-room : FollowPre L S M list R → 6 * p + 5 < length M
     follow-room pre = let s = pre .some in at-room (stops (s .6) (s .7) (made pre)) .1
 
     pub follow-read : FollowPre L S M list R → x + x + 1 < length list

@@ -32,14 +32,14 @@ fn equal(found: &[u32; 32], list: &[u32]) -> bool
 fn follow(
     label: &[u32],
     size: &[u32],
-    pattern: &[u32; 768],
+    pattern: &[u32; 1536],
     list: &[u32],
     found: &mut [u32; 32],
 ) -> bool
     requires { ⌜ FollowPre (now label) (now size) (now pattern) (now list) (now found) ⌝ }
     ensures { λ r. ⌜ FollowPost (now (label .entry)) (now (size .entry)) (now (pattern .entry)) (now (list .entry)) r (now (found .exit)) ⌝ }
 {
-    let mut at = [0usize; 512];
+    let mut at = [0usize; 256];
     let mut o = walk::begin(label, size, pattern, found, &mut at);
     loop {
         match o {
@@ -68,14 +68,15 @@ fn placed(
     kind: &[u32],
     name: &[u32],
     pattern_size: &[u32],
+    constraint: &[u32],
     variables: usize,
     record: &[u32],
 ) -> bool
     requires { ⌜ WalkablePre (now label) (now size) (now kind) (now name) (now «pattern_size») variables (now «record») ⌝ }
     ensures { λ r. ⌜ PlacedPost (now (label .entry)) (now (size .entry)) (now (kind .entry)) (now (name .entry)) (now («pattern_size» .entry)) (now («record» .entry)) r ⌝ }
 {
-    let mut packed = [0u32; 768];
-    walk::pack(kind, name, pattern_size, &mut packed);
+    let mut packed = [0u32; 1536];
+    walk::pack(kind, name, pattern_size, constraint, &mut packed);
     let mut found = [0u32; 32];
     if follow(label, size, &packed, record, &mut found) {
         return equal(&found, record);
@@ -178,7 +179,16 @@ pub fn test(
     if !record::fits(size, &kinds, variables, record) {
         return Tested::Refused(15);
     }
-    if !placed(label, size, kind, name, pattern_size, variables, record) {
+    if !placed(
+        label,
+        size,
+        kind,
+        name,
+        pattern_size,
+        constraint,
+        variables,
+        record,
+    ) {
         return Tested::No;
     }
     if obeyed(

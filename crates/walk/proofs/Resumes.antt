@@ -19,13 +19,13 @@ use Rattle.tree.proofs.Terms.{terms-rows}
 use Rattle.pattern.specs.Places.{PatternAt, PatternsAt, at-nil, at-cons, at-sequence}
 use Rattle.variable.specs.State.{Kept}
 use Rattle.variable.proofs.States.{kept-then}
-use Rattle.walk.specs.Packed.{Packed}
+use Rattle.walk.specs.Packed.{Past, Holds, Packed}
 use Rattle.walk.specs.Above.{Marked, Unchanged, Behind, in-context, Held, Stands, before-terms, over-term}
 use Rattle.walk.specs.Cycle.{Agree, both-fail, both-need, TermAsked, TermPre, TermPost, ListAsked, ListPre, ListPost}
 use Rattle.walk.specs.Onward.{UpAsked, UpPre, UpPost, Lands, at-terms, at-hole, ResumeAsked, ResumePre, ResumePost}
 use Rattle.walk.specs.declared.Out.{Out}
 use Rattle.walk.specs.declared.Out.the-variants as out
-use Rattle.walk.proofs.Marks.{unchanged-then, marks-kept, marked-kept, behind-kept, needs-same}
+use Rattle.walk.proofs.Marks.{unchanged-then, marks-kept, marked-kept, behind-kept, needs-same, past-first}
 use Rattle.walk.proofs.Views.{term-seen, fail-agree, need-agree, ok-agree, agree-same, agree-before}
 use Rattle.walk.proofs.Ups.{patterns-le, needs-run}
 
@@ -52,8 +52,8 @@ record InList (L S A K N Z : List ℕ) (Q : List Kind) (p u x s d : ℕ) (w : St
   te : ℕ
   ps : Patterns
   us : Forest
-  holder : getD A (2 * p + 1) 0 ≡ h
-  lower : h < p
+  holds : Holds Z h p
+  past : Past Z h (p + 1)
   pattern : PatternsAt K N Z Q (p + 1) pe ps
   good : GoodF Q ps (x + 1)
   tree : TermsAt L S u te us
@@ -71,7 +71,7 @@ record AtHole (L S A K N Z : List ℕ) (Q : List Kind) (p u x s d : ℕ) (w : St
   pattern : PatternAt K N Z Q (p + 1) q
   good : GoodT Q q (x + 1)
   tree : TermAt L S u (T .label) (T .args)
-  marked : Marked S A p h end
+  marked : Marked S A p end
   above : Behind L S A K N Z Q h p end (afterT q (x + 1)) fs
   goes : (B : List Entry) (cs : List ℕ) → onward Any any? w s fs d B cs ≡ andThen (walkT Any any? q T u B cs) (run Any any? fs)
 
@@ -85,8 +85,8 @@ module _ {L S A K N Z : List ℕ} {Q : List Kind} {p u x s d : ℕ} where
         te = te;
         ps = ps;
         us = dropT d us;
-        holder = e;
-        lower = l;
+        holds = e;
+        past = l;
         pattern = pt;
         good = g;
         tree = subst (λ (i : ℕ). TermsAt L S u i (dropT d us)) (omega (arith, terms-rows t, terms-rows (b .0), b .1)) (b .0);
@@ -118,37 +118,40 @@ stop-row m (before-terms c k e l pt g t hd) = omega (arith, patterns-le pt, patt
 stop-row m (over-term c k z i g t o b) = omega (arith, term-seen m i .inside)
 
 module _ {L S M R A : List ℕ} {p u n : ℕ} where
-  pub resume-row : ResumePre L S M R A p u n → (p < 256) × (3 * p + 2 < length M)
+  pub resume-row : ResumePre L S M R A p u n → (p < 256) × (6 * p + 5 < length M)
   resume-row pre =
       let a = pre .some .10 in
       let l = stop-row (a .packed) (a .stands) in
       (omega (arith, a .marks .few), omega (arith, a .packed .room))
 
-  kinded : {K N Z : List ℕ} {Q : List Kind} {B : List Entry} {x s : ℕ} {w : Stop} {fs : List Frame} {d : ℕ} → ResumeAsked L S M R A p u n K N Z Q B x s w fs d → getD M (3 * p) 0 ≡ getD K p 0
+  kinded : {K N Z : List ℕ} {Q : List Kind} {B : List Entry} {x s : ℕ} {w : Stop} {fs : List Frame} {d : ℕ} → ResumeAsked L S M R A p u n K N Z Q B x s w fs d → getD M (6 * p) 0 ≡ getD K p 0
   kinded a = a .packed .kinds p (stop-row (a .packed) (a .stands))
 
   -- a sequence variable: the rest of the list that it stands in
-  module _ (two : getD M (3 * p) 0 ≡ 2) where
+  module _ (two : getD M (6 * p) 0 ≡ 2) where
     list : {K N Z : List ℕ} {Q : List Kind} {B : List Entry} {x s : ℕ} {w : Stop} {fs : List Frame} {d : ℕ} → ResumeAsked L S M R A p u n K N Z Q B x s w fs d
         → InList L S A K N Z Q p u x s d w fs
     list a = in-list (a .stands) (a .lands) (sym (kinded a) ∙ two)
 
-    module _ {h : ℕ} (eh : h ≡ getD A (2 * p + 1) 0) where
-      pub resume-holder : ResumePre L S M R A p u n → (h < 256) × (3 * h + 2 < length M) × (getD A (2 * h) 0 < length S)
+    module _ {h : ℕ} (eh : h ≡ getD M (6 * p + 3) 0) where
+      its-holder : {K N Z : List ℕ} {Q : List Kind} {B : List Entry} {x s : ℕ} {w : Stop} {fs : List Frame} {d : ℕ} (a : ResumeAsked L S M R A p u n K N Z Q B x s w fs d) → list a .h ≡ h
+      its-holder a = sym (a .packed .holders (list a .h) p (stop-row (a .packed) (a .stands)) (list a .holds)) ∙ sym eh
+
+      pub resume-holder : ResumePre L S M R A p u n → (h < 256) × (6 * h + 5 < length M) × (getD A h 0 < length S)
       resume-holder pre =
           let a = pre .some .10 in
           let l = list a in
-          let e : l .h ≡ h = sym (l .holder) ∙ sym eh in
+          let e = its-holder a in
           let k = stop-row (a .packed) (a .stands) in
-          let m = l .lower in
+          let m = l .holds .past .lower in
           (omega (arith, a .marks .few), omega (arith, a .packed .room), rw (sym e) (l .held .marked .row))
 
-      module _ {pe b te : ℕ} (ep : pe ≡ h + getD M (3 * h + 2) 0) (eb : b ≡ getD A (2 * h) 0) (ed : te ≡ b + getD S b 0) where
+      module _ {pe b te : ℕ} (ep : pe ≡ h + getD M (6 * h + 2) 0) (eb : b ≡ getD A h 0) (ed : te ≡ b + getD S b 0) where
         list-asked : {K N Z : List ℕ} {Q : List Kind} {B : List Entry} {x s : ℕ} {w : Stop} {fs : List Frame} {d : ℕ} (a : ResumeAsked L S M R A p u n K N Z Q B x s w fs d)
-            → ListAsked L S M R A h (p + 1) pe u te n K N Z Q (list a .ps) (list a .us) B fs
+            → ListAsked L S M R A (p + 1) pe u te n K N Z Q (list a .ps) (list a .us) B fs
         list-asked {K} {N} {Z} {Q} {x = x} {fs = fs} a =
             let l = list a in
-            let e : l .h ≡ h = sym (l .holder) ∙ sym eh in
+            let e = its-holder a in
             let hd : Held L S A K N Z Q h (l .pe) (l .te) (afterF (l .ps) n) fs =
             subst (λ (i : ℕ). Held L S A K N Z Q h (l .pe) (l .te) (afterF (l .ps) i) fs) (sym (a .last))
             (subst (λ (i : ℕ). Held L S A K N Z Q i (l .pe) (l .te) (afterF (l .ps) (x + 1)) fs) e (l .held))
@@ -162,17 +165,18 @@ module _ {L S M R A : List ℕ} {p u n : ℕ} where
               tree = subst (λ (z : ℕ). TermsAt L S u z (l .us)) j (l .tree);
               state = a .state;
               marks = a .marks;
-              below = omega (arith, l .lower);
+              holder = h;
+              below = subst (λ (i : ℕ). Past Z i (p + 1)) e (l .past);
               held = subst (λ (z : ℕ). Held L S A K N Z Q h pe z (afterF (l .ps) n) fs) j (subst (λ (z : ℕ). Held L S A K N Z Q h z (l .te) (afterF (l .ps) n) fs) i hd);
             }
 
-        pub resume-list-pre : ResumePre L S M R A p u n → ListPre L S M R A h (p + 1) pe u te n
+        pub resume-list-pre : ResumePre L S M R A p u n → ListPre L S M R A (p + 1) pe u te n
         resume-list-pre pre =
             let s = pre .some in
             let a = s .10 in
             record { K = s .0; N = s .1; Z = s .2; Q = s .3; ps = list a .ps; us = list a .us; B = s .4; fs = s .8; asked = list-asked a }
 
-        module _ {o : Out} {R₁ A₁ : List ℕ} (post : ListPost L S M R A h (p + 1) pe u te n o R₁ A₁) where
+        module _ {o : Out} {R₁ A₁ : List ℕ} (post : ListPost L S M R A (p + 1) pe u te n o R₁ A₁) where
           walked : {K N Z : List ℕ} {Q : List Kind} {B : List Entry} {x s : ℕ} {w : Stop} {fs : List Frame} {d : ℕ} (a : ResumeAsked L S M R A p u n K N Z Q B x s w fs d)
               → Agree L S R₁ A₁ K N Z Q (p + 1) (afterF (list a .ps) n) fs (walkF Any any? (list a .ps) (list a .us) u B) o × Kept Q n R R₁ × Unchanged (p + 1) A A₁
           walked {K} {N} {Z} {Q} {B} {fs = fs} a = post .is K N Z Q (list a .ps) (list a .us) B fs (list-asked a)
@@ -198,11 +202,12 @@ module _ {L S M R A : List ℕ} {p u n : ℕ} where
           module _ {m : ℕ} (g : o ≡ out.Ok m) where
             list-up : {K N Z : List ℕ} {Q : List Kind} {B : List Entry} {x s : ℕ} {w : Stop} {fs : List Frame} {d : ℕ} (a : ResumeAsked L S M R A p u n K N Z Q B x s w fs d)
                 → (C : List Entry) × UpAsked L S M R₁ A₁ h m K N Z Q C fs × ((cs : List ℕ) → walkF Any any? (list a .ps) (list a .us) u B cs ≡ ok C cs) × (n ≤ m)
+            unfolding list-asked
             list-up a =
                 let y = rw g at (walked a) in
                 let c = ok-agree (y .0) in
                 let k = list-asked a in
-                let l : h < p + 1 = k .below in
+                let l : h < p + 1 = k .below .lower in
                 let l′ : h ≤ p + 1 = omega arith in (
                   c .0,
                   record {
@@ -225,6 +230,7 @@ module _ {L S M R A : List ℕ} {p u n : ℕ} where
                 record { some = (s .0, s .1, s .2, s .3, y .0, s .8, y .1) }
 
             pub resume-up-is : {o₂ : Out} {R₂ A₂ : List ℕ} → UpPost L S M R₁ A₁ h m o₂ R₂ A₂ → ResumePost L S M R A p u n o₂ R₂ A₂
+            unfolding list-asked
             resume-up-is up =
                 record {
                   is = λ K N Z Q B x s w fs d a.
@@ -240,16 +246,16 @@ module _ {L S M R A : List ℕ} {p u n : ℕ} where
                 }
 
   -- a context variable: what fills its hole
-  module _ (two : getD M (3 * p) 0 ≢ 2) where
+  module _ (two : getD M (6 * p) 0 ≢ 2) where
     hole : {K N Z : List ℕ} {Q : List Kind} {B : List Entry} {x s : ℕ} {w : Stop} {fs : List Frame} {d : ℕ} → ResumeAsked L S M R A p u n K N Z Q B x s w fs d
         → AtHole L S A K N Z Q p u x s d w fs
     hole a = at-the-hole (a .stands) (a .lands) (λ e. two (kinded a ∙ e))
 
     hole-asked : {K N Z : List ℕ} {Q : List Kind} {B : List Entry} {x s : ℕ} {w : Stop} {fs : List Frame} {d : ℕ} (a : ResumeAsked L S M R A p u n K N Z Q B x s w fs d)
-        → TermAsked L S M R A p (p + 1) u n K N Z Q (hole a .q) (hole a .T) B fs
+        → TermAsked L S M R A (p + 1) u n K N Z Q (hole a .q) (hole a .T) B fs
     hole-asked {K} {N} {Z} {Q} {fs = fs} a =
         let l = hole a in
-        let b : p < p + 1 = omega arith in
+        let v = term-seen (a .packed) (l .pattern) in
         record {
           packed = a .packed;
           pattern = l .pattern;
@@ -257,17 +263,18 @@ module _ {L S M R A : List ℕ} {p u n : ℕ} where
           tree = l .tree;
           state = a .state;
           marks = a .marks;
-          above = in-context b (term-seen (a .packed) (l .pattern) .inside) (l .kind) (l .within) (l .marked)
+          holder = p;
+          above = in-context {h = p} (record { past = past-first; inside = omega (arith, l .within, v .some) }) (v .inside) (l .kind) (l .within) (l .marked)
               (subst (λ (i : ℕ). Behind L S A K N Z Q (l .h) p (l .end) (afterT (l .q) i) fs) (sym (a .last)) (l .above));
         }
 
-    pub resume-term-pre : ResumePre L S M R A p u n → TermPre L S M R A p (p + 1) u n
+    pub resume-term-pre : ResumePre L S M R A p u n → TermPre L S M R A (p + 1) u n
     resume-term-pre pre =
         let s = pre .some in
         let a = s .10 in
         record { K = s .0; N = s .1; Z = s .2; Q = s .3; q = hole a .q; T = hole a .T; B = s .4; fs = s .8; asked = hole-asked a }
 
-    module _ {o : Out} {R₁ A₁ : List ℕ} (post : TermPost L S M R A p (p + 1) u n o R₁ A₁) where
+    module _ {o : Out} {R₁ A₁ : List ℕ} (post : TermPost L S M R A (p + 1) u n o R₁ A₁) where
       filled : {K N Z : List ℕ} {Q : List Kind} {B : List Entry} {x s : ℕ} {w : Stop} {fs : List Frame} {d : ℕ} (a : ResumeAsked L S M R A p u n K N Z Q B x s w fs d)
           → Agree L S R₁ A₁ K N Z Q (p + 1) (afterT (hole a .q) n) fs (walkT Any any? (hole a .q) (hole a .T) u B) o × Kept Q n R R₁ × Unchanged (p + 1) A A₁
       filled {K} {N} {Z} {Q} {B} {fs = fs} a = post .is K N Z Q (hole a .q) (hole a .T) B fs (hole-asked a)

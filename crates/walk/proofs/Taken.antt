@@ -32,10 +32,10 @@ use Rattle.walk.proofs.Views.{agree-same}
 -- what is before a stop stays, and so does the stop
 pub stands-kept : {L S A A′ K N Z : List ℕ} {Q : List Kind} {p x s q : ℕ} {w : Stop} {fs : List Frame} → p < q → Unchanged q A A′ → Stands L S A K N Z Q p x s w fs
     → Stands L S A′ K N Z Q p x s w fs
-stands-kept {p = p} l u (before-terms c k e h pt g t hd) = before-terms c k (u .before (2 * p + 1) (omega arith) ∙ e) h pt g t (held-kept u (omega arith) hd)
+stands-kept l u (before-terms c k e h pt g t hd) = before-terms c k e h pt g t (held-kept u (omega (arith, e .past .lower)) hd)
 stands-kept l u (over-term c k z i g t m b) = over-term c k z i g t (marked-kept u l m) (behind-kept u (omega arith) b)
 
-unfoldable pub needs-kept : {L S R R′ A A′ K N Z : List ℕ} {Q : List Kind} {fs : List Frame} {f : List ℕ → Res} {p x s lo hi y q : ℕ} → x ≤ y → Unchanged y R R′ → p < q → Unchanged q A A′
+unfoldable pub needs-kept : {L S R R′ A A′ K N Z : List ℕ} {Q : List Kind} {fs : List Frame} {f : List ℕ → Res} {p x s lo hi y q : ℕ} → x ≤ y → Unchanged (y + y) R R′ → p < q → Unchanged q A A′
     → Needs L S R A K N Z Q fs f p x s lo hi → Needs L S R′ A′ K N Z Q fs f p x s lo hi
 needs-kept {R = R} {R′ = R′} {x = x} h r l u w =
     record {
@@ -174,7 +174,7 @@ module _ {L S M R A : List ℕ} {p x s u v : ℕ} where
               );
         }
       where
-        unwritten : {Q : List Kind} {i : ℕ} → Written Q (x + 1) i → i < 2 * x → ⊥
+        unwritten : {Q : List Kind} {i : ℕ} → Written Q (x + 1) i → i < x + x → ⊥
         unwritten (row-of y a b c) l = omega arith
         unwritten (zero-of-individual y a b c) l = omega arith
         unwritten (zero-of-function y a b c) l = omega arith

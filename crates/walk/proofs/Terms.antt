@@ -30,18 +30,18 @@ use Rattle.variable.specs.declared.Bound.the-variants as bound
 use Rattle.variable.specs.declared.Step.{Step}
 use Rattle.variable.specs.declared.Step.the-variants as step
 use Rattle.variable.proofs.States.{kept-same, kept-then, is-new}
-use Rattle.walk.proofs.Marks.{marks-kept, unchanged-then, come-unchanged, come-marked, behind-kept}
+use Rattle.walk.proofs.Marks.{marks-kept, unchanged-then, come-unchanged, come-marked, behind-kept, past-first}
 use Rattle.walk.proofs.Stops.{context-asks, context-goes}
 use Rattle.walk.proofs.Views.{Seen, term-seen, TermView, v-symbol, v-individual, v-function, v-context, term-view, agree-same, agree-before, fail-meets, ok-meets, fail-chose, need-chose, go-chose}
 
-module _ {L S M R A : List ℕ} {h p t n : ℕ} where
-  pub term-row : (w : TermPre L S M R A h p t n) → Seen (w .K) (w .Z) M p
+module _ {L S M R A : List ℕ} {p t n : ℕ} where
+  pub term-row : (w : TermPre L S M R A p t n) → Seen (w .K) (w .Z) M p
   term-row w = term-seen (w .asked .packed) (w .asked .pattern)
 
-  pub term-marks : TermPre L S M R A h p t n → p < 256
+  pub term-marks : TermPre L S M R A p t n → p < 256
   term-marks w = omega (arith, term-row w .inside, w .asked .marks .few)
 
-  pub term-tree : TermPre L S M R A h p t n → Next L S t
+  pub term-tree : TermPre L S M R A p t n → Next L S t
   term-tree w = term-next (w .asked .tree)
 
 -- what fills a hole has no more rows than the whole
@@ -94,28 +94,28 @@ when-then (yes a) B cs f = refl
 when-then (no b) B cs f = refl
 
 -- the walk of the term at the pattern row p, which has the kind k and the name x; the walk has come to it
-pub record AtRow (L S M R A A₁ : List ℕ) (h p t n k x : ℕ) : Type 0 where
-  pub pre : TermPre L S M R A h p t n
-  pub came : Came A p h t A₁
-  pub kind : k ≡ getD M (3 * p) 0
-  pub name : x ≡ getD M (3 * p + 1) 0
+pub record AtRow (L S M R A A₁ : List ℕ) (p t n k x : ℕ) : Type 0 where
+  pub pre : TermPre L S M R A p t n
+  pub came : Came A p t A₁
+  pub kind : k ≡ getD M (6 * p) 0
+  pub name : x ≡ getD M (6 * p + 1) 0
 
-module _ {L S M R A A₁ : List ℕ} {h p t n k x : ℕ} (row : AtRow L S M R A A₁ h p t n k x) where
-  view : {K N Z : List ℕ} {Q : List Kind} {q : Pattern} {T : Term} {B : List Entry} {fs : List Frame} → TermAsked L S M R A h p t n K N Z Q q T B fs → TermView K N Z Q p k x n q
+module _ {L S M R A A₁ : List ℕ} {p t n k x : ℕ} (row : AtRow L S M R A A₁ p t n k x) where
+  view : {K N Z : List ℕ} {Q : List Kind} {q : Pattern} {T : Term} {B : List Entry} {fs : List Frame} → TermAsked L S M R A p t n K N Z Q q T B fs → TermView K N Z Q p k x n q
   view a = term-view (a .packed) (a .pattern) (a .good) (row .kind) (row .name)
 
   pub here : Unchanged p A A₁
   here = come-unchanged (row .came)
 
   -- what is left behind it
-  marked : {K N Z : List ℕ} {Q : List Kind} {q : Pattern} {T : Term} {B : List Entry} {fs : List Frame} → TermAsked L S M R A h p t n K N Z Q q T B fs → Marked S A₁ p h (t + getD S t 0)
+  marked : {K N Z : List ℕ} {Q : List Kind} {q : Pattern} {T : Term} {B : List Entry} {fs : List Frame} → TermAsked L S M R A p t n K N Z Q q T B fs → Marked S A₁ p (t + getD S t 0)
   marked a = come-marked (row .came) (omega (arith, term-seen (a .packed) (a .pattern) .inside, a .marks .few, a .marks .long)) (term-next (a .tree) .sized)
 
-  above : {K N Z : List ℕ} {Q : List Kind} {q : Pattern} {T : Term} {B : List Entry} {fs : List Frame} → TermAsked L S M R A h p t n K N Z Q q T B fs
-      → Behind L S A₁ K N Z Q h p (t + getD S t 0) (afterT q n) fs
+  above : {K N Z : List ℕ} {Q : List Kind} {q : Pattern} {T : Term} {B : List Entry} {fs : List Frame} (a : TermAsked L S M R A p t n K N Z Q q T B fs)
+      → Behind L S A₁ K N Z Q (a .holder) p (t + getD S t 0) (afterT q n) fs
   above a = let l : p ≤ p = omega arith in behind-kept here l (a .above)
 
-  kinded : {K N Z : List ℕ} {Q : List Kind} {q : Pattern} {T : Term} {B : List Entry} {fs : List Frame} → TermAsked L S M R A h p t n K N Z Q q T B fs → getD K p 0 ≡ k
+  kinded : {K N Z : List ℕ} {Q : List Kind} {q : Pattern} {T : Term} {B : List Entry} {fs : List Frame} → TermAsked L S M R A p t n K N Z Q q T B fs → getD K p 0 ≡ k
   kinded a = sym (row .kind ∙ a .packed .kinds p (term-seen (a .packed) (a .pattern) .inside))
 
   -- at an individual variable
@@ -127,7 +127,7 @@ module _ {L S M R A A₁ : List ℕ} {h p t n k x : ℕ} (row : AtRow L S M R A 
         record { variable = record { some = (w .Q, w .B, a .state, as-individual one (view a) .1) }; tree = (w .T .label, w .T .args, a .tree) }
 
     module _ {o : Bound} {R₁ : List ℕ} (post : IndividualPost L S R x t n o R₁) where
-      met : {K N Z : List ℕ} {Q : List Kind} {q : Pattern} {T : Term} {B : List Entry} {fs : List Frame} → TermAsked L S M R A h p t n K N Z Q q T B fs
+      met : {K N Z : List ℕ} {Q : List Kind} {q : Pattern} {T : Term} {B : List Entry} {fs : List Frame} → TermAsked L S M R A p t n K N Z Q q T B fs
           → Meets L S R₁ Q (afterT q n) (walkT Any any? q T t B) o × Kept Q n R R₁
       unfolding walkT afterT
       met {Q = Q} {T = T} {B = B} a =
@@ -135,7 +135,7 @@ module _ {L S M R A A₁ : List ℕ} {h p t n k x : ℕ} (row : AtRow L S M R A 
           let y = post .is Q (T .label) (T .args) B (a .tree) (w .1) (a .state) in
           (subst (λ (q : Pattern). Meets L S R₁ Q (afterT q n) (walkT Any any? q T t B) o) (sym (w .0)) (y .0), y .1)
 
-      pub term-individual-fails : o ≡ bound.Fail → TermPost L S M R A h p t n out.Fail R₁ A₁
+      pub term-individual-fails : o ≡ bound.Fail → TermPost L S M R A p t n out.Fail R₁ A₁
       term-individual-fails g =
           record {
             is = λ K N Z Q q T B fs a.
@@ -143,7 +143,7 @@ module _ {L S M R A A₁ : List ℕ} {h p t n k x : ℕ} (row : AtRow L S M R A 
                 (both-fail (fail-meets (y .0)), y .1, here);
           }
 
-      pub term-individual-ok : {m : ℕ} → o ≡ bound.Ok m → TermPost L S M R A h p t n (out.Ok m) R₁ A₁
+      pub term-individual-ok : {m : ℕ} → o ≡ bound.Ok m → TermPost L S M R A p t n (out.Ok m) R₁ A₁
       term-individual-ok g =
           record {
             is = λ K N Z Q q T B fs a.
@@ -161,7 +161,7 @@ module _ {L S M R A A₁ : List ℕ} {h p t n k x : ℕ} (row : AtRow L S M R A 
         record { variable = record { some = (w .Q, w .B, a .state, as-context four (view a) .comes) }; tree = (w .T .label, w .T .args, a .tree) }
 
     -- the row below is within the pattern, and its size is less
-    pub term-under : (p + 1 < length M) × (getD M (3 * (p + 1) + 2) 0 < getD M (3 * p + 2) 0)
+    pub term-under : (p + 1 < length M) × (getD M (6 * (p + 1) + 2) 0 < getD M (6 * p + 2) 0)
     term-under =
         let a = row .pre .asked in
         let w = as-context four (view a) in
@@ -169,7 +169,7 @@ module _ {L S M R A A₁ : List ℕ} {h p t n k x : ℕ} (row : AtRow L S M R A 
         (omega (arith, s .room), omega (arith, s .size, term-row (row .pre) .size, w .size))
 
     module _ {o : Step} (post : ContextPost L S R x t n o) where
-      pub term-context-fails : o ≡ step.Fail → TermPost L S M R A h p t n out.Fail R A₁
+      pub term-context-fails : o ≡ step.Fail → TermPost L S M R A p t n out.Fail R A₁
       unfolding walkT
       term-context-fails g =
           record {
@@ -179,7 +179,7 @@ module _ {L S M R A A₁ : List ℕ} {h p t n k x : ℕ} (row : AtRow L S M R A 
                 (both-fail (λ cs. rw (w .is) (y cs (λ d B′ cs′. walkT Any any? (w .inner) (cut T d .at) (t + d) B′ cs′))), kept-same, here);
           }
 
-      pub term-context-needs : o ≡ step.Need → TermPost L S M R A h p t n (out.Need p x t) R A₁
+      pub term-context-needs : o ≡ step.Need → TermPost L S M R A p t n (out.Need p x t) R A₁
       unfolding afterT
       term-context-needs g =
           record {
@@ -189,9 +189,9 @@ module _ {L S M R A A₁ : List ℕ} {h p t n k x : ℕ} (row : AtRow L S M R A 
                 let i = is-new (a .state) y in
                 let z : after x n ≡ x + 1 = omega (arith, y) in
                 let l : p ≤ p = omega arith in
-                let b : Behind L S A₁ K N Z Q h p (t + getD S t 0) (afterT (w .inner) (x + 1)) fs =
-                subst (λ (m : ℕ). Behind L S A₁ K N Z Q h p (t + getD S t 0) (afterT (w .inner) m) fs) z
-                (subst (λ (r : Pattern). Behind L S A₁ K N Z Q h p (t + getD S t 0) (afterT r n) fs) (w .is) (above a))
+                let b : Behind L S A₁ K N Z Q (a .holder) p (t + getD S t 0) (afterT (w .inner) (x + 1)) fs =
+                subst (λ (m : ℕ). Behind L S A₁ K N Z Q (a .holder) p (t + getD S t 0) (afterT (w .inner) m) fs) z
+                (subst (λ (r : Pattern). Behind L S A₁ K N Z Q (a .holder) p (t + getD S t 0) (afterT r n) fs) (w .is) (above a))
                 in (
                   both-need l
                       (record {
@@ -213,8 +213,8 @@ module _ {L S M R A A₁ : List ℕ} {h p t n k x : ℕ} (row : AtRow L S M R A 
 
       module _ {u : ℕ} (g : o ≡ step.Go u) where
         -- what is asked of the walk below
-        below : {K N Z : List ℕ} {Q : List Kind} {q : Pattern} {T : Term} {B : List Entry} {fs : List Frame} (a : TermAsked L S M R A h p t n K N Z Q q T B fs) (w : Over K N Z Q p x n q)
-            → (d : ℕ) × TermAsked L S M R A₁ p (p + 1) u n K N Z Q (w .inner) (cut T d .at) B fs × (after x n ≡ n) × (t + d ≡ u) × (getD S u 0 ≤ getD S t 0)
+        below : {K N Z : List ℕ} {Q : List Kind} {q : Pattern} {T : Term} {B : List Entry} {fs : List Frame} (a : TermAsked L S M R A p t n K N Z Q q T B fs) (w : Over K N Z Q p x n q)
+            → (d : ℕ) × TermAsked L S M R A₁ (p + 1) u n K N Z Q (w .inner) (cut T d .at) B fs × (after x n ≡ n) × (t + d ≡ u) × (getD S u 0 ≤ getD S t 0)
             × ((cs : List ℕ) → walkT Any any? (context x (w .inner)) T t B cs ≡ walkT Any any? (w .inner) (cut T d .at) (t + d) B cs)
         unfolding walkT afterT
         below {K} {N} {Z} {Q} {q} {T} {B} {fs} a w =
@@ -222,11 +222,10 @@ module _ {L S M R A A₁ : List ℕ} {h p t n k x : ℕ} (row : AtRow L S M R A 
             let d = c .0 in
             let z : after x n ≡ n = omega (arith, c .2) in
             let s = term-seen (a .packed) (w .here) in
-            let b : Behind L S A₁ K N Z Q h p (t + getD S t 0) (afterT (w .inner) n) fs =
-            subst (λ (m : ℕ). Behind L S A₁ K N Z Q h p (t + getD S t 0) (afterT (w .inner) m) fs) z
-            (subst (λ (r : Pattern). Behind L S A₁ K N Z Q h p (t + getD S t 0) (afterT r n) fs) (w .is) (above a))
+            let b : Behind L S A₁ K N Z Q (a .holder) p (t + getD S t 0) (afterT (w .inner) n) fs =
+            subst (λ (m : ℕ). Behind L S A₁ K N Z Q (a .holder) p (t + getD S t 0) (afterT (w .inner) m) fs) z
+            (subst (λ (r : Pattern). Behind L S A₁ K N Z Q (a .holder) p (t + getD S t 0) (afterT r n) fs) (w .is) (above a))
             in
-            let l : p < p + 1 = omega arith in
             let r : p + 1 + getD Z (p + 1) 0 ≤ p + getD Z p 0 = omega (arith, w .size) in (
               d,
               record {
@@ -236,7 +235,8 @@ module _ {L S M R A A₁ : List ℕ} {h p t n k x : ℕ} (row : AtRow L S M R A 
                 tree = c .3 .1;
                 state = a .state;
                 marks = marks-kept here (a .marks);
-                above = in-context l (s .inside) (kinded a ∙ four) r (marked a) b;
+                holder = p;
+                above = in-context {h = p} (record { past = past-first; inside = omega (arith, w .size, s .some) }) (s .inside) (kinded a ∙ four) r (marked a) b;
               },
               z,
               c .3 .0,
@@ -244,7 +244,7 @@ module _ {L S M R A A₁ : List ℕ} {h p t n k x : ℕ} (row : AtRow L S M R A 
               λ cs. c .1 cs (λ d B′ cs′. walkT Any any? (w .inner) (cut T d .at) (t + d) B′ cs′),
             )
 
-        pub term-under-pre : TermPre L S M R A₁ p (p + 1) u n
+        pub term-under-pre : TermPre L S M R A₁ (p + 1) u n
         term-under-pre =
             let c = row .pre in
             let b = below (c .asked) (as-context four (view (c .asked))) in
@@ -254,7 +254,7 @@ module _ {L S M R A A₁ : List ℕ} {h p t n k x : ℕ} (row : AtRow L S M R A 
         pub term-under-tree : getD S u 0 ≤ getD S t 0
         term-under-tree = let c = row .pre in below (c .asked) (as-context four (view (c .asked))) .4
 
-        pub term-under-is : {o₁ : Out} {R₂ A₂ : List ℕ} → TermPost L S M R A₁ p (p + 1) u n o₁ R₂ A₂ → TermPost L S M R A h p t n o₁ R₂ A₂
+        pub term-under-is : {o₁ : Out} {R₂ A₂ : List ℕ} → TermPost L S M R A₁ (p + 1) u n o₁ R₂ A₂ → TermPost L S M R A p t n o₁ R₂ A₂
         unfolding afterT
         term-under-is {o₁} {R₂} {A₂} post₂ =
             record {
@@ -288,7 +288,7 @@ module _ {L S M R A A₁ : List ℕ} {h p t n k x : ℕ} (row : AtRow L S M R A 
         go f q (v-context e c z i g) = absurd (four e)
 
     module _ {o : Bound} {R₁ : List ℕ} (post : HeadPost L R k x t n o R₁) where
-      headed : {K N Z : List ℕ} {Q : List Kind} {q : Pattern} {T : Term} {B : List Entry} {fs : List Frame} → TermAsked L S M R A h p t n K N Z Q q T B fs → TermView K N Z Q p k x n q
+      headed : {K N Z : List ℕ} {Q : List Kind} {q : Pattern} {T : Term} {B : List Entry} {fs : List Frame} → TermAsked L S M R A p t n K N Z Q q T B fs → TermView K N Z Q p k x n q
           → Headed L S R R₁ p t n o K N Z Q q T B
       unfolding walkT afterT
       headed {Q = Q} {T = T} {B = B} a (v-symbol {ps = ps} e i g) =
@@ -324,7 +324,7 @@ module _ {L S M R A A₁ : List ℕ} {h p t n k x : ℕ} (row : AtRow L S M R A 
           }
       headed a (v-context e c z i g) = absurd (four e)
 
-      pub term-head-fails : o ≡ bound.Fail → TermPost L S M R A h p t n out.Fail R₁ A₁
+      pub term-head-fails : o ≡ bound.Fail → TermPost L S M R A p t n out.Fail R₁ A₁
       term-head-fails g =
           record {
             is = λ K N Z Q q T B fs a.
@@ -333,15 +333,14 @@ module _ {L S M R A A₁ : List ℕ} {h p t n k x : ℕ} (row : AtRow L S M R A 
                 (both-fail (λ cs. w .is cs ∙ rw (e cs)), w .kept, here);
           }
 
-      module _ {m pe te : ℕ} (g : o ≡ bound.Ok m) (ep : pe ≡ p + getD M (3 * p + 2) 0) (et : te ≡ t + getD S t 0) where
+      module _ {m pe te : ℕ} (g : o ≡ bound.Ok m) (ep : pe ≡ p + getD M (6 * p + 2) 0) (et : te ≡ t + getD S t 0) where
         -- what is asked of the walk of the arguments
-        inside : {K N Z : List ℕ} {Q : List Kind} {q : Pattern} {T : Term} {B : List Entry} {fs : List Frame} → TermAsked L S M R A h p t n K N Z Q q T B fs → (w : Headed L S R R₁ p t n o K N Z Q q T B)
-            → (B′ : List Entry) × ListAsked L S M R₁ A₁ p (p + 1) pe (t + 1) te m K N Z Q (w .ps) (T .args) B′ fs × (m ≡ w .m) × ((cs : List ℕ) → w .r cs ≡ ok B′ cs)
+        inside : {K N Z : List ℕ} {Q : List Kind} {q : Pattern} {T : Term} {B : List Entry} {fs : List Frame} → TermAsked L S M R A p t n K N Z Q q T B fs → (w : Headed L S R R₁ p t n o K N Z Q q T B)
+            → (B′ : List Entry) × ListAsked L S M R₁ A₁ (p + 1) pe (t + 1) te m K N Z Q (w .ps) (T .args) B′ fs × (m ≡ w .m) × ((cs : List ℕ) → w .r cs ≡ ok B′ cs)
         inside {K} {N} {Z} {Q} {q} {T} {fs = fs} a w =
             let e = ok-meets (subst (λ (o : Bound). Meets L S R₁ Q (w .m) (w .r) o) g (w .heads)) in
             let s = term-seen (a .packed) (a .pattern) in
             let z : p + getD Z p 0 ≡ pe = omega (arith, s .size) in
-            let l : p < p + 1 = omega arith in
             let c : afterT q n ≡ afterF (w .ps) m = w .count ∙ ap (afterF (w .ps)) (sym (e .2)) in (
               e .0,
               record {
@@ -351,29 +350,30 @@ module _ {L S M R A A₁ : List ℕ} {h p t n k x : ℕ} (row : AtRow L S M R A 
                 tree = subst (λ (i : ℕ). TermsAt L S (t + 1) i (T .args)) (term-size (a .tree) ∙ sym et) (a .tree .inner);
                 state = e .3;
                 marks = marks-kept here (a .marks);
-                below = l;
+                holder = p;
+                below = past-first;
                 held =
                     record {
-                      holder = h;
+                      holder = a .holder;
                       kind = w .kind;
                       inside = s .inside;
                       ends = z;
                       marked = rw et (marked a);
-                      above = rw et (subst (λ (i : ℕ). Behind L S A₁ K N Z Q h p (t + getD S t 0) i fs) c (above a));
+                      above = rw et (subst (λ (i : ℕ). Behind L S A₁ K N Z Q (a .holder) p (t + getD S t 0) i fs) c (above a));
                     };
               },
               e .2,
               e .1,
             )
 
-        pub term-inside-pre : ListPre L S M R₁ A₁ p (p + 1) pe (t + 1) te m
+        pub term-inside-pre : ListPre L S M R₁ A₁ (p + 1) pe (t + 1) te m
         term-inside-pre =
             let c = row .pre in
             let w = headed (c .asked) (view (c .asked)) in
             let b = inside (c .asked) w in
             record { K = c .K; N = c .N; Z = c .Z; Q = c .Q; ps = w .ps; us = c .T .args; B = b .0; fs = c .fs; asked = b .1 }
 
-        pub term-inside-is : {o₁ : Out} {R₂ A₂ : List ℕ} → ListPost L S M R₁ A₁ p (p + 1) pe (t + 1) te m o₁ R₂ A₂ → TermPost L S M R A h p t n o₁ R₂ A₂
+        pub term-inside-is : {o₁ : Out} {R₂ A₂ : List ℕ} → ListPost L S M R₁ A₁ (p + 1) pe (t + 1) te m o₁ R₂ A₂ → TermPost L S M R A p t n o₁ R₂ A₂
         term-inside-is {o₁} {R₂} {A₂} post₂ =
             record {
               is = λ K N Z Q q T B fs a.

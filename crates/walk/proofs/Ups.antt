@@ -19,6 +19,7 @@ use Rattle.pattern.specs.Places.{PatternsAt, at-nil, at-cons, at-sequence}
 use Rattle.pattern.proofs.Placed.{good-placed}
 use Rattle.variable.specs.State.{Kept}
 use Rattle.variable.proofs.States.{kept-same, kept-then}
+use Rattle.walk.specs.Packed.{Past, Holds}
 use Rattle.walk.specs.Above.{Marked, Unchanged, Behind, at-root, in-list, in-context}
 use Rattle.walk.specs.Cycle.{Needs, Agree, both-fail, both-need, both-ok, TermAsked, TermPre, TermPost, ListAsked, ListPre, ListPost}
 use Rattle.walk.specs.Onward.{UpAsked, UpPre, UpPost, Problem, BeginPre, BeginPost}
@@ -77,32 +78,33 @@ record Rest (L S A K N Z : List ℕ) (Q : List Kind) (h p u n : ℕ) (fs : List 
   pattern : PatternsAt K N Z Q (p + getD Z p 0) (h + getD Z h 0) ps
   good : GoodF Q ps n
   tree : TermsAt L S u end us
-  marked : Marked S A h holder end
+  marked : Marked S A h end
+  past : Past Z h (p + getD Z p 0)
   above : Behind L S A K N Z Q holder h end (afterF ps n) behind
 
 -- what stands behind a row that is not the root
 module _ {L S A K N Z : List ℕ} {Q : List Kind} where
-  within : {h p u n : ℕ} {fs : List Frame} → Behind L S A K N Z Q h p u n fs → p ≢ 0 → (h < p) × (p < length K) × (p + getD Z p 0 ≤ h + getD Z h 0)
+  within : {h p u n : ℕ} {fs : List Frame} → Behind L S A K N Z Q h p u n fs → p ≢ 0 → Holds Z h p × (p < length K) × (p + getD Z p 0 ≤ h + getD Z h 0)
   within (at-root e) f = absurd (f e)
-  within (in-list a b c d g t m r) f = (a, b, patterns-le d)
+  within (in-list a o b c d g t m r) f = (a, b, patterns-le d)
   within (in-context a b c d m r) f = (a, b, d)
 
   rest-of : {h p u n : ℕ} {fs : List Frame} → Behind L S A K N Z Q h p u n fs → p ≢ 0 → getD K h 0 ≢ 4 → Rest L S A K N Z Q h p u n fs
   rest-of (at-root e) f k = absurd (f e)
-  rest-of (in-list {g = g} {e = e} {ps = ps} {us = us} {fs = fs} a b c d i t m r) f k =
-      record { holder = g; end = e; ps = ps; us = us; behind = fs; is = refl; pattern = d; good = i; tree = t; marked = m; above = r }
+  rest-of (in-list {g = g} {e = e} {ps = ps} {us = us} {fs = fs} a o b c d i t m r) f k =
+      record { holder = g; end = e; ps = ps; us = us; behind = fs; is = refl; pattern = d; good = i; tree = t; marked = m; past = o; above = r }
   rest-of (in-context a b c d m r) f k = absurd (k c)
 
   -- a context's one argument
-  over-of : {h p u n : ℕ} {fs : List Frame} → Behind L S A K N Z Q h p u n fs → p ≢ 0 → getD K h 0 ≡ 4 → (g : ℕ) × (e : ℕ) × Marked S A h g e × Behind L S A K N Z Q g h e n fs
+  over-of : {h p u n : ℕ} {fs : List Frame} → Behind L S A K N Z Q h p u n fs → p ≢ 0 → getD K h 0 ≡ 4 → (g : ℕ) × (e : ℕ) × Marked S A h e × Behind L S A K N Z Q g h e n fs
   over-of (at-root e) f k = absurd (f e)
-  over-of (in-list a b c d i t m r) f k = absurd (c k)
+  over-of (in-list a o b c d i t m r) f k = absurd (c k)
   over-of (in-context {g = g} {e = e} a b c d m r) f k = (g, e, m, r)
 
   none-behind : {h p u n : ℕ} {fs : List Frame} → Behind L S A K N Z Q h p u n fs → p ≡ 0 → fs ≡ []
   none-behind (at-root e) f = refl
-  none-behind (in-list a b c d i t m r) f = absurd (omega arith)
-  none-behind (in-context a b c d m r) f = absurd (omega arith)
+  none-behind (in-list a o b c d i t m r) f = absurd (omega (arith, a .past .lower))
+  none-behind (in-context a b c d m r) f = absurd (omega (arith, a .past .lower))
 
 -- the walk is behind the row p₀ at first, and then behind q
 pub record Risen (L S M R₀ R A₀ A : List ℕ) (p₀ n₀ q m : ℕ) (K N Z : List ℕ) (Q : List Kind) (B₀ : List Entry) (fs₀ : List Frame) : Type 0 where
@@ -144,41 +146,40 @@ pub record Below (L S M R₀ R A₀ A : List ℕ) (p₀ n₀ q m : ℕ) : Type 0
 
 -- the row that holds it, in the packed pattern and in the rows that were come to
 pub record Holding (S M A : List ℕ) (q h : ℕ) : Type 0 where
-  pub holder : getD A (2 * q + 1) 0 ≡ h
   pub lower : h < q
   pub few : q < 256
-  pub room : 3 * q + 2 < length M
-  pub row : getD A (2 * q) 0 < length S
+  pub room : 6 * q + 5 < length M
+  pub row : getD A q 0 < length S
 
 module _ {L S M R₀ R A₀ A : List ℕ} {p₀ n₀ q m : ℕ} (below : Below L S M R₀ R A₀ A p₀ n₀ q m) where
   now : let s = below .pre .some in
       Risen L S M R₀ R A₀ A p₀ n₀ q m (s .0) (s .1) (s .2) (s .3) (s .4) (s .5)
   now = let s = below .pre .some in below .rising .is (s .0) (s .1) (s .2) (s .3) (s .4) (s .5) (s .6)
 
-  pub up-holding : Holding S M A q (getD A (2 * q + 1) 0)
+  pub up-holding : Holding S M A q (getD M (6 * q + 3) 0)
   up-holding =
       let a = now .asked in
       let w = within (a .above) (below .more) in
       record {
-        holder = refl;
-        lower = omega (arith, a .marked .holder, w .0);
+        lower = omega (arith, a .packed .holders (a .holder) q (w .1) (w .0), w .0 .past .lower);
         few = omega (arith, w .1, a .marks .few);
         room = omega (arith, w .1, a .packed .room);
         row = a .marked .row;
       }
 
-  module _ {h : ℕ} (eh : h ≡ getD A (2 * q + 1) 0) where
+  module _ {h : ℕ} (eh : h ≡ getD M (6 * q + 3) 0) where
     -- for those that the caller has, the row h holds it
     held : {K N Z : List ℕ} {Q : List Kind} {B : List Entry} {fs : List Frame} (a : UpAsked L S M R A q m K N Z Q B fs)
-        → Behind L S A K N Z Q h q (a .end) m fs × (h < q) × (q < length K) × (q + getD Z q 0 ≤ h + getD Z h 0) × (getD M (3 * h) 0 ≡ getD K h 0)
+        → Behind L S A K N Z Q h q (a .end) m fs × (h < q) × (q < length K) × (q + getD Z q 0 ≤ h + getD Z h 0) × (getD M (6 * h) 0 ≡ getD K h 0)
     held {K} {N} {Z} {Q} {fs = fs} a =
-        let e : a .holder ≡ h = sym (a .marked .holder) ∙ sym eh in
+        let v = within (a .above) (below .more) in
+        let e : a .holder ≡ h = sym (a .packed .holders (a .holder) q (v .1) (v .0)) ∙ sym eh in
         let b : Behind L S A K N Z Q h q (a .end) m fs = subst (λ (i : ℕ). Behind L S A K N Z Q i q (a .end) m fs) e (a .above) in
         let w = within b (below .more) in
-        (b, w .0, w .1, w .2, a .packed .kinds h (omega (arith, w .0, w .1)))
+        (b, w .0 .past .lower, w .1, w .2, a .packed .kinds h (omega (arith, w .0 .past .lower, w .1)))
 
     -- a context: nothing is left of its list
-    pub up-context : getD M (3 * h) 0 ≡ 4 → Rising L S M R₀ R A₀ A p₀ n₀ h m
+    pub up-context : getD M (6 * h) 0 ≡ 4 → Rising L S M R₀ R A₀ A p₀ n₀ h m
     up-context four =
         record {
           is = λ K N Z Q B fs a.
@@ -197,27 +198,27 @@ module _ {L S M R₀ R A₀ A : List ℕ} {p₀ n₀ q m : ℕ} (below : Below L
               };
         }
 
-    module _ (list : getD M (3 * h) 0 ≢ 4) where
+    module _ (list : getD M (6 * h) 0 ≢ 4) where
       rest : {K N Z : List ℕ} {Q : List Kind} {B : List Entry} {fs : List Frame} (a : UpAsked L S M R A q m K N Z Q B fs) → Rest L S A K N Z Q h q (a .end) m fs
       rest a = let b = held a in rest-of (b .0) (below .more) (λ e. list (b .4 ∙ e))
 
-      pub up-row : (getD A (2 * h) 0 < length S) × (h < 256) × (3 * h + 2 < length M)
+      pub up-row : (getD A h 0 < length S) × (h < 256) × (6 * h + 5 < length M)
       up-row =
           let a = now .asked in
           let b = held a in
           (rest a .marked .row, omega (arith, b .1, b .2, a .marks .few), omega (arith, b .1, b .2, a .packed .room))
 
       -- the ends of both terms are read
-      module _ {r pe a b t te : ℕ} (er : r ≡ q + getD M (3 * q + 2) 0) (ep : pe ≡ h + getD M (3 * h + 2) 0) (ea : a ≡ getD A (2 * q) 0) (ec : t ≡ a + getD S a 0)
-          (eb : b ≡ getD A (2 * h) 0) (ed : te ≡ b + getD S b 0) where
-        et : t ≡ getD A (2 * q) 0 + getD S (getD A (2 * q) 0) 0
+      module _ {r pe a b t te : ℕ} (er : r ≡ q + getD M (6 * q + 2) 0) (ep : pe ≡ h + getD M (6 * h + 2) 0) (ea : a ≡ getD A q 0) (ec : t ≡ a + getD S a 0)
+          (eb : b ≡ getD A h 0) (ed : te ≡ b + getD S b 0) where
+        et : t ≡ getD A q 0 + getD S (getD A q 0) 0
         et = ec ∙ ap (λ (i : ℕ). i + getD S i 0) ea
 
-        ete : te ≡ getD A (2 * h) 0 + getD S (getD A (2 * h) 0) 0
+        ete : te ≡ getD A h 0 + getD S (getD A h 0) 0
         ete = ed ∙ ap (λ (i : ℕ). i + getD S i 0) eb
 
         rest-asked : {K N Z : List ℕ} {Q : List Kind} {B : List Entry} {fs : List Frame} (a : UpAsked L S M R A q m K N Z Q B fs)
-            → ListAsked L S M R A h r pe t te m K N Z Q (rest a .ps) (rest a .us) B (rest a .behind)
+            → ListAsked L S M R A r pe t te m K N Z Q (rest a .ps) (rest a .us) B (rest a .behind)
         rest-asked {K} {N} {Z} {Q} {B} {fs} a =
             let w = rest a in
             let b = held a in
@@ -232,7 +233,8 @@ module _ {L S M R₀ R A₀ A : List ℕ} {p₀ n₀ q m : ℕ} (below : Below L
               tree = rw (sym k, sym l) (w .tree);
               state = a .state;
               marks = a .marks;
-              below = omega (arith, b .1);
+              holder = h;
+              below = subst (Past Z h) i (w .past);
               held =
                   record {
                     holder = w .holder;
@@ -244,13 +246,13 @@ module _ {L S M R₀ R A₀ A : List ℕ} {p₀ n₀ q m : ℕ} (below : Below L
                   };
             }
 
-        pub up-list-pre : ListPre L S M R A h r pe t te m
+        pub up-list-pre : ListPre L S M R A r pe t te m
         up-list-pre =
             let s = below .pre .some in
             let a = now .asked in
             record { K = s .0; N = s .1; Z = s .2; Q = s .3; ps = rest a .ps; us = rest a .us; B = now .B; fs = rest a .behind; asked = rest-asked a }
 
-        module _ {o : Out} {R₁ A₁ : List ℕ} (post : ListPost L S M R A h r pe t te m o R₁ A₁) where
+        module _ {o : Out} {R₁ A₁ : List ℕ} (post : ListPost L S M R A r pe t te m o R₁ A₁) where
           walked : {K N Z : List ℕ} {Q : List Kind} {B : List Entry} {fs : List Frame} (a : UpAsked L S M R A q m K N Z Q B fs)
               → Agree L S R₁ A₁ K N Z Q r (afterF (rest a .ps) m) (rest a .behind) (walkF Any any? (rest a .ps) (rest a .us) t B) o × Kept Q m R R₁ × Unchanged r A A₁
           walked {K} {N} {Z} {Q} {B} a = post .is K N Z Q (rest a .ps) (rest a .us) B (rest a .behind) (rest-asked a)
@@ -328,7 +330,7 @@ module _ {L S M R₀ R A₀ A : List ℕ} {p₀ n₀ q m : ℕ} (below : Below L
               }
 
 -- from the root nothing is left behind
-root-asked : {L S M R A : List ℕ} {T : Term} {P : Pattern} {Q : List Kind} (w : Problem L S M R A T P Q) → TermAsked L S M R A 0 0 0 0 (w .K) (w .N) (w .Z) Q P T [] []
+root-asked : {L S M R A : List ℕ} {T : Term} {P : Pattern} {Q : List Kind} (w : Problem L S M R A T P Q) → TermAsked L S M R A 0 0 0 (w .K) (w .N) (w .Z) Q P T [] []
 root-asked {Q = Q} w =
     record {
       packed = w .packed;
@@ -344,13 +346,14 @@ root-asked {Q = Q} w =
             numbered = refl;
           };
       marks = w .marks;
+      holder = 0;
       above = at-root refl;
     }
 
-pub root-pre : {L S M R A : List ℕ} → BeginPre L S M R A → TermPre L S M R A 0 0 0 0
+pub root-pre : {L S M R A : List ℕ} → BeginPre L S M R A → TermPre L S M R A 0 0 0
 root-pre b =
     let w = b .some .3 in
     record { K = w .K; N = w .N; Z = w .Z; Q = b .some .2; q = b .some .1; T = b .some .0; B = []; fs = []; asked = root-asked w }
 
-pub root-is : {L S M R A R′ A′ : List ℕ} {o : Out} → TermPost L S M R A 0 0 0 0 o R′ A′ → BeginPost L S M R A o R′ A′
+pub root-is : {L S M R A R′ A′ : List ℕ} {o : Out} → TermPost L S M R A 0 0 0 o R′ A′ → BeginPost L S M R A o R′ A′
 root-is post = record { is = λ T P Q w. post .is (w .K) (w .N) (w .Z) Q P T [] [] (root-asked w) }

@@ -25,8 +25,8 @@ use Rattle.variable.specs.declared.Step.the-variants as step
 -- a row of the pattern, packed
 pub record Seen (K Z M : List ℕ) (p : ℕ) : Type 0 where
   pub inside : p < length K
-  pub room : 3 * p + 2 < length M
-  pub size : getD M (3 * p + 2) 0 ≡ getD Z p 0
+  pub room : 6 * p + 5 < length M
+  pub size : getD M (6 * p + 2) 0 ≡ getD Z p 0
   pub some : 1 ≤ getD Z p 0
 
 module _ {K N Z M : List ℕ} (packed : Packed K N Z M) where
@@ -46,10 +46,10 @@ module _ {K N Z M : List ℕ} (packed : Packed K N Z M) where
 
   -- its kind and name, as the code reads them
   module _ {p k x : ℕ} (row : PatternRow K N Z p k x) where
-    its-kind : {k′ : ℕ} → k′ ≡ getD M (3 * p) 0 → k ≡ k′
+    its-kind : {k′ : ℕ} → k′ ≡ getD M (6 * p) 0 → k ≡ k′
     its-kind e = sym (row .kinded) ∙ sym (packed .kinds p (row .inKind)) ∙ sym e
 
-    its-name : {x′ : ℕ} → x′ ≡ getD M (3 * p + 1) 0 → x ≡ x′
+    its-name : {x′ : ℕ} → x′ ≡ getD M (6 * p + 1) 0 → x ≡ x′
     its-name e = sym (row .named) ∙ sym (packed .names p (row .inKind)) ∙ sym e
 
 -- the pattern term at a row, by the kind k and the name x of the row
@@ -60,7 +60,7 @@ pub data TermView (K N Z : List ℕ) (Q : List Kind) (p k x n : ℕ) : Pattern �
   v-context : {q : Pattern} → k ≡ 4 → Comes Q x aContext n → getD Z p 0 ≡ suc (getD Z (p + 1) 0) → PatternAt K N Z Q (p + 1) q → GoodT Q q (after x n)
       → TermView K N Z Q p k x n (context x q)
 
-pub term-view : {K N Z M : List ℕ} {Q : List Kind} {p k x n : ℕ} {q : Pattern} → Packed K N Z M → PatternAt K N Z Q p q → GoodT Q q n → k ≡ getD M (3 * p) 0 → x ≡ getD M (3 * p + 1) 0
+pub term-view : {K N Z M : List ℕ} {Q : List Kind} {p k x n : ℕ} {q : Pattern} → Packed K N Z M → PatternAt K N Z Q p q → GoodT Q q n → k ≡ getD M (6 * p) 0 → x ≡ getD M (6 * p + 1) 0
     → TermView K N Z Q p k x n q
 unfolding GoodT
 term-view {K} {N} {Z} {Q = Q} {p} {k} {x} {n} m (at-symbol {ps = ps} r i) g ek ex =
@@ -79,6 +79,7 @@ pub record SequenceFirst (K N Z : List ℕ) (Q : List Kind) (p e x n : ℕ) (ps 
   pub rest : Patterns
   pub is : ps ≡ sequence x rest
   pub comes : Comes Q x aSequence n
+  pub one : getD Z p 0 ≡ 1
   pub before : p < e
   pub behind : PatternsAt K N Z Q (p + 1) e rest
   pub good : GoodF Q rest (after x n)
@@ -94,14 +95,14 @@ pub record TermFirst (K N Z : List ℕ) (Q : List Kind) (p e n : ℕ) (ps : Patt
   pub good : GoodT Q first n
   pub goods : GoodF Q rest (afterT first n)
 
-not-two : {K N Z M : List ℕ} {Q : List Kind} {p k : ℕ} {q : Pattern} → Packed K N Z M → PatternAt K N Z Q p q → k ≡ getD M (3 * p) 0 → k ≢ 2
+not-two : {K N Z M : List ℕ} {Q : List Kind} {p k : ℕ} {q : Pattern} → Packed K N Z M → PatternAt K N Z Q p q → k ≡ getD M (6 * p) 0 → k ≢ 2
 not-two m (at-symbol r i) e = omega (arith, its-kind m r e)
 not-two m (at-individual r v z) e = omega (arith, its-kind m r e)
 not-two m (at-function r v i) e = omega (arith, its-kind m r e)
 not-two m (at-context r v z i) e = omega (arith, its-kind m r e)
 
-module _ {K N Z M : List ℕ} {Q : List Kind} {p e n k : ℕ} (packed : Packed K N Z M) (f : p ≢ e) (ek : k ≡ getD M (3 * p) 0) where
-  pub sequence-first : {x : ℕ} {ps : Patterns} → PatternsAt K N Z Q p e ps → GoodF Q ps n → k ≡ 2 → x ≡ getD M (3 * p + 1) 0 → SequenceFirst K N Z Q p e x n ps
+module _ {K N Z M : List ℕ} {Q : List Kind} {p e n k : ℕ} (packed : Packed K N Z M) (f : p ≢ e) (ek : k ≡ getD M (6 * p) 0) where
+  pub sequence-first : {x : ℕ} {ps : Patterns} → PatternsAt K N Z Q p e ps → GoodF Q ps n → k ≡ 2 → x ≡ getD M (6 * p + 1) 0 → SequenceFirst K N Z Q p e x n ps
   unfolding GoodF
   sequence-first (at-nil h b) g two ex = absurd (f h)
   sequence-first (at-cons a b i) g two ex = absurd (not-two packed a ek two)
@@ -111,6 +112,7 @@ module _ {K N Z M : List ℕ} {Q : List Kind} {p e n k : ℕ} (packed : Packed K
         rest = qs;
         is = ap (λ (y : ℕ). sequence y qs) w;
         comes = subst (λ (y : ℕ). Comes Q y aSequence n) w (g .0);
+        one = z;
         before = b;
         behind = i;
         good = subst (λ (y : ℕ). GoodF Q qs (after y n)) w (g .1);

@@ -11,7 +11,7 @@ use Rattle.meaning.proofs.Resume.{Frame, Stop, least, largest, run, enter}
 use Rattle.tree.specs.Places.{TermsAt, TermAt}
 use Rattle.pattern.specs.Places.{PatternAt, PatternsAt}
 use Rattle.variable.specs.State.{State, Kept}
-use Rattle.walk.specs.Packed.{Packed}
+use Rattle.walk.specs.Packed.{Past, Packed}
 use Rattle.walk.specs.Above.{Marks, Unchanged, Behind, Held, Stands}
 use Rattle.meaning.proofs.Next.{Any, any?}
 use Rattle.walk.specs.declared.Out.{Out}
@@ -38,17 +38,18 @@ pub data Agree (L S R A K N Z : List ℕ) (Q : List Kind) (p₀ m : ℕ) (fs : L
   both-need : {p x s lo hi : ℕ} → p₀ ≤ p → Needs L S R A K N Z Q fs f p x s lo hi → Agree L S R A K N Z Q p₀ m fs f (out.Need p x s)
   both-ok : {B : List Entry} {k : ℕ} → k ≡ m → State L S R Q k B → ((cs : List ℕ) → f cs ≡ ok B cs) → Agree L S R A K N Z Q p₀ m fs f (out.Ok k)
 
--- the pattern term q at row p, which h holds, the term T at row t, and the state of the walk between them
-pub record TermAsked (L S M R A : List ℕ) (h p t n : ℕ) (K N Z : List ℕ) (Q : List Kind) (q : Pattern) (T : Term) (B : List Entry) (fs : List Frame) : Type 0 where
+-- the pattern term q at row p, the term T at row t, and the state of the walk between them
+pub record TermAsked (L S M R A : List ℕ) (p t n : ℕ) (K N Z : List ℕ) (Q : List Kind) (q : Pattern) (T : Term) (B : List Entry) (fs : List Frame) : Type 0 where
   pub packed : Packed K N Z M
   pub pattern : PatternAt K N Z Q p q
   pub good : GoodT Q q n
   pub tree : TermAt L S t (T .label) (T .args)
   pub state : State L S R Q n B
   pub marks : Marks K A
-  pub above : Behind L S A K N Z Q h p (t + getD S t 0) (afterT q n) fs
+  pub holder : ℕ
+  pub above : Behind L S A K N Z Q holder p (t + getD S t 0) (afterT q n) fs
 
-pub record TermPre (L S M R A : List ℕ) (h p t n : ℕ) : Type 0 where
+pub record TermPre (L S M R A : List ℕ) (p t n : ℕ) : Type 0 where
   pub K : List ℕ
   pub N : List ℕ
   pub Z : List ℕ
@@ -57,24 +58,25 @@ pub record TermPre (L S M R A : List ℕ) (h p t n : ℕ) : Type 0 where
   pub T : Term
   pub B : List Entry
   pub fs : List Frame
-  pub asked : TermAsked L S M R A h p t n K N Z Q q T B fs
+  pub asked : TermAsked L S M R A p t n K N Z Q q T B fs
 
-pub record TermPost (L S M R A : List ℕ) (h p t n : ℕ) (o : Out) (R′ A′ : List ℕ) : Type 0 where
-  pub is : (K N Z : List ℕ) (Q : List Kind) (q : Pattern) (T : Term) (B : List Entry) (fs : List Frame) → TermAsked L S M R A h p t n K N Z Q q T B fs
+pub record TermPost (L S M R A : List ℕ) (p t n : ℕ) (o : Out) (R′ A′ : List ℕ) : Type 0 where
+  pub is : (K N Z : List ℕ) (Q : List Kind) (q : Pattern) (T : Term) (B : List Entry) (fs : List Frame) → TermAsked L S M R A p t n K N Z Q q T B fs
       → Agree L S R′ A′ K N Z Q p (afterT q n) fs (walkT Any any? q T t B) o × Kept Q n R R′ × Unchanged p A A′
 
--- the pattern's arguments ps from row p up to pe, which h holds, the terms us from row t up to te, and the state
-pub record ListAsked (L S M R A : List ℕ) (h p pe t te n : ℕ) (K N Z : List ℕ) (Q : List Kind) (ps : Patterns) (us : Forest) (B : List Entry) (fs : List Frame) : Type 0 where
+-- the pattern's arguments ps from row p up to pe, the terms us from row t up to te, and the state
+pub record ListAsked (L S M R A : List ℕ) (p pe t te n : ℕ) (K N Z : List ℕ) (Q : List Kind) (ps : Patterns) (us : Forest) (B : List Entry) (fs : List Frame) : Type 0 where
   pub packed : Packed K N Z M
   pub pattern : PatternsAt K N Z Q p pe ps
   pub good : GoodF Q ps n
   pub tree : TermsAt L S t te us
   pub state : State L S R Q n B
   pub marks : Marks K A
-  pub below : h < p
-  pub held : Held L S A K N Z Q h pe te (afterF ps n) fs
+  pub holder : ℕ
+  pub below : Past Z holder p
+  pub held : Held L S A K N Z Q holder pe te (afterF ps n) fs
 
-pub record ListPre (L S M R A : List ℕ) (h p pe t te n : ℕ) : Type 0 where
+pub record ListPre (L S M R A : List ℕ) (p pe t te n : ℕ) : Type 0 where
   pub K : List ℕ
   pub N : List ℕ
   pub Z : List ℕ
@@ -83,8 +85,8 @@ pub record ListPre (L S M R A : List ℕ) (h p pe t te n : ℕ) : Type 0 where
   pub us : Forest
   pub B : List Entry
   pub fs : List Frame
-  pub asked : ListAsked L S M R A h p pe t te n K N Z Q ps us B fs
+  pub asked : ListAsked L S M R A p pe t te n K N Z Q ps us B fs
 
-pub record ListPost (L S M R A : List ℕ) (h p pe t te n : ℕ) (o : Out) (R′ A′ : List ℕ) : Type 0 where
-  pub is : (K N Z : List ℕ) (Q : List Kind) (ps : Patterns) (us : Forest) (B : List Entry) (fs : List Frame) → ListAsked L S M R A h p pe t te n K N Z Q ps us B fs
+pub record ListPost (L S M R A : List ℕ) (p pe t te n : ℕ) (o : Out) (R′ A′ : List ℕ) : Type 0 where
+  pub is : (K N Z : List ℕ) (Q : List Kind) (ps : Patterns) (us : Forest) (B : List Entry) (fs : List Frame) → ListAsked L S M R A p pe t te n K N Z Q ps us B fs
       → Agree L S R′ A′ K N Z Q p (afterF ps n) fs (walkF Any any? ps us t B) o × Kept Q n R R′ × Unchanged p A A′

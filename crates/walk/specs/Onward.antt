@@ -26,7 +26,7 @@ pub record UpAsked (L S M R A : List ℕ) (p n : ℕ) (K N Z : List ℕ) (Q : Li
   pub marks : Marks K A
   pub holder : ℕ
   pub end : ℕ
-  pub marked : Marked S A p holder end
+  pub marked : Marked S A p end
   pub above : Behind L S A K N Z Q holder p end n fs
 
 pub record UpPre (L S M R A : List ℕ) (p n : ℕ) : Type 0 where

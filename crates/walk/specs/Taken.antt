@@ -29,7 +29,7 @@ pub record TakePre (L S M R A : List ℕ) (p x s u v : ℕ) : Type 0 where
 -- the answer is that of the walk with v as one more choice; what stands before the variable is kept
 pub record TakePost (L S M R A : List ℕ) (p x s u v : ℕ) (o : Out) (R′ A′ : List ℕ) : Type 0 where
   pub is : (K N Z : List ℕ) (Q : List Kind) (f : List ℕ → Res) (lo hi : ℕ) → TakeAsked L S M R A p x s u v K N Z Q f lo hi
-      → (m : ℕ) × Agree L S R′ A′ K N Z Q (p + 1) m [] (λ cs. f (v ∷ cs)) o × Unchanged x R R′ × Unchanged (p + 1) A A′
+      → (m : ℕ) × Agree L S R′ A′ K N Z Q (p + 1) m [] (λ cs. f (v ∷ cs)) o × Unchanged (x + x) R R′ × Unchanged (p + 1) A A′
 
 -- the answer is the walk's; the record R then has the numbers of the variables that are bound
 pub data Answers (R : List ℕ) : Out → Res → Type 0 where

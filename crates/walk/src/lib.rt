@@ -2,7 +2,7 @@
 ghost use mathlib.Core.Path.{_≡_};
 ghost use Prim.Native.Nat.{_+_, _*_, _<_};
 ghost use lib.ListN.{length, getD};
-ghost use Rattle.walk.specs.Packed.{Packed, PackPre};
+ghost use Rattle.walk.specs.Packed.{Packed, Bounds, PackPre, Put, HolderPre, HolderPost};
 ghost use Rattle.walk.specs.Above.{Came};
 ghost use Rattle.walk.specs.Cycle.{TermPre, TermPost, ListPre, ListPost};
 ghost use Rattle.walk.specs.Onward.{UpPre, UpPost, ResumePre, ResumePost, BeginPre, BeginPost};
@@ -16,85 +16,137 @@ pub enum Out {
     Ok(usize),
 }
 
-// The pattern's three lists in one, three numbers a row: a call with few slices costs less.
-pub fn pack(kind: &[u32], name: &[u32], size: &[u32], packed: &mut [u32])
+// What the walk needs of a row of the pattern: its kind, name and size, the row that holds it, and its variable's constraint.
+struct PatternRow {
+    kind: u32,
+    name: u32,
+    size: u32,
+    holder: u32,
+    start: u32,
+    flag: u32,
+}
+
+fn put(packed: &mut [u32], row: usize, r: PatternRow)
+    requires { ⌜ 6 * row + 5 < length (now packed) ⌝ }
+    ensures { λ _. ⌜ Put (now (packed .entry)) row (r .kind) (r .name) (r .size) (r .holder) (r .start) (r .flag) (now (packed .exit)) ⌝ }
+{
+    let at = 6 * row;
+    packed[at] = r.kind;
+    packed[at + 1] = r.name;
+    packed[at + 2] = r.size;
+    packed[at + 3] = r.holder;
+    packed[at + 4] = r.start;
+    packed[at + 5] = r.flag;
+}
+
+// The entry i of a list, 0 where there is none.
+fn entry(list: &[u32], i: usize) -> u32
+    ensures { λ r. ⌜ r ≡ getD (now (list .entry)) i 0 ⌝ }
+{
+    if i < list.len() { list[i] } else { 0 }
+}
+
+// The nearest row before a row whose term has it, where the rows before have theirs; the root's is itself.
+fn holder_of(size: &[u32], packed: &[u32], row: usize) -> usize
+    requires { ⌜ HolderPre (now size) (now packed) row ⌝ }
+    ensures { λ r. ⌜ HolderPost (now (size .entry)) row r ⌝ }
+{
+    if row == 0 {
+        return 0;
+    }
+    let mut h = row - 1;
+    while tree::next(size, h) <= row {
+        h = tree::at(packed, 6 * h + 3);
+    }
+    h
+}
+
+// The pattern's lists in one, with each row's holder and constraint: a call with few slices costs less.
+pub fn pack(kind: &[u32], name: &[u32], size: &[u32], constraint: &[u32], packed: &mut [u32])
     requires { ⌜ PackPre (now kind) (now name) (now size) (now packed) ⌝ }
-    ensures { λ _. ⌜ Packed (now (kind .entry)) (now (name .entry)) (now (size .entry)) (now (packed .exit)) ⌝ }
+    ensures { λ _. ⌜ Packed (now (kind .entry)) (now (name .entry)) (now (size .entry)) (now (packed .exit))
+        × Bounds (now (kind .entry)) (now (name .entry)) (now (constraint .entry)) (now (packed .exit)) ⌝ }
 {
     let mut row = 0;
     while row < kind.len() {
-        packed[3 * row] = kind[row];
-        packed[3 * row + 1] = name[row];
-        packed[3 * row + 2] = size[row];
+        let holder = holder_of(size, packed, row) as u32;
+        let x = tree::at(name, row);
+        let r = PatternRow {
+            kind: kind[row],
+            name: name[row],
+            size: size[row],
+            holder,
+            start: entry(constraint, x + x),
+            flag: entry(constraint, x + x + 1),
+        };
+        put(packed, row, r);
         row += 1;
     }
 }
 
 // A pattern row's kind.
-pub fn kind(pattern: &[u32; 768], p: usize) -> usize
-    requires { ⌜ 3 * p + 2 < length (now pattern) ⌝ }
-    ensures { λ r. ⌜ r ≡ getD (now (pattern .entry)) (3 * p) 0 ⌝ }
+pub fn kind(pattern: &[u32; 1536], p: usize) -> usize
+    requires { ⌜ 6 * p + 5 < length (now pattern) ⌝ }
+    ensures { λ r. ⌜ r ≡ getD (now (pattern .entry)) (6 * p) 0 ⌝ }
 {
-    tree::at(pattern, 3 * p)
+    tree::at(pattern, 6 * p)
 }
 
 // A pattern row's name.
-pub fn name(pattern: &[u32; 768], p: usize) -> usize
-    requires { ⌜ 3 * p + 2 < length (now pattern) ⌝ }
-    ensures { λ r. ⌜ r ≡ getD (now (pattern .entry)) (3 * p + 1) 0 ⌝ }
+pub fn name(pattern: &[u32; 1536], p: usize) -> usize
+    requires { ⌜ 6 * p + 5 < length (now pattern) ⌝ }
+    ensures { λ r. ⌜ r ≡ getD (now (pattern .entry)) (6 * p + 1) 0 ⌝ }
 {
-    tree::at(pattern, 3 * p + 1)
+    tree::at(pattern, 6 * p + 1)
 }
 
 // The row after the pattern term at the row p.
-pub fn next(pattern: &[u32; 768], p: usize) -> usize
-    requires { ⌜ 3 * p + 2 < length (now pattern) ⌝ }
-    ensures { λ r. ⌜ r ≡ p + getD (now (pattern .entry)) (3 * p + 2) 0 ⌝ }
+pub fn next(pattern: &[u32; 1536], p: usize) -> usize
+    requires { ⌜ 6 * p + 5 < length (now pattern) ⌝ }
+    ensures { λ r. ⌜ r ≡ p + getD (now (pattern .entry)) (6 * p + 2) 0 ⌝ }
 {
-    p + tree::at(pattern, 3 * p + 2)
-}
-
-// The walk comes to the pattern row p, which the row h holds, at the row t of the tree.
-fn come(at: &mut [usize; 512], p: usize, h: usize, t: usize)
-    requires { ⌜ p < 256 ⌝ }
-    ensures { λ _. ⌜ Came (now (at .entry)) p h t (now (at .exit)) ⌝ }
-{
-    at[2 * p] = t;
-    at[2 * p + 1] = h;
-}
-
-// The row of the tree at which the walk came to the pattern row p.
-pub fn row(at: &[usize; 512], p: usize) -> usize
-    requires { ⌜ p < 256 ⌝ }
-    ensures { λ r. ⌜ r ≡ getD (now (at .entry)) (2 * p) 0 ⌝ }
-{
-    at[2 * p]
+    p + tree::at(pattern, 6 * p + 2)
 }
 
 // The row of the pattern that holds the pattern row p.
-pub fn holder(at: &[usize; 512], p: usize) -> usize
-    requires { ⌜ p < 256 ⌝ }
-    ensures { λ r. ⌜ r ≡ getD (now (at .entry)) (2 * p + 1) 0 ⌝ }
+pub fn holder(pattern: &[u32; 1536], p: usize) -> usize
+    requires { ⌜ 6 * p + 5 < length (now pattern) ⌝ }
+    ensures { λ r. ⌜ r ≡ getD (now (pattern .entry)) (6 * p + 3) 0 ⌝ }
 {
-    at[2 * p + 1]
+    tree::at(pattern, 6 * p + 3)
 }
 
-// The pattern term at row p, which the row h holds, against the term at row t, where n variables are bound.
+// The walk comes to the pattern row p at the row t of the tree.
+fn come(at: &mut [usize; 256], p: usize, t: usize)
+    requires { ⌜ p < 256 ⌝ }
+    ensures { λ _. ⌜ Came (now (at .entry)) p t (now (at .exit)) ⌝ }
+{
+    at[p] = t;
+}
+
+// The row of the tree at which the walk came to the pattern row p.
+pub fn row(at: &[usize; 256], p: usize) -> usize
+    requires { ⌜ p < 256 ⌝ }
+    ensures { λ r. ⌜ r ≡ getD (now (at .entry)) p 0 ⌝ }
+{
+    at[p]
+}
+
+// The pattern term at row p against the term at row t, where n variables are bound.
 fn term(
     label: &[u32],
     size: &[u32],
-    pattern: &[u32; 768],
+    pattern: &[u32; 1536],
     record: &mut [u32; 32],
-    at: &mut [usize; 512],
-    h: usize,
+    at: &mut [usize; 256],
     p: usize,
     t: usize,
     n: usize,
 ) -> Out
-    requires { ⌜ TermPre (now label) (now size) (now pattern) (now «record») (now at) h p t n ⌝ }
-    ensures { λ r. ⌜ TermPost (now (label .entry)) (now (size .entry)) (now (pattern .entry)) (now («record» .entry)) (now (at .entry)) h p t n r (now («record» .exit)) (now (at .exit)) ⌝ }
+    requires { ⌜ TermPre (now label) (now size) (now pattern) (now «record») (now at) p t n ⌝ }
+    ensures { λ r. ⌜ TermPost (now (label .entry)) (now (size .entry)) (now (pattern .entry)) (now («record» .entry)) (now (at .entry)) p t n r (now («record» .exit)) (now (at .exit)) ⌝ }
 {
-    come(at, p, h, t);
+    come(at, p, t);
     let k = kind(pattern, p);
     let x = name(pattern, p);
     if k == 1 {
@@ -107,7 +159,7 @@ fn term(
         return match variable::context(label, size, record, x, t, n) {
             variable::Step::Fail => Out::Fail,
             variable::Step::Need => Out::Need(p, x, t),
-            variable::Step::Go(u) => term(label, size, pattern, record, at, p, p + 1, u, n),
+            variable::Step::Go(u) => term(label, size, pattern, record, at, p + 1, u, n),
         };
     }
     match variable::head(label, record, k, x, t, n) {
@@ -118,7 +170,6 @@ fn term(
             pattern,
             record,
             at,
-            p,
             p + 1,
             next(pattern, p),
             t + 1,
@@ -128,23 +179,21 @@ fn term(
     }
 }
 
-// The pattern's arguments from row p up to pe, which the row h holds, against the terms from row t up to te, where n variables are
-// bound. A loop, so that the recursion is no deeper than the pattern.
+// The pattern's arguments from row p up to pe against the terms from row t up to te, where n variables are bound. A loop, so that the recursion is no deeper than the pattern.
 fn args(
     label: &[u32],
     size: &[u32],
-    pattern: &[u32; 768],
+    pattern: &[u32; 1536],
     record: &mut [u32; 32],
-    at: &mut [usize; 512],
-    h: usize,
+    at: &mut [usize; 256],
     p: usize,
     pe: usize,
     t: usize,
     te: usize,
     n: usize,
 ) -> Out
-    requires { ⌜ ListPre (now label) (now size) (now pattern) (now «record») (now at) h p pe t te n ⌝ }
-    ensures { λ r. ⌜ ListPost (now (label .entry)) (now (size .entry)) (now (pattern .entry)) (now («record» .entry)) (now (at .entry)) h p pe t te n r (now («record» .exit)) (now (at .exit)) ⌝ }
+    requires { ⌜ ListPre (now label) (now size) (now pattern) (now «record») (now at) p pe t te n ⌝ }
+    ensures { λ r. ⌜ ListPost (now (label .entry)) (now (size .entry)) (now (pattern .entry)) (now («record» .entry)) (now (at .entry)) p pe t te n r (now («record» .exit)) (now (at .exit)) ⌝ }
 {
     let mut q = p;
     let mut u = t;
@@ -155,7 +204,7 @@ fn args(
             match variable::sequence(label, size, record, x, u, te, m) {
                 variable::Step::Fail => return Out::Fail,
                 variable::Step::Need => {
-                    come(at, q, h, u);
+                    come(at, q, u);
                     return Out::Need(q, x, u);
                 }
                 variable::Step::Go(v) => {
@@ -167,7 +216,7 @@ fn args(
             if u == te {
                 return Out::Fail;
             }
-            match term(label, size, pattern, record, at, h, q, u, m) {
+            match term(label, size, pattern, record, at, q, u, m) {
                 Out::Fail => return Out::Fail,
                 Out::Need(r, x, s) => return Out::Need(r, x, s),
                 Out::Ok(k) => {
@@ -189,9 +238,9 @@ fn args(
 fn up(
     label: &[u32],
     size: &[u32],
-    pattern: &[u32; 768],
+    pattern: &[u32; 1536],
     record: &mut [u32; 32],
-    at: &mut [usize; 512],
+    at: &mut [usize; 256],
     p: usize,
     n: usize,
 ) -> Out
@@ -201,7 +250,7 @@ fn up(
     let mut q = p;
     let mut m = n;
     while q != 0 {
-        let h = holder(at, q);
+        let h = holder(pattern, q);
         if kind(pattern, h) == 4 {
             q = h;
         } else {
@@ -213,7 +262,6 @@ fn up(
                 pattern,
                 record,
                 at,
-                h,
                 next(pattern, q),
                 next(pattern, h),
                 tree::next(size, t),
@@ -237,9 +285,9 @@ fn up(
 pub fn resume(
     label: &[u32],
     size: &[u32],
-    pattern: &[u32; 768],
+    pattern: &[u32; 1536],
     record: &mut [u32; 32],
-    at: &mut [usize; 512],
+    at: &mut [usize; 256],
     p: usize,
     u: usize,
     n: usize,
@@ -248,7 +296,7 @@ pub fn resume(
     ensures { λ r. ⌜ ResumePost (now (label .entry)) (now (size .entry)) (now (pattern .entry)) (now («record» .entry)) (now (at .entry)) p u n r (now («record» .exit)) (now (at .exit)) ⌝ }
 {
     if kind(pattern, p) == 2 {
-        let h = holder(at, p);
+        let h = holder(pattern, p);
         let g = row(at, h);
         return match args(
             label,
@@ -256,7 +304,6 @@ pub fn resume(
             pattern,
             record,
             at,
-            h,
             p + 1,
             next(pattern, h),
             u,
@@ -268,7 +315,7 @@ pub fn resume(
             Out::Ok(m) => up(label, size, pattern, record, at, h, m),
         };
     }
-    match term(label, size, pattern, record, at, p, p + 1, u, n) {
+    match term(label, size, pattern, record, at, p + 1, u, n) {
         Out::Fail => Out::Fail,
         Out::Need(r, x, s) => Out::Need(r, x, s),
         Out::Ok(m) => up(label, size, pattern, record, at, p, m),
@@ -279,9 +326,9 @@ pub fn resume(
 pub fn take(
     label: &[u32],
     size: &[u32],
-    pattern: &[u32; 768],
+    pattern: &[u32; 1536],
     record: &mut [u32; 32],
-    at: &mut [usize; 512],
+    at: &mut [usize; 256],
     p: usize,
     x: usize,
     s: usize,
@@ -299,12 +346,12 @@ pub fn take(
 pub fn begin(
     label: &[u32],
     size: &[u32],
-    pattern: &[u32; 768],
+    pattern: &[u32; 1536],
     record: &mut [u32; 32],
-    at: &mut [usize; 512],
+    at: &mut [usize; 256],
 ) -> Out
     requires { ⌜ BeginPre (now label) (now size) (now pattern) (now «record») (now at) ⌝ }
     ensures { λ r. ⌜ BeginPost (now (label .entry)) (now (size .entry)) (now (pattern .entry)) (now («record» .entry)) (now (at .entry)) r (now («record» .exit)) (now (at .exit)) ⌝ }
 {
-    term(label, size, pattern, record, at, 0, 0, 0, 0)
+    term(label, size, pattern, record, at, 0, 0, 0)
 }

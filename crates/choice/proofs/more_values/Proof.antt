@@ -11,10 +11,10 @@ kind-requires-2 : tie.Need-kind-requires-2
 kind-requires-2 c κs = values-room (more-at (c .before .before .before .pre)) .1
 
 holder-requires : tie.Need-holder-requires
-holder-requires c κs = more-room (c .before .before .before .before .before .pre) .0
+holder-requires c κs = more-room (c .before .before .before .before .before .pre) .1
 
 holder-requires-2 : tie.Need-holder-requires-2
-holder-requires-2 c κs = values-room (more-at (c .before .before .before .before .before .before .pre)) .0
+holder-requires-2 c κs = values-room (more-at (c .before .before .before .before .before .before .pre)) .1
 
 fewer-requires : tie.Need-fewer-requires
 fewer-requires c κs = more-fewer (c .before .before .before .before .before .before .kind .ensures) (c .before .before .before .before .before .if1 .taken) (c .before .before .before .before .kind2 .ensures) (c .before .before .before .if2 .taken) (c .before .before .holder .ensures) (c .before .holder2 .ensures) (c .if3 .taken) (c .before .before .before .before .before .before .before .before .pre)

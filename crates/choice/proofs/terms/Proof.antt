@@ -5,7 +5,7 @@ use Rattle.choice.proofs.terms.Statement.{statement}
 use Rattle.choice.proofs.terms.Tie as tie
 
 holder-requires : tie.Need-holder-requires
-holder-requires c κs = skip-room (c .before .before .pre .0) .0
+holder-requires c κs = skip-room (c .before .before .pre .0) .1
 
 add-if1 : tie.Need-add-if1
 add-if1 c = omega (arith, skip-room (c .before .before .before .pre .0))

@@ -13,7 +13,7 @@ returns : tie.Need-returns
 returns c = values-holes (c .before .before .kind .ensures) (c .before .if1 .taken) (c .at .ensures .0)
 
 holder-requires : tie.Need-holder-requires
-holder-requires c κs = values-room (c .before .before .before .pre) .0
+holder-requires c κs = values-room (c .before .before .before .pre) .1
 
 row-requires : tie.Need-row-requires
 row-requires c κs = values-holder (c .before .before .kind .ensures) (c .before .if1 .left) (c .holder .ensures) (c .before .before .before .before .pre) .0

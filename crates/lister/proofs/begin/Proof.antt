@@ -10,7 +10,7 @@ begun : (c : tie.After-begin) →
     let a = c .before .before .before .before .before .before .before .args in
     Begun (a .label .now) (a .size .now) (a .pattern .now) (a .tables .now)
     (a .constraint .now) (a .kinds .now) (a .room) (a .width) (a .out .now) (c .begin .last .1 .1 .1 .0) (c .begin .last .1 .1 .1 .1 .0) (c .begin .result)
-begun c = record { R = replicate 32 0; A = replicate 512 0; long = refl; rows-long = refl; pre = c .before .before .before .before .before .before .before .pre; walked = c .begin .ensures }
+begun c = record { R = replicate 32 0; A = replicate 256 0; long = refl; rows-long = refl; pre = c .before .before .before .before .before .before .before .pre; walked = c .begin .ensures }
 
 begin-requires : tie.Need-begin-requires
 begin-requires c κs = first-asked (c .before .before .before .before .before .before .pre) refl refl

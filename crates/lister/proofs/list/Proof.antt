@@ -48,7 +48,7 @@ begin-requires c κs =
     let k = w .before .before in
     let t = tabled k in
     let z = accepted t in
-    begin-asked _ (z .before .check .ensures) 0 _ (z .if1 .left) (t .tables-of .ensures) (k .pack .ensures) refl (w .room-for .ensures)
+    begin-asked _ (z .before .check .ensures) 0 _ (z .if1 .left) (t .tables-of .ensures) (k .pack .ensures .0) refl (w .room-for .ensures)
 
 same-length : tie.Need-same-length
 same-length c = search needs
@@ -59,7 +59,7 @@ returns-2 c =
     let k = w .before .before in
     let t = tabled k in
     let z = accepted t in
-    list-done _ (z .before .check .ensures) _ _ (z .if1 .left) (t .tables-of .ensures) (k .pack .ensures) refl (w .room-for .ensures)
+    list-done _ (z .before .check .ensures) _ _ (z .if1 .left) (t .tables-of .ensures) (k .pack .ensures .0) refl (w .room-for .ensures)
     (c .before .before .begin .ensures)
 
 pub list-spec : {M : Type 1} → statement M

@@ -30,10 +30,10 @@ use Rattle.walk.proofs.+args+term.Tie.{close}
 
 -- the rows that are left, of the pattern and of the tree
 abbrev μ-args : Measures 5 args-kinds.ps ℕ
-μ-args κs a = 2 * ((a .1 .1 .1 .1 .1 .1 .1 .0 - a .1 .1 .1 .1 .1 .1 .0) + (a .1 .1 .1 .1 .1 .1 .1 .1 .1 .0 - a .1 .1 .1 .1 .1 .1 .1 .1 .0)) + 1
+μ-args κs a = 2 * ((a .1 .1 .1 .1 .1 .1 .0 - a .1 .1 .1 .1 .1 .0) + (a .1 .1 .1 .1 .1 .1 .1 .1 .0 - a .1 .1 .1 .1 .1 .1 .1 .0)) + 1
 
 abbrev μ-term : Measures 5 term-kinds.ps ℕ
-μ-term κs a = 2 * (getD (a .1 .1 .0 .now) (3 * a .1 .1 .1 .1 .1 .1 .0 + 2) 0 + getD (a .1 .0 .now) (a .1 .1 .1 .1 .1 .1 .1 .0) 0)
+μ-term κs a = 2 * (getD (a .1 .1 .0 .now) (6 * a .1 .1 .1 .1 .1 .0 + 2) 0 + getD (a .1 .0 .now) (a .1 .1 .1 .1 .1 .1 .0) 0)
 
 abbrev args-at : ℕ → In 5 args-kinds.ps
 args-at t = and 5 args-kinds.ps (is 5 args-kinds.ps μ-args t) args.Pre
@@ -48,10 +48,10 @@ abbrev term-below : ℕ → In 5 term-kinds.ps
 term-below t = and 5 term-kinds.ps (falls 5 term-kinds.ps _<_ μ-term t) term.Pre
 
 abbrev args-Inv-loop : args-lts.InvT-loop
-args-Inv-loop label size pattern record₀ at₀ h p pe t te n q₀ u₀ m₀ record₁ at₁ q u m = Walking label size pattern record₀ record₁ at₀ at₁ h p pe t te n q u m
+args-Inv-loop label size pattern record₀ at₀ p pe t te n q₀ u₀ m₀ record₁ at₁ q u m = Walking label size pattern record₀ record₁ at₀ at₁ p pe t te n q u m
 
 abbrev args-μ-loop : args-lts.MeasureT-loop
-args-μ-loop label size pattern record₀ at₀ h p pe t te n q₀ u₀ m₀ record₁ at₁ q u m = pe - q
+args-μ-loop label size pattern record₀ at₀ p pe t te n q₀ u₀ m₀ record₁ at₁ q u m = pe - q
 
 -- what the callees of `args` ask and give
 abbrev args-claims : ℕ → args-lts.Claims
@@ -101,7 +101,7 @@ term-claims t = (
 turn : (t : ℕ) (c : args-lts.In-loop (args-claims t) (args-at t) args.Post args-Inv-loop args-μ-loop) →
     let a = c .before .before .before .before .args in
     let l = c .before .loop in
-    Turn (a .label .now) (a .size .now) (a .pattern .now) (a .«record» .now) (l .«record») (a .at .now) (l .at) (a .h)
+    Turn (a .label .now) (a .size .now) (a .pattern .now) (a .«record» .now) (l .«record») (a .at .now) (l .at)
     (a .p) (a .pe) (a .t) (a .te) (a .n) (l .q) (l .u) (l .m)
 turn t c = record { pre = c .before .before .before .before .pre .1; walking = c .before .loop .inv; more = c .loop-test .taken }
 
@@ -109,7 +109,7 @@ turn t c = record { pre = c .before .before .before .before .pre .1; walking = c
 at-sequence : (t : ℕ) (c : args-lts.After-name (args-claims t) (args-at t) args.Post args-Inv-loop args-μ-loop) →
     let a = c .before .before .before .before .before .before .before .args in
     let l = c .before .before .before .before .loop in
-    AtSequence (a .label .now) (a .size .now) (a .pattern .now) (a .«record» .now) (l .«record») (a .at .now) (l .at) (a .h)
+    AtSequence (a .label .now) (a .size .now) (a .pattern .now) (a .«record» .now) (l .«record») (a .at .now) (l .at)
     (a .p) (a .pe) (a .t) (a .te) (a .n) (l .q) (l .u) (l .m) (c .name .result)
 at-sequence t c = record { turn = turn t (c .before .before .before); kind = omega (arith, c .before .before .kind .ensures, c .before .if1 .taken); name = c .name .ensures }
 
@@ -117,7 +117,7 @@ at-sequence t c = record { turn = turn t (c .before .before .before); kind = ome
 at-term : (t : ℕ) (c : args-lts.Else2 (args-claims t) (args-at t) args.Post args-Inv-loop args-μ-loop) →
     let a = c .before .before .before .before .before .before .before .args in
     let l = c .before .before .before .before .loop in
-    AtTerm (a .label .now) (a .size .now) (a .pattern .now) (a .«record» .now) (l .«record») (a .at .now) (l .at) (a .h)
+    AtTerm (a .label .now) (a .size .now) (a .pattern .now) (a .«record» .now) (l .«record») (a .at .now) (l .at)
     (a .p) (a .pe) (a .t) (a .te) (a .n) (l .q) (l .u) (l .m)
 at-term t c = record { turn = turn t (c .before .before .before); kind = omega (arith, c .before .before .kind .ensures, c .before .if1 .left); left = c .if2 .left }
 
@@ -202,7 +202,7 @@ args-returns-7 t c = list-tree-left (c .before .before .loop .inv) (c .before .l
 -- the term's row, whose kind and name were read
 row : (t : ℕ) (c : term-lts.After-name (term-claims t) (term-at t) term.Post) →
     let a = c .before .before .before .before .before .before .args in
-    AtRow (a .label .now) (a .size .now) (a .pattern .now) (a .«record» .now) (a .at .now) (c .before .before .come .last .0) (a .h) (a .p) (a .t) (a .n) (c .before .kind .result) (c .name .result)
+    AtRow (a .label .now) (a .size .now) (a .pattern .now) (a .«record» .now) (a .at .now) (c .before .before .come .last .0) (a .p) (a .t) (a .n) (c .before .kind .result) (c .name .result)
 row t c = record { pre = c .before .before .before .before .before .before .pre .1; came = c .before .before .come .ensures; kind = c .before .kind .ensures; name = c .name .ensures }
 
 term-come-requires : (t : ℕ) → term-lts.Need-come-requires (term-claims t) (term-at t) term.Post

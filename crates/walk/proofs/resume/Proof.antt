@@ -9,22 +9,22 @@ kind-requires : tie.Need-kind-requires
 kind-requires c κs = resume-row (c .before .before .pre) .1
 
 holder-requires : tie.Need-holder-requires
-holder-requires c κs = resume-row (c .before .before .before .before .before .pre) .0
+holder-requires c κs = resume-row (c .before .before .before .before .pre) .1
 
 row-requires : tie.Need-row-requires
-row-requires c κs = resume-holder (omega (arith, c .before .before .before .before .kind .ensures, c .before .before .before .if1 .taken)) (c .before .holder .ensures) (c .before .before .before .before .before .before .before .pre) .0
+row-requires c κs = resume-holder (omega (arith, c .before .before .before .kind .ensures, c .before .before .if1 .taken)) (c .before .holder .ensures) (c .before .before .before .before .before .before .pre) .0
 
 add-args : tie.Need-add-args
-add-args c = omega (arith, resume-row (c .before .before .before .before .before .before .before .before .before .before .pre))
+add-args c = omega (arith, resume-row (c .before .before .before .before .before .before .before .before .before .pre))
 
 next-requires : tie.Need-next-requires
-next-requires c κs = resume-holder (omega (arith, c .before .before .before .before .before .before .before .kind .ensures, c .before .before .before .before .before .before .if1 .taken)) (c .before .before .before .before .holder .ensures) (c .before .before .before .before .before .before .before .before .before .before .pre) .1
+next-requires c κs = resume-holder (omega (arith, c .before .before .before .before .before .before .kind .ensures, c .before .before .before .before .before .if1 .taken)) (c .before .before .before .before .holder .ensures) (c .before .before .before .before .before .before .before .before .before .pre) .1
 
 next-requires-2 : tie.Need-next-requires-2
-next-requires-2 c κs = omega (arith, resume-holder (omega (arith, c .before .before .before .before .before .before .before .before .kind .ensures, c .before .before .before .before .before .before .before .if1 .taken)) (c .before .before .before .before .before .holder .ensures) (c .before .before .before .before .before .before .before .before .before .before .before .pre) .2, c .before .before .before .row .ensures)
+next-requires-2 c κs = omega (arith, resume-holder (omega (arith, c .before .before .before .before .before .before .before .kind .ensures, c .before .before .before .before .before .before .if1 .taken)) (c .before .before .before .before .before .holder .ensures) (c .before .before .before .before .before .before .before .before .before .before .pre) .2, c .before .before .before .row .ensures)
 
 args-requires : tie.Need-args-requires
-args-requires c κs = resume-list-pre (omega (arith, c .before .before .before .before .before .before .before .before .before .kind .ensures, c .before .before .before .before .before .before .before .before .if1 .taken)) (c .before .before .before .before .before .before .holder .ensures) (c .before .next .ensures) (c .before .before .before .before .row .ensures) (c .next2 .ensures) (c .before .before .before .before .before .before .before .before .before .before .before .before .pre)
+args-requires c κs = resume-list-pre (omega (arith, c .before .before .before .before .before .before .before .before .kind .ensures, c .before .before .before .before .before .before .before .if1 .taken)) (c .before .before .before .before .before .before .holder .ensures) (c .before .next .ensures) (c .before .before .before .before .row .ensures) (c .next2 .ensures) (c .before .before .before .before .before .before .before .before .before .before .before .pre)
 
 enum-told : tie.Need-enum-told
 enum-told c = search needs
@@ -36,16 +36,16 @@ enum-known-m : tie.Need-enum-known-m
 enum-known-m c = search needs
 
 up-requires : tie.Need-up-requires
-up-requires c κs = resume-up-pre (omega (arith, c .before .before .before .before .before .before .before .before .before .before .before .before .before .before .before .kind .ensures, c .before .before .before .before .before .before .before .before .before .before .before .before .before .before .if1 .taken)) (c .before .before .before .before .before .before .before .before .before .before .before .before .holder .ensures) (c .before .before .before .before .before .before .before .next .ensures) (c .before .before .before .before .before .before .before .before .before .before .row .ensures) (c .before .before .before .before .before .before .next2 .ensures) (c .before .before .before .before .before .args2 .ensures) (c .before .before .before .m .given .1) (c .before .before .before .before .before .before .before .before .before .before .before .before .before .before .before .before .before .before .pre)
+up-requires c κs = resume-up-pre (omega (arith, c .before .before .before .before .before .before .before .before .before .before .before .before .before .before .kind .ensures, c .before .before .before .before .before .before .before .before .before .before .before .before .before .if1 .taken)) (c .before .before .before .before .before .before .before .before .before .before .before .before .holder .ensures) (c .before .before .before .before .before .before .before .next .ensures) (c .before .before .before .before .before .before .before .before .before .before .row .ensures) (c .before .before .before .before .before .before .next2 .ensures) (c .before .before .before .before .before .args2 .ensures) (c .before .before .before .m .given .1) (c .before .before .before .before .before .before .before .before .before .before .before .before .before .before .before .before .before .pre)
 
 returns : tie.Need-returns
-returns c = resume-list-fails (omega (arith, c .before .before .before .before .before .before .before .before .before .before .before .before .kind .ensures, c .before .before .before .before .before .before .before .before .before .before .before .if1 .taken)) (c .before .before .before .before .before .before .before .before .before .holder .ensures) (c .before .before .before .before .next .ensures) (c .before .before .before .before .before .before .before .row .ensures) (c .before .before .before .next2 .ensures) (c .before .before .args2 .ensures) (c .enum-told .given .1)
+returns c = resume-list-fails (omega (arith, c .before .before .before .before .before .before .before .before .before .before .before .kind .ensures, c .before .before .before .before .before .before .before .before .before .before .if1 .taken)) (c .before .before .before .before .before .before .before .before .before .holder .ensures) (c .before .before .before .before .next .ensures) (c .before .before .before .before .before .before .before .row .ensures) (c .before .before .before .next2 .ensures) (c .before .before .args2 .ensures) (c .enum-told .given .1)
 
 returns-2 : tie.Need-returns-2
-returns-2 c = resume-list-needs (omega (arith, c .before .before .before .before .before .before .before .before .before .before .before .before .before .kind .ensures, c .before .before .before .before .before .before .before .before .before .before .before .before .if1 .taken)) (c .before .before .before .before .before .before .before .before .before .before .holder .ensures) (c .before .before .before .before .before .next .ensures) (c .before .before .before .before .before .before .before .before .row .ensures) (c .before .before .before .before .next2 .ensures) (c .before .before .before .args2 .ensures) (c .before .r .given .1)
+returns-2 c = resume-list-needs (omega (arith, c .before .before .before .before .before .before .before .before .before .before .before .before .kind .ensures, c .before .before .before .before .before .before .before .before .before .before .before .if1 .taken)) (c .before .before .before .before .before .before .before .before .before .before .holder .ensures) (c .before .before .before .before .before .next .ensures) (c .before .before .before .before .before .before .before .before .row .ensures) (c .before .before .before .before .next2 .ensures) (c .before .before .before .args2 .ensures) (c .before .r .given .1)
 
 returns-3 : tie.Need-returns-3
-returns-3 c = resume-up-is (omega (arith, c .before .before .before .before .before .before .before .before .before .before .before .before .before .before .before .before .kind .ensures, c .before .before .before .before .before .before .before .before .before .before .before .before .before .before .before .if1 .taken)) (c .before .before .before .before .before .before .before .before .before .before .before .before .before .holder .ensures) (c .before .before .before .before .before .before .before .before .next .ensures) (c .before .before .before .before .before .before .before .before .before .before .before .row .ensures) (c .before .before .before .before .before .before .before .next2 .ensures) (c .before .before .before .before .before .before .args2 .ensures) (c .before .before .before .before .m .given .1) (c .up .ensures)
+returns-3 c = resume-up-is (omega (arith, c .before .before .before .before .before .before .before .before .before .before .before .before .before .before .before .kind .ensures, c .before .before .before .before .before .before .before .before .before .before .before .before .before .before .if1 .taken)) (c .before .before .before .before .before .before .before .before .before .before .before .before .before .holder .ensures) (c .before .before .before .before .before .before .before .before .next .ensures) (c .before .before .before .before .before .before .before .before .before .before .before .row .ensures) (c .before .before .before .before .before .before .before .next2 .ensures) (c .before .before .before .before .before .before .args2 .ensures) (c .before .before .before .before .m .given .1) (c .up .ensures)
 
 add-term : tie.Need-add-term
 add-term c = omega (arith, resume-row (c .before .before .before .before .before .before .pre))

@@ -21,58 +21,58 @@ loop-holds : tie.Need-loop-holds Inv-loop μ-loop
 loop-holds c = rising-first
 
 holder-requires : tie.Need-holder-requires Inv-loop μ-loop
-holder-requires c κs = up-holding (below (c .before)) .few
+holder-requires c κs = up-holding (below c) .room
 
 kind-requires : tie.Need-kind-requires Inv-loop μ-loop
-kind-requires c κs = omega (arith, up-holding (below (c .before .before)) .room, up-holding (below (c .before .before)) .lower, c .holder .ensures)
+kind-requires c κs = omega (arith, up-holding (below (c .before)) .room, up-holding (below (c .before)) .lower, c .holder .ensures)
 
 loop-less : tie.Need-loop-less Inv-loop μ-loop
-loop-less c = omega (arith, up-holding (below (c .before .before .before .before)) .lower, c .before .before .holder .ensures)
+loop-less c = omega (arith, up-holding (below (c .before .before .before)) .lower, c .before .before .holder .ensures)
 
 loop-again : tie.Need-loop-again Inv-loop μ-loop
-loop-again c = up-context (below (c .before .before .before .before)) (c .before .before .holder .ensures) (omega (arith, c .before .kind .ensures, c .if1 .taken))
+loop-again c = up-context (below (c .before .before .before)) (c .before .before .holder .ensures) (omega (arith, c .before .kind .ensures, c .if1 .taken))
 
 row-requires : tie.Need-row-requires Inv-loop μ-loop
-row-requires c κs = up-holding (below (c .before .before .before .before .before)) .few
+row-requires c κs = up-holding (below (c .before .before .before .before)) .few
 
 row-requires-2 : tie.Need-row-requires-2 Inv-loop μ-loop
-row-requires-2 c κs = up-row (below (c .before .before .before .before .before .before .before)) (c .before .before .before .before .before .holder .ensures) (omega (arith, c .before .before .before .before .kind .ensures, c .before .before .before .if1 .left)) .1
+row-requires-2 c κs = up-row (below (c .before .before .before .before .before .before)) (c .before .before .before .before .before .holder .ensures) (omega (arith, c .before .before .before .before .kind .ensures, c .before .before .before .if1 .left)) .1
 
 next-requires : tie.Need-next-requires Inv-loop μ-loop
-next-requires c κs = up-holding (below (c .before .before .before .before .before .before .before .before .before .before)) .room
+next-requires c κs = up-holding (below (c .before .before .before .before .before .before .before .before .before)) .room
 
 next-requires-2 : tie.Need-next-requires-2 Inv-loop μ-loop
-next-requires-2 c κs = up-row (below (c .before .before .before .before .before .before .before .before .before .before .before)) (c .before .before .before .before .before .before .before .before .before .holder .ensures) (omega (arith, c .before .before .before .before .before .before .before .before .kind .ensures, c .before .before .before .before .before .before .before .if1 .left)) .2
+next-requires-2 c κs = up-row (below (c .before .before .before .before .before .before .before .before .before .before)) (c .before .before .before .before .before .before .before .before .before .holder .ensures) (omega (arith, c .before .before .before .before .before .before .before .before .kind .ensures, c .before .before .before .before .before .before .before .if1 .left)) .2
 
 next-requires-3 : tie.Need-next-requires-3 Inv-loop μ-loop
-next-requires-3 c κs = omega (arith, up-holding (below (c .before .before .before .before .before .before .before .before .before .before .before .before)) .row, c .before .before .before .before .before .before .row .ensures)
+next-requires-3 c κs = omega (arith, up-holding (below (c .before .before .before .before .before .before .before .before .before .before .before)) .row, c .before .before .before .before .before .before .row .ensures)
 
 next-requires-4 : tie.Need-next-requires-4 Inv-loop μ-loop
-next-requires-4 c κs = omega (arith, up-row (below (c .before .before .before .before .before .before .before .before .before .before .before .before .before)) (c .before .before .before .before .before .before .before .before .before .before .before .holder .ensures) (omega (arith, c .before .before .before .before .before .before .before .before .before .before .kind .ensures, c .before .before .before .before .before .before .before .before .before .if1 .left)) .0, c .before .before .before .before .before .row2 .ensures)
+next-requires-4 c κs = omega (arith, up-row (below (c .before .before .before .before .before .before .before .before .before .before .before .before)) (c .before .before .before .before .before .before .before .before .before .before .before .holder .ensures) (omega (arith, c .before .before .before .before .before .before .before .before .before .before .kind .ensures, c .before .before .before .before .before .before .before .before .before .if1 .left)) .0, c .before .before .before .before .before .row2 .ensures)
 
 args-requires : tie.Need-args-requires Inv-loop μ-loop
-args-requires c κs = up-list-pre (below (c .before .before .before .before .before .before .before .before .before .before .before .before .before .before)) (c .before .before .before .before .before .before .before .before .before .before .before .before .holder .ensures) (omega (arith, c .before .before .before .before .before .before .before .before .before .before .before .kind .ensures, c .before .before .before .before .before .before .before .before .before .before .if1 .left)) (c .before .before .before .next .ensures) (c .before .before .next2 .ensures) (c .before .before .before .before .before .before .before .before .row .ensures) (c .before .next3 .ensures) (c .before .before .before .before .before .before .row2 .ensures) (c .next4 .ensures)
+args-requires c κs = up-list-pre (below (c .before .before .before .before .before .before .before .before .before .before .before .before .before)) (c .before .before .before .before .before .before .before .before .before .before .before .before .holder .ensures) (omega (arith, c .before .before .before .before .before .before .before .before .before .before .before .kind .ensures, c .before .before .before .before .before .before .before .before .before .before .if1 .left)) (c .before .before .before .next .ensures) (c .before .before .next2 .ensures) (c .before .before .before .before .before .before .before .before .row .ensures) (c .before .next3 .ensures) (c .before .before .before .before .before .before .row2 .ensures) (c .next4 .ensures)
 
 enum-told : tie.Need-enum-told Inv-loop μ-loop
 enum-told c = search needs
 
 returns : tie.Need-returns Inv-loop μ-loop
-returns c = up-fails (below (c .before .before .before .before .before .before .before .before .before .before .before .before .before .before .before .before .before)) (c .before .before .before .before .before .before .before .before .before .before .before .before .before .before .before .holder .ensures) (omega (arith, c .before .before .before .before .before .before .before .before .before .before .before .before .before .before .kind .ensures, c .before .before .before .before .before .before .before .before .before .before .before .before .before .if1 .left)) (c .before .before .before .before .before .before .next .ensures) (c .before .before .before .before .before .next2 .ensures) (c .before .before .before .before .before .before .before .before .before .before .before .row .ensures) (c .before .before .before .before .next3 .ensures) (c .before .before .before .before .before .before .before .before .before .row2 .ensures) (c .before .before .before .next4 .ensures) (c .before .before .args2 .ensures) (c .enum-told .given .1)
+returns c = up-fails (below (c .before .before .before .before .before .before .before .before .before .before .before .before .before .before .before .before)) (c .before .before .before .before .before .before .before .before .before .before .before .before .before .before .before .holder .ensures) (omega (arith, c .before .before .before .before .before .before .before .before .before .before .before .before .before .before .kind .ensures, c .before .before .before .before .before .before .before .before .before .before .before .before .before .if1 .left)) (c .before .before .before .before .before .before .next .ensures) (c .before .before .before .before .before .next2 .ensures) (c .before .before .before .before .before .before .before .before .before .before .before .row .ensures) (c .before .before .before .before .next3 .ensures) (c .before .before .before .before .before .before .before .before .before .row2 .ensures) (c .before .before .before .next4 .ensures) (c .before .before .args2 .ensures) (c .enum-told .given .1)
 
 enum-known-r : tie.Need-enum-known-r Inv-loop μ-loop
 enum-known-r c = search needs
 
 returns-2 : tie.Need-returns-2 Inv-loop μ-loop
-returns-2 c = up-needs (below (c .before .before .before .before .before .before .before .before .before .before .before .before .before .before .before .before .before .before)) (c .before .before .before .before .before .before .before .before .before .before .before .before .before .before .before .before .holder .ensures) (omega (arith, c .before .before .before .before .before .before .before .before .before .before .before .before .before .before .before .kind .ensures, c .before .before .before .before .before .before .before .before .before .before .before .before .before .before .if1 .left)) (c .before .before .before .before .before .before .before .next .ensures) (c .before .before .before .before .before .before .next2 .ensures) (c .before .before .before .before .before .before .before .before .before .before .before .before .row .ensures) (c .before .before .before .before .before .next3 .ensures) (c .before .before .before .before .before .before .before .before .before .before .row2 .ensures) (c .before .before .before .before .next4 .ensures) (c .before .before .before .args2 .ensures) (c .before .r .given .1)
+returns-2 c = up-needs (below (c .before .before .before .before .before .before .before .before .before .before .before .before .before .before .before .before .before)) (c .before .before .before .before .before .before .before .before .before .before .before .before .before .before .before .before .holder .ensures) (omega (arith, c .before .before .before .before .before .before .before .before .before .before .before .before .before .before .before .kind .ensures, c .before .before .before .before .before .before .before .before .before .before .before .before .before .before .if1 .left)) (c .before .before .before .before .before .before .before .next .ensures) (c .before .before .before .before .before .before .next2 .ensures) (c .before .before .before .before .before .before .before .before .before .before .before .before .row .ensures) (c .before .before .before .before .before .next3 .ensures) (c .before .before .before .before .before .before .before .before .before .before .row2 .ensures) (c .before .before .before .before .next4 .ensures) (c .before .before .before .args2 .ensures) (c .before .r .given .1)
 
 enum-known-k : tie.Need-enum-known-k Inv-loop μ-loop
 enum-known-k c = search needs
 
 loop-less-2 : tie.Need-loop-less-2 Inv-loop μ-loop
-loop-less-2 c = omega (arith, up-holding (below (c .before .before .before .before .before .before .before .before .before .before .before .before .before .before .before .before .before .before)) .lower, c .before .before .before .before .before .before .before .before .before .before .before .before .before .before .before .before .holder .ensures)
+loop-less-2 c = omega (arith, up-holding (below (c .before .before .before .before .before .before .before .before .before .before .before .before .before .before .before .before .before)) .lower, c .before .before .before .before .before .before .before .before .before .before .before .before .before .before .before .before .holder .ensures)
 
 loop-again-2 : tie.Need-loop-again-2 Inv-loop μ-loop
-loop-again-2 c = up-goes (below (c .before .before .before .before .before .before .before .before .before .before .before .before .before .before .before .before .before .before)) (c .before .before .before .before .before .before .before .before .before .before .before .before .before .before .before .before .holder .ensures) (omega (arith, c .before .before .before .before .before .before .before .before .before .before .before .before .before .before .before .kind .ensures, c .before .before .before .before .before .before .before .before .before .before .before .before .before .before .if1 .left)) (c .before .before .before .before .before .before .before .next .ensures) (c .before .before .before .before .before .before .next2 .ensures) (c .before .before .before .before .before .before .before .before .before .before .before .before .row .ensures) (c .before .before .before .before .before .next3 .ensures) (c .before .before .before .before .before .before .before .before .before .before .row2 .ensures) (c .before .before .before .before .next4 .ensures) (c .before .before .before .args2 .ensures) (c .before .k .given .1)
+loop-again-2 c = up-goes (below (c .before .before .before .before .before .before .before .before .before .before .before .before .before .before .before .before .before)) (c .before .before .before .before .before .before .before .before .before .before .before .before .before .before .before .before .holder .ensures) (omega (arith, c .before .before .before .before .before .before .before .before .before .before .before .before .before .before .before .kind .ensures, c .before .before .before .before .before .before .before .before .before .before .before .before .before .before .if1 .left)) (c .before .before .before .before .before .before .before .next .ensures) (c .before .before .before .before .before .before .next2 .ensures) (c .before .before .before .before .before .before .before .before .before .before .before .before .row .ensures) (c .before .before .before .before .before .next3 .ensures) (c .before .before .before .before .before .before .before .before .before .before .row2 .ensures) (c .before .before .before .before .next4 .ensures) (c .before .before .before .args2 .ensures) (c .before .k .given .1)
 
 returns-3 : tie.Need-returns-3 Inv-loop μ-loop
 returns-3 c = up-ends (c .before .loop .inv) (c .loop-test .left)
