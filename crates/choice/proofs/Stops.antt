@@ -92,13 +92,13 @@ pub record AtTerm (L S K N Z : List ℕ) (Q : List Kind) (p x s : ℕ) (w : Stop
 
 module _ {L S A K N Z : List ℕ} {Q : List Kind} {p x s : ℕ} where
   pub in-list : {w : Stop} {fs : List Frame} → Stands L S A K N Z Q p x s w fs → getD K p 0 ≡ 2 → InList L S A K N Z Q p x s w fs
-  in-list (before-terms {h} {pe} {te} {ps} {us} c k e l pt g t hd) two =
+  in-list (before-terms {h} {pe} {te} {ps} {us} c nm k e l pt g t hd) two =
       record { h = h; pe = pe; te = te; ps = ps; us = us; is = refl; holds = e; lower = e .past .lower; pattern = pt; good = g; tree = t; held = hd }
-  in-list (over-term c k z i g t m b) two = absurd (omega arith)
+  in-list (over-term c nm k z i g t m b) two = absurd (omega arith)
 
   pub at-term : {w : Stop} {fs : List Frame} → Stands L S A K N Z Q p x s w fs → getD K p 0 ≢ 2 → AtTerm L S K N Z Q p x s w
-  at-term (before-terms c k e l pt g t hd) two = absurd (two k)
-  at-term (over-term {h} {q} {T} c k z i g t m b) two = record { q = q; T = T; is = refl; pattern = i; good = g; tree = t }
+  at-term (before-terms c nm k e l pt g t hd) two = absurd (two k)
+  at-term (over-term {h} {q} {T} c nm k z i g t m b) two = record { q = q; T = T; is = refl; pattern = i; good = g; tree = t }
 
 -- where a value lands
 pub lands-list : {L S : List ℕ} {s u d : ℕ} {ps : Patterns} {us : Forest} → Lands L S s u d (at-sequence ps us) → (e : ℕ) × Behind L S s e us u d

@@ -66,8 +66,8 @@ fail-not-need : {p x s : ℕ} → out.Fail ≡ out.Need p x s → ⊥
 fail-not-need e = let z : _≡_ {A = ℕ} 0 1 = cc in omega arith
 
 -- one problem that is searched
-module _ {L S M tables : List ℕ} {C kinds : List ℕ} {T : Term} {P : Pattern} {Q : List Kind} {es : List Expression} {cs : List Constraint}
-    (w : Search L S M tables C kinds T P Q es cs) where
+module _ {L S M tables : List ℕ} {T : Term} {P : Pattern} {Q : List Kind} {es : List Expression} {cs : List Constraint}
+    (w : Search L S M tables T P Q es cs) where
   abbrev pub numbered : Numbered P Q
   numbered = w .pattern .numbered
 
@@ -191,7 +191,7 @@ module _ {L S M tables : List ℕ} {C kinds : List ℕ} {T : Term} {P : Pattern}
     -- what a try comes to: the walk's answer on one choice more, the levels after it, and where the last level's value stands
     pub try-answered : {o : Out} {R′ A′ : List ℕ} {r : ℕ} → length R ≡ 32 → d < length U → d < length Nx → d < length F
         → FurtherPost S M (getD G d 0) (getD U d 0) (getD F d 0 - 1) r
-        → AttemptPost L S M tables C kinds R A (getD G d 0) (getD X d 0) (getD St d 0) (getD U d 0) (getD Nx d 0) o R′ A′
+        → AttemptPost L S M tables R A (getD G d 0) (getD X d 0) (getD St d 0) (getD U d 0) (getD Nx d 0) o R′ A′
         → Answers R′ o (walk (Allowed cs) (allowed? cs) P T (take (suc d) (set vals d (getD Nx d 0))))
         × Leveled (set vals d (getD Nx d 0)) X St (set Nx d (getD Nx d 0 + 1)) (set F d (getD F d 0 - 1)) (suc d)
         × Paused R′ A′ (set vals d (getD Nx d 0)) G X St (set U d r) (set Nx d (getD Nx d 0 + 1)) (set F d (getD F d 0 - 1)) (suc d)

@@ -1,3 +1,4 @@
+pub mod Columns
 pub mod Pauses
 pub mod Tried
 pub mod Going

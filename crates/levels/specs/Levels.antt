@@ -14,7 +14,7 @@ use Rattle.pattern.specs.Good.{GoodPattern}
 use Rattle.expression.specs.Expression.{Expression}
 use Rattle.constraint.specs.Obeys.{Constraint, Allowed}
 use Rattle.problem.specs.Judge.{Judging}
-use Rattle.walk.specs.Packed.{Packed}
+use Rattle.walk.specs.Packed.{Packed, Bounds}
 use Rattle.walk.specs.Above.{Marks, Unchanged}
 use Rattle.walk.specs.Cycle.{Needs, Agree}
 use Rattle.walk.specs.Onward.{Lands}
@@ -23,24 +23,27 @@ use Rattle.walk.specs.declared.Out.{Out}
 use Rattle.walk.specs.declared.Out.the-variants as out
 
 -- the problem that is searched: the tree, the packed pattern, the constraints and the tables of the expressions
-pub record Search (L S M tables : List ℕ) (C kinds : List ℕ) (T : Term) (P : Pattern) (Q : List Kind) (es : List Expression) (cs : List Constraint) : Type 0 where
+pub record Search (L S M tables : List ℕ) (T : Term) (P : Pattern) (Q : List Kind) (es : List Expression) (cs : List Constraint) : Type 0 where
   pub K : List ℕ
   pub N : List ℕ
   pub Z : List ℕ
+  pub C : List ℕ
+  pub kinds : List ℕ
   pub judging : Judging L S tables C kinds T Q es cs
   pub pattern : GoodPattern K N Z P Q
   pub packed : Packed K N Z M
+  pub bounds : Bounds K N C M
 
 -- one try: the value v of the variable x at the pattern row p, which starts at the row s; f is the walk that asked for it
-pub record AttemptPre (L S M tables : List ℕ) (C kinds R A : List ℕ) (p x s u v : ℕ) : Type 0 where
+pub record AttemptPre (L S M tables R A : List ℕ) (p x s u v : ℕ) : Type 0 where
   pub long : length R ≡ 32
   pub some : (T : Term) × (P : Pattern) × (Q : List Kind) × (es : List Expression) × (cs : List Constraint) × (k : Kind) × (f : List ℕ → Res) × (lo : ℕ) × (hi : ℕ)
-      × (w : Search L S M tables C kinds T P Q es cs) × (look Q x ≡ old k) × Fits k (T ◂ none) s v × TakeAsked L S M R A p x s u v (w .K) (w .N) (w .Z) Q f lo hi
+      × (w : Search L S M tables T P Q es cs) × (look Q x ≡ old k) × Fits k (T ◂ none) s v × TakeAsked L S M R A p x s u v (w .K) (w .N) (w .Z) Q f lo hi
 
 -- where the value is not allowed it fails; else the walk goes on with it. What stands before the variable is kept.
-pub record AttemptPost (L S M tables : List ℕ) (C kinds R A : List ℕ) (p x s u v : ℕ) (o : Out) (R′ A′ : List ℕ) : Type 0 where
+pub record AttemptPost (L S M tables R A : List ℕ) (p x s u v : ℕ) (o : Out) (R′ A′ : List ℕ) : Type 0 where
   pub is : (T : Term) (P : Pattern) (Q : List Kind) (es : List Expression) (cs : List Constraint) (k : Kind) (f : List ℕ → Res) (lo hi : ℕ)
-      (w : Search L S M tables C kinds T P Q es cs) → look Q x ≡ old k → Fits k (T ◂ none) s v → TakeAsked L S M R A p x s u v (w .K) (w .N) (w .Z) Q f lo hi
+      (w : Search L S M tables T P Q es cs) → look Q x ≡ old k → Fits k (T ◂ none) s v → TakeAsked L S M R A p x s u v (w .K) (w .N) (w .Z) Q f lo hi
       → ((Allowed cs x (valueAt k (T ◂ none) s v) → ⊥) → o ≡ out.Fail)
       × (Allowed cs x (valueAt k (T ◂ none) s v) → (m : ℕ) × Agree L S R′ A′ (w .K) (w .N) (w .Z) Q (p + 1) m [] (λ ds. f (v ∷ ds)) o)
       × Unchanged (x + x) R R′ × Unchanged (p + 1) A A′

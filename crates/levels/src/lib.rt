@@ -1,44 +1,115 @@
-// The levels of the search: one try.
+// The levels of the search: a choice each, in the order of the pattern's rows, with the values that are left; and one try.
+ghost use mathlib.Core.Path.{_≡_};
+ghost use Prim.Native.Nat.{_≤_};
+ghost use lib.ListN.{length};
+ghost use Rattle.listing.proofs.Back.{BackTo};
+ghost use Rattle.walk.specs.Packed.{rootOf};
 ghost use Rattle.memory.specs.Memory.{Both};
+ghost use Rattle.levels.specs.Columns.{lefts, Inside, Standing, Moved, Entered};
 ghost use Rattle.levels.specs.Levels.{AttemptPre, AttemptPost};
 
-// One try: the variable x at the pattern row p, which starts at the row s, takes the value v. The constraint is judged before the
-// walk goes on, at the row u.
+// A level: the pattern row of its variable, the variable, the row where it starts, the row at which the walk goes on with the next
+// value, that value, and how many are left.
+pub struct Level {
+    pub place: usize,
+    pub variable: usize,
+    pub start: usize,
+    pub row: usize,
+    pub next: usize,
+    pub left: usize,
+}
+
+// What stands at the level d.
+pub fn standing(levels: &[usize; 1536], d: usize) -> Level
+    requires { ⌜ Inside (now levels) d ⌝ }
+    ensures { λ r. ⌜ Standing (now (levels .entry)) d (r .place) (r .variable) (r .start) (r .row) (r .next) (r .left) ⌝ }
+{
+    let at = 6 * d;
+    Level {
+        place: levels[at],
+        variable: levels[at + 1],
+        start: levels[at + 2],
+        row: levels[at + 3],
+        next: levels[at + 4],
+        left: levels[at + 5],
+    }
+}
+
+// The level d goes on to its next value.
+pub fn advance(levels: &mut [usize; 1536], d: usize, row: usize, next: usize, left: usize)
+    requires { ⌜ Inside (now levels) d ⌝ }
+    ensures { λ _. ⌜ Moved (now (levels .entry)) d row next left (now (levels .exit)) ⌝ }
+{
+    let at = 6 * d;
+    levels[at + 3] = row;
+    levels[at + 4] = next;
+    levels[at + 5] = left;
+}
+
+// The level d is for the variable that the walk stopped at, at the pattern row p and the row s, with so many values from the least on.
+pub fn enter(
+    levels: &mut [usize; 1536],
+    d: usize,
+    p: usize,
+    x: usize,
+    s: usize,
+    least: usize,
+    values: usize,
+)
+    requires { ⌜ Inside (now levels) d ⌝ }
+    ensures { λ _. ⌜ Entered (now (levels .entry)) d p x s least values (now (levels .exit)) ⌝ }
+{
+    let at = 6 * d;
+    levels[at] = p;
+    levels[at + 1] = x;
+    levels[at + 2] = s;
+    advance(levels, d, s, least, values);
+}
+
+// The depth with the levels taken off that have nothing left.
+pub fn back(levels: &[usize; 1536], depth: usize) -> usize
+    requires { ⌜ (depth ≤ 256) × (length (now levels) ≡ 1536) ⌝ }
+    ensures { λ r. ⌜ BackTo (lefts (now (levels .entry))) depth r ⌝ }
+{
+    let mut d = depth;
+    while 0 < d {
+        if levels[6 * (d - 1) + 5] != 0 {
+            return d;
+        }
+        d -= 1;
+    }
+    0
+}
+
+// A value to be tried: the variable x at the pattern row p, which starts at the row s, takes the value v, and the walk goes on at the
+// row u.
+pub struct Try {
+    pub p: usize,
+    pub x: usize,
+    pub s: usize,
+    pub u: usize,
+    pub v: usize,
+}
+
+// One try. The constraint is judged before the walk goes on.
 pub fn attempt(
     label: &[u32],
     size: &[u32],
     pattern: &[u32; 1536],
     tables: &[u64; 320],
-    constraint: &[u32],
-    kinds: &[u32; 16],
     record: &mut [u32; 32],
     at: &mut [usize; 256],
-    p: usize,
-    x: usize,
-    s: usize,
-    u: usize,
-    v: usize,
-    memory: &mut [usize; 80],
+    t: Try,
+    memory: &mut [usize; 1280],
     path: &mut [usize; 259],
 ) -> walk::Out
-    requires { ⌜ AttemptPre (now label) (now size) (now pattern) (now tables) (now constraint) (now kinds) (now «record») (now at) p x s u v
-        × Both (now label) (now size) (now tables) (now constraint) (now memory) (now path) ⌝ }
-    ensures { λ r. ⌜ AttemptPost (now (label .entry)) (now (size .entry)) (now (pattern .entry)) (now (tables .entry)) (now (constraint .entry)) (now (kinds .entry)) (now («record» .entry)) (now (at .entry)) p x s u v r (now («record» .exit)) (now (at .exit))
-        × Both (now (label .entry)) (now (size .entry)) (now (tables .entry)) (now (constraint .entry)) (now (memory .exit)) (now (path .exit)) ⌝ }
+    requires { ⌜ AttemptPre (now label) (now size) (now pattern) (now tables) (now «record») (now at) (t .p) (t .x) (t .s) (t .u) (t .v)
+        × Both (now label) (now size) (now tables) (rootOf (now pattern)) (now memory) (now path) ⌝ }
+    ensures { λ r. ⌜ AttemptPost (now (label .entry)) (now (size .entry)) (now (pattern .entry)) (now (tables .entry)) (now («record» .entry)) (now (at .entry)) (t .p) (t .x) (t .s) (t .u) (t .v) r (now («record» .exit)) (now (at .exit))
+        × Both (now (label .entry)) (now (size .entry)) (now (tables .entry)) (rootOf (now (pattern .entry))) (now (memory .exit)) (now (path .exit)) ⌝ }
 {
-    if !memory::judge(
-        label,
-        size,
-        tables,
-        constraint,
-        kinds,
-        x,
-        s,
-        v,
-        memory,
-        path,
-    ) {
+    if !memory::judge(label, size, pattern, tables, t.p, t.s, t.v, memory, path) {
         return walk::Out::Fail;
     }
-    walk::take(label, size, pattern, record, at, p, x, s, u, v)
+    walk::take(label, size, pattern, record, at, t.p, t.x, t.s, t.u, t.v)
 }

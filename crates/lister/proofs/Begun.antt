@@ -3,7 +3,7 @@ use Prim.Native.Nat.{ℕ, suc, _+_, _-_, _*_, _<_, _≤_}
 use mathlib.Core.Path.{_≡_, refl, ap, _∙_, sym, subst}
 use mathlib.Core.Bool.{Bool}
 use mathlib.Core.List.{List, []}
-use lib.ListN.{length, take, set, replicate}
+use lib.ListN.{length, take, set, replicate, length-set, length-replicate}
 use lib.Seq.{paste}
 use native.Mathlib.Omega.{arith}
 use Rattle.meaning.specs.Forest.{Term, size}
@@ -35,21 +35,23 @@ use Rattle.search.specs.Search.{GoAsked, GoPre, GoPost}
 use Rattle.search.specs.declared.Found.{Found}
 use Rattle.levels.proofs.Going.{is-fixed, individuals, functions}
 use Rattle.levels.proofs.Pauses.{pauses-first}
+use Rattle.levels.specs.Columns.{places, variables, starts, rows, nexts, lefts, Entered}
+use Rattle.levels.proofs.Columns.{first-level}
 use Rattle.lister.specs.Begun.{BeginAsked, BeginPre, BeginPost}
 
 -- the first walk was made: its answer o, the record R′ and the rows A′
-pub record Begun (L S M tables : List ℕ) (C kinds : List ℕ)
+pub record Begun (L S M tables : List ℕ)
     (room width : ℕ) (before R′ A′ : List ℕ) (o : Out) : Type 0 where
   pub R : List ℕ
   pub A : List ℕ
   pub long : length R ≡ 32
   pub rows-long : length A ≡ 256
-  pub pre : BeginPre L S M tables C kinds room width before
+  pub pre : BeginPre L S M tables room width before
   pub walked : onward.BeginPost L S M R A o R′ A′
 
-module _ {L S M tables : List ℕ} {C kinds : List ℕ} {room width : ℕ} {before : List ℕ} where
+module _ {L S M tables : List ℕ} {room width : ℕ} {before : List ℕ} where
   module _ {T : Term} {P : Pattern} {Q : List Kind} {es : List Expression} {cs : List Constraint}
-      (a : BeginAsked L S M tables C kinds room width before T P Q es cs) where
+      (a : BeginAsked L S M tables room width before T P Q es cs) where
     fixed : Fixed (walked (Allowed cs) (allowed? cs) (a .search .pattern .numbered) T) (count Q) (size T) width room before
     fixed = is-fixed (a .search) (a .wide) (a .fits)
 
@@ -66,15 +68,15 @@ module _ {L S M tables : List ℕ} {C kinds : List ℕ} {room width : ℕ} {befo
           marks = record { few = a .search .pattern .few; long = l };
         }
 
-  pub first-asked : {R A : List ℕ} → BeginPre L S M tables C kinds room width before → length R ≡ 32 → length A ≡ 256 → onward.BeginPre L S M R A
+  pub first-asked : {R A : List ℕ} → BeginPre L S M tables room width before → length R ≡ 32 → length A ≡ 256 → onward.BeginPre L S M R A
   first-asked p h l = let s = p .some in record { some = (s .0, s .1, s .2, problem (s .5) h l) }
 
-  module _ {R′ A′ : List ℕ} {o : Out} (b : Begun L S M tables C kinds room width before R′ A′ o) where
+  module _ {R′ A′ : List ℕ} {o : Out} (b : Begun L S M tables room width before R′ A′ o) where
     abbrev Asked : Term → Pattern → List Kind → List Expression → List Constraint → Type 0
-    Asked = BeginAsked L S M tables C kinds room width before
+    Asked = BeginAsked L S M tables room width before
 
     abbrev Post : ℕ → Found → List ℕ → Type 0
-    Post budget = BeginPost L S M tables C kinds budget room width before
+    Post budget = BeginPost L S M tables budget room width before
 
     answered : {T : Term} {P : Pattern} {Q : List Kind} {es : List Expression} {cs : List Constraint} (a : Asked T P Q es cs)
         → Answers R′ o (walk (Allowed cs) (allowed? cs) P T [])
@@ -133,7 +135,7 @@ module _ {L S M tables : List ℕ} {C kinds : List ℕ} {room width : ℕ} {befo
 
       -- the levels' lists with the first level in them
       abbrev level : ℕ → List ℕ
-      level k = set (replicate 16 0) 0 k
+      level k = set (replicate 256 0) 0 k
 
       module _ {lo n : ℕ} (low : LeastPost M p s lo) (values : ValuesPost S M A′ p s n) where
         -- they are the values that the walk asked for
@@ -154,10 +156,11 @@ module _ {L S M tables : List ℕ} {C kinds : List ℕ} {room width : ℕ} {befo
             (needs a .1, v .1, omega (arith, m .1, v .0), rw (v .0) at (needed a), subst (λ (i : ℕ). Needs L S R′ A′ (a .search .K) (a .search .N) (a .search .Z) Q [] (walkT Any any? P T 0 []) p x s i (needs a .1)) (v .0) (needs a .2))
 
         asked : {T : Term} {P : Pattern} {Q : List Kind} {es : List Expression} {cs : List Constraint} (a : Asked T P Q es cs)
-            → GoAsked L S M tables C kinds room width R′ A′ (level p) (level x) (level s) (level s) (level lo) (level n) 1 before T P Q es cs (replicate 16 0)
+            → GoAsked L S M tables room width R′ A′ (level p) (level x) (level s) (level s) (level lo) (level n) 1 before T P Q es cs (replicate 256 0)
         asked {T} {P} {Q} {es} {cs} a =
             let d = asks a in
-            let none : List ℕ = replicate 16 0 in
+            let none : List ℕ = replicate 256 0 in
+            let long : length {A = ℕ} (replicate 256 0) ≡ 256 = length-replicate {A = ℕ} 256 0 in
             let z : Levels (Allowed cs) (allowed? cs) (a .search .pattern .numbered) T none none none none none 0 =
             record { long = omega arith; each = λ k l. absurd (omega arith) } in
             let m = levels-need (Allowed cs) (allowed? cs) (a .search .pattern .numbered) T z (omega arith) (omega arith) (omega arith) (omega arith) (omega arith)
@@ -166,33 +169,47 @@ module _ {L S M tables : List ℕ} {C kinds : List ℕ} {room width : ℕ} {befo
               search = a .search;
               wide = a .wide;
               fits = a .fits;
-              vals-long = refl;
+              vals-long = length-replicate {A = ℕ} 256 0;
               deep = omega (arith, first-deep (fixed a) lo (suc (d .0) - lo) (ap outcome (d .3)));
               levels = rw (d .1, count-bound (needs a .2 .state)) at m;
-              pauses = pauses-first (replicate 16 0) (level p) (level x) (level s) (level s) (level lo) (level n) (stops a .marks) (d .2) (d .4) refl refl refl refl refl (sym (d .1));
+              pauses = pauses-first (replicate 256 0) (level p) (level x) (level s) (level s) (level lo) (level n) (stops a .marks) (d .2) (d .4) refl refl refl refl refl (sym (d .1));
             }
 
-        pub go-asked : GoPre L S M tables C kinds room width R′ A′ (level p) (level x) (level s) (level s) (level lo) (level n) 1 before
-        go-asked =
+        level-long : (k : ℕ) → length (level k) ≡ 256
+        level-long k = length-set (replicate 256 0) 0 k ∙ length-replicate {A = ℕ} 256 0
+
+        first-asked-of : GoPre L S M tables room width R′ A′ (level p) (level x) (level s) (level s) (level lo) (level n) 1 before
+        first-asked-of =
             let h = b .pre .some in
             record {
               record-long = walked-long;
-              places-long = refl;
-              variables-long = refl;
-              starts-long = refl;
-              rows-long = refl;
-              nexts-long = refl;
-              lefts-long = refl;
-              some = (h .0, h .1, h .2, h .3, h .4, replicate 16 0, asked (h .5));
+              places-long = level-long p;
+              variables-long = level-long x;
+              starts-long = level-long s;
+              rows-long = level-long s;
+              nexts-long = level-long lo;
+              lefts-long = level-long n;
+              some = (h .0, h .1, h .2, h .3, h .4, replicate 256 0, asked (h .5));
             }
 
-        pub begun-need : {budget : ℕ} {r : Found} {after : List ℕ}
-            → GoPost L S M tables C kinds budget room width R′ A′ (level p) (level x) (level s) (level s) (level lo) (level n) 1 before r after
-            → Post budget r after
-        begun-need {budget} post =
-            record {
-              all = λ T P Q es cs a.
-                  let d = asks a in
-                  let w = first-need (fixed a) (replicate 16 0) (replicate 16 0) (replicate 16 0) lo (suc (d .0) - lo) (omega arith) (omega arith) (ap outcome (d .3)) in
-                  ap (fill budget room width 0 0 before) (rw (d .1) at w) ∙ post .all T P Q es cs (replicate 16 0) (asked a);
-            }
+        -- the levels in one list
+        module _ {W : List ℕ} (w : Entered (replicate 1536 0) 0 p x s lo n W) where
+          pub go-asked : GoPre L S M tables room width R′ A′ (places W) (variables W) (starts W) (rows W) (nexts W) (lefts W) 1 before
+          go-asked =
+              let f = first-level w in
+              rw (f .the-place, f .the-variable, f .the-start, f .the-row, f .the-next, f .the-left) first-asked-of
+
+          pub begun-need : {budget : ℕ} {r : Found} {after : List ℕ}
+              → GoPost L S M tables budget room width R′ A′ (places W) (variables W) (starts W) (rows W) (nexts W) (lefts W) 1 before r after
+              → Post budget r after
+          begun-need {budget} {r} {after} post =
+              let f = first-level w in
+              let q : GoPost L S M tables budget room width R′ A′ (level p) (level x) (level s) (level s) (level lo) (level n) 1 before r after =
+              rw (f .the-place, f .the-variable, f .the-start, f .the-row, f .the-next, f .the-left) at post in
+              let long : length {A = ℕ} (replicate 256 0) ≡ 256 = length-replicate {A = ℕ} 256 0 in
+              record {
+                all = λ T P Q es cs a.
+                    let d = asks a in
+                    let w = first-need (fixed a) (replicate 256 0) (replicate 256 0) (replicate 256 0) lo (suc (d .0) - lo) (omega arith) (omega arith) (ap outcome (d .3)) in
+                    ap (fill budget room width 0 0 before) (rw (d .1) at w) ∙ q .all T P Q es cs (replicate 256 0) (asked a);
+              }

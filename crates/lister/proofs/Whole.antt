@@ -19,7 +19,7 @@ use Rattle.problem.specs.Problem.{Lists, Poses}
 use Rattle.problem.specs.Answer.{Answered}
 use Rattle.problem.specs.declared.Problem.{Problem}
 use Rattle.problem.proofs.Posed.{codes-high, the, known}
-use Rattle.walk.specs.Packed.{Packed}
+use Rattle.walk.specs.Packed.{Packed, Bounds}
 use Rattle.listing.specs.Answer.{Result, atMost, roomOf}
 use Rattle.listing.specs.Meant.{Meant}
 use Rattle.listing.proofs.Back.{fitting, fitting-some}
@@ -53,9 +53,9 @@ module _ (l : Lists) {r : Problem} (a : Answered l r) (budget : ℕ) (before : L
 
     module _ {M tables : List ℕ} {room width : ℕ}
         (read : (es : List Expression) → GoodTable (l .expressionKind) (l .expressionName) (l .expressionSize) es → TablesOf es tables)
-        (packed : Packed (l .kind) (l .name) (l .patternSize) M) (wide : width ≡ r .variables + r .variables) (fits : room ≡ fitting (length before) width) where
+        (packed : Packed (l .kind) (l .name) (l .patternSize) M × Bounds (l .kind) (l .name) (l .constraint) M) (wide : width ≡ r .variables + r .variables) (fits : room ≡ fitting (length before) width) where
       asked : {T : Term} {P : Pattern} {Q : List Kind} {es : List Expression} {cs : List Constraint} → Poses l T P Q es cs
-          → BeginAsked (l .label) (l .size) M tables (l .constraint) (r .kinds) room width before T P Q es cs
+          → BeginAsked (l .label) (l .size) M tables room width before T P Q es cs
       asked {es = es} w =
           let k = known a z (w .rest .pattern) in
           record {
@@ -66,16 +66,19 @@ module _ (l : Lists) {r : Problem} (a : Answered l r) (budget : ℕ) (before : L
                   Z = l .patternSize;
                   judging = record { tree = w .tree; few = k .few; known = k .are; table = (_, _, _, w .rest .table); read = read es (w .rest .table); given = w .rest .constraints };
                   pattern = w .rest .pattern;
-                  packed = packed;
+                  C = l .constraint;
+                  kinds = r .kinds;
+                  packed = packed .0;
+                  bounds = packed .1;
                 };
             wide = omega (arith, k .many);
             fits = rw fits (room-fits (length before) width);
           }
 
-      pub begin-asked : BeginPre (l .label) (l .size) M tables (l .constraint) (r .kinds) room width before
+      pub begin-asked : BeginPre (l .label) (l .size) M tables room width before
       begin-asked = record { some = (the a z .T, the a z .P, the a z .Q, the a z .es, the a z .cs, asked (the a z .poses)) }
 
-      pub list-done : {f : Found} {after : List ℕ} → BeginPost (l .label) (l .size) M tables (l .constraint) (r .kinds) budget room width before f after
+      pub list-done : {f : Found} {after : List ℕ} → BeginPost (l .label) (l .size) M tables budget room width before f after
           → Settled l budget before (record { code = 0; ending = f .ending; records = f .records; tries = f .tries }) after
       list-done {f} {after} post =
           record {

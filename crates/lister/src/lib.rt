@@ -4,6 +4,7 @@ ghost use Rattle.listing.proofs.Back.{fitting};
 ghost use Rattle.lister.specs.Begun.{BeginPre, BeginPost};
 ghost use Rattle.lister.specs.Listed.{Settled};
 use search::Found;
+use search::Limits;
 
 // What the lister answers; all but the code are 0 in a refusal.
 pub struct Listed {
@@ -26,73 +27,47 @@ fn begin(
     size: &[u32],
     pattern: &[u32; 1536],
     tables: &[u64; 320],
-    constraint: &[u32],
-    kinds: &[u32; 16],
     budget: u32,
     room: usize,
     width: usize,
     out: &mut [u32],
 ) -> Found
-    requires { ⌜ BeginPre (now label) (now size) (now pattern) (now tables) (now constraint) (now kinds) room width (now out) ⌝ }
-    ensures { λ r. ⌜ BeginPost (now (label .entry)) (now (size .entry)) (now (pattern .entry)) (now (tables .entry)) (now (constraint .entry)) (now (kinds .entry)) budget room width (now (out .entry)) r (now (out .exit)) ⌝ }
+    requires { ⌜ BeginPre (now label) (now size) (now pattern) (now tables) room width (now out) ⌝ }
+    ensures { λ r. ⌜ BeginPost (now (label .entry)) (now (size .entry)) (now (pattern .entry)) (now (tables .entry)) budget room width (now (out .entry)) r (now (out .exit)) ⌝ }
 {
     let mut record = [0u32; 32];
     let mut at = [0usize; 256];
     match walk::begin(label, size, pattern, &mut record, &mut at) {
-        walk::Out::Fail => Found {
-            ending: 0,
-            records: 0,
-            tries: 0,
-        },
+        walk::Out::Fail => search::ended(0, 0, 0),
         walk::Out::Need(p, x, s) => {
-            let mut places = [0usize; 16];
-            let mut rows = [0usize; 16];
-            let mut variables = [0usize; 16];
-            let mut starts = [0usize; 16];
-            let mut nexts = [0usize; 16];
-            let mut lefts = [0usize; 16];
-            places[0] = p;
-            rows[0] = s;
-            variables[0] = x;
-            starts[0] = s;
-            nexts[0] = choice::least(pattern, p, s);
-            lefts[0] = choice::values(size, pattern, &at, p, s);
+            let mut levels = [0usize; 1536];
+            let least = choice::least(pattern, p, s);
+            let values = choice::values(size, pattern, &at, p, s);
+            levels::enter(&mut levels, 0, p, x, s, least, values);
+            let limits = Limits {
+                budget,
+                room,
+                width,
+            };
             search::go(
                 label,
                 size,
                 pattern,
                 tables,
-                constraint,
-                kinds,
-                budget,
-                room,
-                width,
-                record,
+                limits,
+                &mut record,
                 &mut at,
-                places,
-                variables,
-                starts,
-                rows,
-                nexts,
-                lefts,
+                &mut levels,
                 1,
                 out,
             )
         }
         walk::Out::Ok(_) => {
             if room == 0 {
-                return Found {
-                    ending: 1,
-                    records: 0,
-                    tries: 0,
-                };
+                return search::ended(1, 0, 0);
             }
             search::put(out, 0, &record, width);
-            Found {
-                ending: 0,
-                records: 1,
-                tries: 0,
-            }
+            search::ended(0, 1, 0)
         }
     }
 }
@@ -143,7 +118,6 @@ pub fn list(
             tries: 0,
         };
     }
-    let kinds = p.kinds;
     let variables = p.variables;
     let mut tables = [0u64; 320];
     letters::tables_of(
@@ -156,18 +130,7 @@ pub fn list(
     walk::pack(kind, name, pattern_size, constraint, &mut packed);
     let width = variables + variables;
     let room = room_for(out.len(), width);
-    let found = begin(
-        label,
-        size,
-        &packed,
-        &tables,
-        constraint,
-        &kinds,
-        budget,
-        room,
-        width,
-        out,
-    );
+    let found = begin(label, size, &packed, &tables, budget, room, width, out);
     Listed {
         code: 0,
         ending: found.ending,

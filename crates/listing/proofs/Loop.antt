@@ -17,15 +17,15 @@ use Rattle.listing.proofs.Fill.{Filled, fill, splice, length-splice, fi
 -- what does not change
 pub record Fixed (walk : List ℕ → Outcome) (bound limit width room : ℕ) (before : List ℕ) : Type 0 where
   pub is-tame : Tame walk bound limit width
-  pub small : bound ≤ 16
+  pub small : bound ≤ 256
   pub fits : room * width ≤ length before
 
 -- levels that the loop can go on from
 pub record Stands (bound limit : ℕ) (vals nexts lefts : List ℕ) (depth : ℕ) : Type 0 where
   pub deep : depth ≤ bound
-  pub vals-long : length vals ≡ 16
-  pub nexts-long : length nexts ≡ 16
-  pub lefts-long : length lefts ≡ 16
+  pub vals-long : length vals ≡ 256
+  pub nexts-long : length nexts ≡ 256
+  pub lefts-long : length lefts ≡ 256
   pub small : (k : ℕ) → k < depth → getD nexts k 0 + getD lefts k 0 ≤ limit
 
 -- the locals, with the events es left
@@ -33,9 +33,9 @@ pub record At (walk : List ℕ → Outcome) (bound limit width budget room : ℕ
     (out vals nexts lefts : List ℕ) (depth count tries : ℕ) : Type 0 where
   pub total : fill budget room width tries count out es ≡ F
   pub deep : depth ≤ bound
-  pub vals-long : length vals ≡ 16
-  pub nexts-long : length nexts ≡ 16
-  pub lefts-long : length lefts ≡ 16
+  pub vals-long : length vals ≡ 256
+  pub nexts-long : length nexts ≡ 256
+  pub lefts-long : length lefts ≡ 256
   pub out-long : length out ≡ length before
   pub small : (k : ℕ) → k < depth → getD nexts k 0 + getD lefts k 0 ≤ limit
   pub counted : count ≤ room

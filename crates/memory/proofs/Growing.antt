@@ -13,8 +13,8 @@ use Rattle.constraint.specs.Reading.{MorePre, ReadTo, ReadOn, ForbiddenPost}
 use Rattle.constraint.proofs.Readings.{Begun, no-head, all-heads}
 use Rattle.constraint.proofs.Judging.{obeys-free, obeys-forbidden, obeys-read, heads-after, path-after, heads-asked, path-asked}
 use Rattle.paths.specs.Paths.{AcceptedPre, AcceptedPost}
-use Rattle.problem.proofs.Judged.{asked-within, judge-asks, judged-by}
-use Rattle.memory.specs.Memory.{kept, RecallPost, GrownPre, GrownPost, GrowPre, GrowPost}
+use Rattle.walk.specs.Packed.{rootOf}
+use Rattle.memory.specs.Memory.{Remembers, kept, RecallPost, GrownPre, GrownPost, GrowPre, GrowPost}
 use Rattle.memory.proofs.Numbers.{remembers}
 
 -- RECALLED
@@ -33,60 +33,55 @@ terms-drop zero f = omega arith
 terms-drop (suc c) none = omega arith
 terms-drop (suc c) (some l us rest) = let e = terms-drop c rest in omega arith
 
-module _ {L S tables : List ℕ} {C : List ℕ} {root x a b : ℕ} {memory : List ℕ} (p : GrownPre L S tables C root x a b memory)
+module _ {L S tables : List ℕ} {root x a b : ℕ} {memory : List ℕ} (p : GrownPre L S tables root x a b memory)
     {row next count : ℕ} {end : Bool} (post : RecallPost tables root memory x a b row next count end) where
-  was : ReadTo L S tables root a count row next end
-  was = post .is L S (rw (p .its) (p .remembers .each x (p .few)))
+  was : (roots : ℕ → ℕ) → root ≡ roots x → Remembers L S tables roots memory → ReadTo L S tables root a count row next end
+  was roots q r = post .is L S (rw q (r .each x (p .few)))
 
   pub more-there : MorePre L S row (b - count)
   more-there =
       let w = p .heads .some in
-      record { some = (w .0, dropT count (w .1), was .is (w .0) (w .1) (w .2) (omega (arith, w .3, post .most)) .0, omega (arith, terms-drop count (w .1), w .3)) }
+      let r = p .some in
+      record { some = (w .0, dropT count (w .1), was (r .0) (r .1) (r .2) .is (w .0) (w .1) (w .2) (omega (arith, w .3, post .most)) .0, omega (arith, terms-drop count (w .1), w .3)) }
 
   pub grown-read : {row′ next′ : ℕ} {end′ : Bool} → ReadOn L S tables row next end (b - count) row′ next′ end′
-      → GrownPost L S tables C root a b end′ (kept memory x row′ a b next′ end′)
-  grown-read {row′} {next′} {end′} on =
-      let y : count + (b - count) ≡ b = omega (arith, post .most) in
-      let read : ReadTo L S tables root a b row′ next′ end′ = rw y at (on .on root a count was) in
-      record { row = row′; next = next′; read = read; remembers = remembers (p .remembers) (p .few) (rw (p .its) at read) }
+      → GrownPost L S tables root x a b memory end′ (kept memory x row′ a b next′ end′)
+  grown-read {row′} {next′} {end′} on = record { row = row′; next = next′; read = read; remembers = λ roots q r. remembers r (p .few) (rw q at (read roots q r)) }
+    where
+      read : (roots : ℕ → ℕ) → root ≡ roots x → Remembers L S tables roots memory → ReadTo L S tables root a b row′ next′ end′
+      read roots q r =
+          let y : count + (b - count) ≡ b = omega (arith, post .most) in
+          rw y at (on .on root a count (was roots q r))
 
 -- JUDGED
-module _ {L S tables : List ℕ} {C kinds : List ℕ} {x a b : ℕ} {memory path : List ℕ}
-    (p : GrowPre L S tables C kinds x a b memory path) where
+module _ {L S M tables : List ℕ} {x a b : ℕ} {memory path : List ℕ} (p : GrowPre L S M tables x a b memory path) where
   abbrev Post : Bool → List ℕ → List ℕ → Type 0
-  Post = GrowPost L S tables C kinds x a b
+  Post = GrowPost L S M tables x a b
 
-  pub grow-free : getD C (x + x) 0 ≡ 0 → Post true memory path
-  grow-free z = record { judged = judged-by x a b (obeys-free L S tables _ _ _ a b z); remembers = p .remembers }
+  pub grow-free : getD M (6 * x + 4) 0 ≡ 0 → Post true memory path
+  grow-free z = record { judged = obeys-free L S tables _ _ _ a b z; remembers = p .remembers }
 
-  module _ (start : getD C (x + x) 0 ≢ 0) {r : Bool} (f : ForbiddenPost (getD C (x + x + 1) 0) (getD kinds x 0) a b r) where
+  module _ (start : getD M (6 * x + 4) 0 ≢ 0) {r : Bool} (f : ForbiddenPost (getD M (6 * x + 5) 0) (getD M (6 * x) 0) a b r) where
     pub grow-forbidden : r ≡ true → Post false memory path
-    grow-forbidden t = record { judged = judged-by x a b (obeys-forbidden L S tables _ _ _ a b start f t); remembers = p .remembers }
+    grow-forbidden t = record { judged = obeys-forbidden L S tables _ _ _ a b start f t; remembers = p .remembers }
 
-    pub grow-read : r ≡ false → getD kinds x 0 ≡ 2 → {root : ℕ} {end : Bool} {later : List ℕ} → root ≡ getD C (x + x) 0 - 1 → GrownPost L S tables C root a b end later → Post end later path
+    pub grow-read : r ≡ false → getD M (6 * x) 0 ≡ 2 → {root : ℕ} {end : Bool} {later : List ℕ} → root ≡ rootOf M x → GrownPost L S tables root x a b memory end later → Post end later path
     grow-read n k q g =
         record {
-          judged = judged-by x a b (obeys-read L S tables _ _ _ a b start f n q (heads-after L S tables _ a b k (all-heads (g .read))));
-          remembers = record { sequences = g .remembers; contexts = p .remembers .contexts };
+          judged = obeys-read L S tables _ _ _ a b start f n q (heads-after L S tables _ a b k (all-heads (g .read (rootOf M) q (p .remembers .sequences))));
+          remembers = record { sequences = g .remembers (rootOf M) q (p .remembers .sequences); contexts = p .remembers .contexts };
         }
 
-    pub grow-path : r ≡ false → getD kinds x 0 ≢ 2 → {root : ℕ} {end : Bool} {later : List ℕ} → root ≡ getD C (x + x) 0 - 1 → AcceptedPost L S tables root x a b end later → Post end memory later
+    pub grow-path : r ≡ false → getD M (6 * x) 0 ≢ 2 → {root : ℕ} {end : Bool} {later : List ℕ} → root ≡ rootOf M x → AcceptedPost L S tables root x a b end later → Post end memory later
     grow-path n k q g =
         record {
-          judged = judged-by x a b (obeys-read L S tables _ _ _ a b start f n q (path-after L S tables _ a b k (g .after)));
-          remembers = record { sequences = p .remembers .sequences; contexts = g .remembers C q };
+          judged = obeys-read L S tables _ _ _ a b start f n q (path-after L S tables _ a b k (g .after));
+          remembers = record { sequences = p .remembers .sequences; contexts = g .remembers (rootOf M) q };
         }
 
-  module _ (start : getD C (x + x) 0 ≢ 0) {root : ℕ} (q : root ≡ getD C (x + x) 0 - 1) where
-    pub grow-asked : getD kinds x 0 ≡ 2 → GrownPre L S tables C root x a b memory
-    grow-asked k = record { heads = heads-asked (judge-asks (p .asked)) start q k; few = asked-within (p .asked) .0; its = q; remembers = p .remembers .sequences }
+  module _ (start : getD M (6 * x + 4) 0 ≢ 0) {root : ℕ} (q : root ≡ rootOf M x) where
+    pub grow-asked : getD M (6 * x) 0 ≡ 2 → GrownPre L S tables root x a b memory
+    grow-asked k = record { heads = heads-asked (p .asked) start q k; few = p .few; some = (rootOf M, q, p .remembers .sequences) }
 
-    pub path-asks : getD kinds x 0 ≢ 2 → AcceptedPre L S tables root x a b path
-    path-asks k =
-        let t = p .asked .some .5 .tree in
-        record {
-          path = path-asked (judge-asks (p .asked)) start q k;
-          few = asked-within (p .asked) .0;
-          small = omega (arith, t .few);
-          some = (C, q, p .remembers .contexts);
-        }
+    pub path-asks : getD M (6 * x) 0 ≢ 2 → AcceptedPre L S tables root x a b path
+    path-asks k = record { path = path-asked (p .asked) start q k; few = p .few; small = p .small; some = (rootOf M, q, p .remembers .contexts) }

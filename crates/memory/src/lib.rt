@@ -1,4 +1,4 @@
-// What has been read of each variable's sequence, so that a choice that grows by one term reads one more letter; and a context's path
+// What has been read of each choice's sequence, so that a choice that grows by one term reads one more letter; and a context's path
 // goes on from the last one's.
 ghost use mathlib.Core.Path.{_≡_};
 ghost use Prim.Native.Nat.{_<_, _-_};
@@ -13,19 +13,19 @@ struct Recalled {
     count: usize,
 }
 
-// The reading of x that is remembered, where it began at the row a and is not beyond b; else one that begins.
+// The reading of the choice that is remembered, where it began at the row a and is not beyond b; else one that begins.
 fn recall(
-    memory: &[usize; 80],
+    memory: &[usize; 1280],
     tables: &[u64; 320],
     root: usize,
-    x: usize,
+    choice: usize,
     a: usize,
     b: usize,
 ) -> Recalled
-    requires { ⌜ RecallPre root (now memory) x ⌝ }
-    ensures { λ r. ⌜ RecallPost (now (tables .entry)) root (now (memory .entry)) x a b (r .row) (r .next) (r .count) (r .end) ⌝ }
+    requires { ⌜ RecallPre root (now memory) choice ⌝ }
+    ensures { λ r. ⌜ RecallPost (now (tables .entry)) root (now (memory .entry)) choice a b (r .row) (r .next) (r .count) (r .end) ⌝ }
 {
-    let at = 5 * x;
+    let at = 5 * choice;
     let row = memory[at];
     let count = memory[at + 2];
     if row != 0 {
@@ -49,20 +49,20 @@ fn recall(
     }
 }
 
-// The reading of x is kept for the next value.
+// The reading of the choice is kept for the next value.
 fn keep(
-    memory: &mut [usize; 80],
-    x: usize,
+    memory: &mut [usize; 1280],
+    choice: usize,
     row: usize,
     a: usize,
     count: usize,
     next: u64,
     end: bool,
 )
-    requires { ⌜ (x < 16) × (length (now memory) ≡ 80) ⌝ }
-    ensures { λ _. ⌜ now (memory .exit) ≡ kept (now (memory .entry)) x row a count next end ⌝ }
+    requires { ⌜ (choice < 256) × (length (now memory) ≡ 1280) ⌝ }
+    ensures { λ _. ⌜ now (memory .exit) ≡ kept (now (memory .entry)) choice row a count next end ⌝ }
 {
-    let at = 5 * x;
+    let at = 5 * choice;
     memory[at] = row;
     memory[at + 1] = a;
     memory[at + 2] = count;
@@ -71,28 +71,27 @@ fn keep(
 }
 
 // Whether the heads of b neighbours from the row a on are a word of the expression at the row root: read on from what is
-// remembered of x.
+// remembered of the choice.
 fn grown(
     label: &[u32],
     size: &[u32],
     tables: &[u64; 320],
-    constraint: &[u32],
     root: usize,
-    x: usize,
+    choice: usize,
     a: usize,
     b: usize,
-    memory: &mut [usize; 80],
+    memory: &mut [usize; 1280],
 ) -> bool
-    requires { ⌜ GrownPre (now label) (now size) (now tables) (now constraint) root x a b (now memory) ⌝ }
-    ensures { λ r. ⌜ GrownPost (now (label .entry)) (now (size .entry)) (now (tables .entry)) (now (constraint .entry)) root a b r (now (memory .exit)) ⌝ }
+    requires { ⌜ GrownPre (now label) (now size) (now tables) root choice a b (now memory) ⌝ }
+    ensures { λ r. ⌜ GrownPost (now (label .entry)) (now (size .entry)) (now (tables .entry)) root choice a b (now (memory .entry)) r (now (memory .exit)) ⌝ }
 {
-    let was = recall(memory, tables, root, x, a, b);
+    let was = recall(memory, tables, root, choice, a, b);
     let row = was.row;
     let next = was.next;
     let end = was.end;
     let more = b - was.count;
     let mark = constraint::read_on(label, size, tables, row, next, end, more);
-    keep(memory, x, mark.row, a, b, mark.next, mark.end);
+    keep(memory, choice, mark.row, a, b, mark.next, mark.end);
     mark.end
 }
 
@@ -105,34 +104,33 @@ fn row_of(start: u32) -> usize
     above - 1
 }
 
-// Whether the variable x may stand for the value that the numbers a and b mean, as `problem::judge` says.
+// Whether the variable at the pattern row p may stand for the value that the numbers a and b mean, as `constraint::obeys` says.
 pub fn judge(
     label: &[u32],
     size: &[u32],
+    pattern: &[u32; 1536],
     tables: &[u64; 320],
-    constraint: &[u32],
-    kinds: &[u32; 16],
-    x: usize,
+    p: usize,
     a: usize,
     b: usize,
-    memory: &mut [usize; 80],
+    memory: &mut [usize; 1280],
     path: &mut [usize; 259],
 ) -> bool
-    requires { ⌜ GrowPre (now label) (now size) (now tables) (now constraint) (now kinds) x a b (now memory) (now path) ⌝ }
-    ensures { λ r. ⌜ GrowPost (now (label .entry)) (now (size .entry)) (now (tables .entry)) (now (constraint .entry)) (now (kinds .entry)) x a b r (now (memory .exit)) (now (path .exit)) ⌝ }
+    requires { ⌜ GrowPre (now label) (now size) (now pattern) (now tables) p a b (now memory) (now path) ⌝ }
+    ensures { λ r. ⌜ GrowPost (now (label .entry)) (now (size .entry)) (now (pattern .entry)) (now (tables .entry)) p a b r (now (memory .exit)) (now (path .exit)) ⌝ }
 {
-    let start = constraint[x + x];
+    let choice = walk::chosen(pattern, p);
+    let start = choice.start;
     if start == 0 {
         return true;
     }
-    let flag = constraint[x + x + 1];
-    let kind = kinds[x];
-    if constraint::forbidden(flag, kind, a, b) {
+    let kind = choice.kind;
+    if constraint::forbidden(choice.flag, kind, a, b) {
         return false;
     }
     let root = row_of(start);
     if kind == 2 {
-        return grown(label, size, tables, constraint, root, x, a, b, memory);
+        return grown(label, size, tables, root, p, a, b, memory);
     }
-    paths::accepted(label, size, tables, root, x, a, b, path)
+    paths::accepted(label, size, tables, root, p, a, b, path)
 }

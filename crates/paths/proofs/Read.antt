@@ -19,8 +19,8 @@ use Rattle.paths.proofs.Steps.{context-next, context-in, from-first, th
 use Rattle.paths.proofs.Numbers.{put-row, put-other, places-more, places-first, places-fewer, places-noted, places-child}
 
 -- nothing is remembered yet
-pub blank : (L S tables : List ℕ) (C : List ℕ) → Remembers L S tables C (replicate 259 0)
-blank L S tables C = record { long = length-replicate {A = ℕ} 259 0; is = λ x e. absurd (omega (arith, getD-replicate {A = ℕ} 259 0 0 0 (omega arith))) }
+pub blank : (L S tables : List ℕ) (roots : ℕ → ℕ) → Remembers L S tables roots (replicate 259 0)
+blank L S tables roots = record { long = length-replicate {A = ℕ} 259 0; is = λ x e. absurd (omega (arith, getD-replicate {A = ℕ} 259 0 0 0 (omega arith))) }
 
 -- RECALLED
 module _ {S tables : List ℕ} {root x a b : ℕ} {P : List ℕ} where
@@ -33,9 +33,9 @@ module _ {S tables : List ℕ} {root x a b : ℕ} {P : List ℕ} where
   pub recall-again : {i : ℕ} → getD P 0 0 ≡ x + 1 → getD P 1 0 ≡ a → HoldingPost S P (getD P 2 0) b i → RecallPost S tables root x a b P i P
   recall-again {i} e f post =
       record {
-        is = λ L C path q r.
+        is = λ L roots path q r.
             let p : Places L S tables root a P (getD P 2 0) =
-            subst (λ (k : ℕ). Places L S tables k a P (getD P 2 0)) (sym q) (subst (λ (k : ℕ). Places L S tables (getD C (x + x) 0 - 1) k P (getD P 2 0)) f (r .is x e)) in
+            subst (λ (k : ℕ). Places L S tables k a P (getD P 2 0)) (sym q) (subst (λ (k : ℕ). Places L S tables (roots x) k P (getD P 2 0)) f (r .is x e)) in
             let c = context-in (path .some .1) in
             let h = on (decLt 0 i) (p .starts) c in
             record { places = places-fewer p (post .few); its = e; start = f; low = h .0; high = h .1 };
@@ -50,7 +50,7 @@ module _ {S tables : List ℕ} {root x a b : ℕ} {P : List ℕ} where
   pub recall-new : {next : ℕ} {end : Bool} → length P ≡ 259 → Begun tables root next end → RecallPost S tables root x a b P 0 (put (set (set P 0 (x + 1)) 1 a) 0 a next end)
   recall-new {next} {end} long begun =
       record {
-        is = λ L C path q r.
+        is = λ L roots path q r.
             let c = path .some .1 in
             let n = context-next c in
             let h = context-in c in
@@ -87,8 +87,8 @@ module _ {L S tables : List ℕ} {root x a b : ℕ} {P : List ℕ} {i : ℕ} (s 
   noted-is : getD (set P 2 i) 2 0 ≡ i
   noted-is = getD-set-same P 2 i 0 (omega (arith, s .places .long))
 
-  pub standing-kept : (C : List ℕ) → root ≡ getD C (x + x) 0 - 1 → Remembers L S tables C (set P 2 i)
-  standing-kept C q =
+  pub standing-kept : (roots : ℕ → ℕ) → root ≡ roots x → Remembers L S tables roots (set P 2 i)
+  standing-kept roots q =
       let n = standing-noted in
       record {
         long = n .places .long;

@@ -30,7 +30,7 @@ pub record Entry (L S tables : List ℕ) (root a row next : ℕ) (end : Bool) (c
   pub from : From S row child
   pub inside : row < length S
 
--- the list has the variable plus one, or 0 where no path is remembered; the row where it starts; its last place; and then four numbers
+-- the list has the choice plus one, or 0 where no path is remembered; the row where it starts; its last place; and then four numbers
 -- for each place
 pub record Place (L S tables : List ℕ) (root a : ℕ) (P : List ℕ) (i : ℕ) : Type 0 where
   pub entry : Entry L S tables root a (getD P (4 * i + 3) 0) (getD P (4 * i + 4) 0) (eqb (getD P (4 * i + 5) 0) 1) (getD P (4 * i + 6) 0)
@@ -42,10 +42,10 @@ pub record Places (L S tables : List ℕ) (root a : ℕ) (P : List ℕ) (m : ℕ
   pub starts : getD P 3 0 ≡ a
   pub each : (i : ℕ) → i ≤ m → Place L S tables root a P i
 
--- C is the constraint list: it has the row of a variable's expression plus one
-pub record Remembers (L S tables : List ℕ) (C P : List ℕ) : Type 0 where
+-- roots has the row of each choice's expression
+pub record Remembers (L S tables : List ℕ) (roots : ℕ → ℕ) (P : List ℕ) : Type 0 where
   pub long : length P ≡ 259
-  pub is : (x : ℕ) → getD P 0 0 ≡ x + 1 → Places L S tables (getD C (x + x) 0 - 1) (getD P 1 0) P (getD P 2 0)
+  pub is : (x : ℕ) → getD P 0 0 ≡ x + 1 → Places L S tables (roots x) (getD P 1 0) P (getD P 2 0)
 
 -- put: the four numbers of the place i
 abbrev pub put : List ℕ → (i row next : ℕ) → Bool → List ℕ
@@ -83,22 +83,22 @@ pub record Standing (L S tables : List ℕ) (root x a b : ℕ) (P : List ℕ) (i
 
 -- recall: the place from which on the path to the row b is read
 pub record RecallPre (S tables : List ℕ) (root x a b : ℕ) (P : List ℕ) : Type 0 where
-  pub few : x < 16
+  pub few : x < 256
   pub small : a < 4294967296
-  pub some : (L : List ℕ) × (C : List ℕ) × PathPre L S root a b × (root ≡ getD C (x + x) 0 - 1) × Remembers L S tables C P
+  pub some : (L : List ℕ) × (roots : ℕ → ℕ) × PathPre L S root a b × (root ≡ roots x) × Remembers L S tables roots P
 
 pub record RecallPost (S tables : List ℕ) (root x a b : ℕ) (P : List ℕ) (i : ℕ) (P′ : List ℕ) : Type 0 where
-  pub is : (L C : List ℕ) → PathPre L S root a b → root ≡ getD C (x + x) 0 - 1 → Remembers L S tables C P
+  pub is : (L : List ℕ) (roots : ℕ → ℕ) → PathPre L S root a b → root ≡ roots x → Remembers L S tables roots P
       → Standing L S tables root x a b P′ i
 
 -- accepted: whether the labels on the path from the row a to the row b are a word of the expression at the row root
 pub record AcceptedPre (L S tables : List ℕ) (root x a b : ℕ) (P : List ℕ) : Type 0 where
   pub path : PathPre L S root a b
-  pub few : x < 16
+  pub few : x < 256
   pub small : length L < 4294967296
-  pub some : (C : List ℕ) × (root ≡ getD C (x + x) 0 - 1) × Remembers L S tables C P
+  pub some : (roots : ℕ → ℕ) × (root ≡ roots x) × Remembers L S tables roots P
 
 pub record AcceptedPost (L S tables : List ℕ) (root x a b : ℕ) (end : Bool) (P : List ℕ) : Type 0 where
   pub next : ℕ
   pub after : (c : Context) → ContextAt L S a b c → After tables root (path c) next end
-  pub remembers : (C : List ℕ) → root ≡ getD C (x + x) 0 - 1 → Remembers L S tables C P
+  pub remembers : (roots : ℕ → ℕ) → root ≡ roots x → Remembers L S tables roots P

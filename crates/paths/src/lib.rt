@@ -65,43 +65,43 @@ fn recall(
     size: &[u32],
     tables: &[u64; 320],
     root: usize,
-    x: usize,
+    choice: usize,
     a: usize,
     b: usize,
     path: &mut [usize; 259],
 ) -> usize
-    requires { ⌜ RecallPre (now size) (now tables) root x a b (now path) ⌝ }
-    ensures { λ r. ⌜ RecallPost (now (size .entry)) (now (tables .entry)) root x a b (now (path .entry)) r (now (path .exit)) ⌝ }
+    requires { ⌜ RecallPre (now size) (now tables) root choice a b (now path) ⌝ }
+    ensures { λ r. ⌜ RecallPost (now (size .entry)) (now (tables .entry)) root choice a b (now (path .entry)) r (now (path .exit)) ⌝ }
 {
-    if path[0] == x + 1 {
+    if path[0] == choice + 1 {
         if path[1] == a {
             let m = path[2];
             return holding(size, path, m, b);
         }
     }
     let state = letters::begin(tables, root);
-    path[0] = x + 1;
+    path[0] = choice + 1;
     path[1] = a;
     put(path, 0, a, state.next, state.end);
     0
 }
 
 // Whether the labels on the path from the row a down to the row b, that of b left out, are a word of the expression at the row root,
-// for the variable x.
+// for a choice.
 pub fn accepted(
     label: &[u32],
     size: &[u32],
     tables: &[u64; 320],
     root: usize,
-    x: usize,
+    choice: usize,
     a: usize,
     b: usize,
     path: &mut [usize; 259],
 ) -> bool
-    requires { ⌜ AcceptedPre (now label) (now size) (now tables) root x a b (now path) ⌝ }
-    ensures { λ r. ⌜ AcceptedPost (now (label .entry)) (now (size .entry)) (now (tables .entry)) root x a b r (now (path .exit)) ⌝ }
+    requires { ⌜ AcceptedPre (now label) (now size) (now tables) root choice a b (now path) ⌝ }
+    ensures { λ r. ⌜ AcceptedPost (now (label .entry)) (now (size .entry)) (now (tables .entry)) root choice a b r (now (path .exit)) ⌝ }
 {
-    let mut i = recall(size, tables, root, x, a, b, path);
+    let mut i = recall(size, tables, root, choice, a, b, path);
     loop {
         path[2] = i;
         let row = path[4 * i + 3];

@@ -28,7 +28,7 @@ module _ {L S tables : List ℕ} {list kinds : List ℕ} where
       let l = look-old (h .1) x (h .4) (h .6) in
       (omega (arith, h .5 .few), omega (arith, numbers-many (h .5 .given)))
 
-  kind-number : (x : ℕ) {T : Term} {Q : List Kind} {es : List Expression} {cs : List Constraint} (k : Kind) → Judging L S tables list kinds T Q es cs → look Q x ≡ old k → getD kinds x 0 ≡ code k
+  pub kind-number : (x : ℕ) {T : Term} {Q : List Kind} {es : List Expression} {cs : List Constraint} (k : Kind) → Judging L S tables list kinds T Q es cs → look Q x ≡ old k → getD kinds x 0 ≡ code k
   kind-number x {Q = Q} k j e = rw (j .known) (listed-look Q x k e)
 
   value-there : (a b : ℕ) {T : Term} {Q : List Kind} {es : List Expression} {cs : List Constraint} (k : Kind) → Judging L S tables list kinds T Q es cs → Fits k (T ◂ none) a b

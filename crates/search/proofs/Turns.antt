@@ -49,8 +49,6 @@ pub record Input : Type 0 where
   pub S : List ℕ
   pub M : List ℕ
   pub tables : List ℕ
-  pub C : List ℕ
-  pub kinds : List ℕ
   pub budget : ℕ
   pub room : ℕ
   pub width : ℕ
@@ -66,16 +64,14 @@ pub record Input : Type 0 where
   pub before : List ℕ
 
 abbrev pub given :
-    (L S M tables : List ℕ) (C kinds : List ℕ) (budget room width : ℕ)
+    (L S M tables : List ℕ) (budget room width : ℕ)
     (R A G X St U N F : List ℕ) (start : ℕ) (before : List ℕ) → Input
-given L S M tables C kinds budget room width R A G X St U N F start before =
+given L S M tables budget room width R A G X St U N F start before =
     record {
       L = L;
       S = S;
       M = M;
       tables = tables;
-      C = C;
-      kinds = kinds;
       budget = budget;
       room = room;
       width = width;
@@ -94,34 +90,34 @@ given L S M tables C kinds budget room width R A G X St U N F start before =
 -- the lengths that the record and the levels' lists keep
 pub record Long (R G X St U N F : List ℕ) : Type 0 where
   pub record-long : length R ≡ 32
-  pub places-long : length G ≡ 16
-  pub variables-long : length X ≡ 16
-  pub starts-long : length St ≡ 16
-  pub rows-long : length U ≡ 16
-  pub nexts-long : length N ≡ 16
-  pub lefts-long : length F ≡ 16
+  pub places-long : length G ≡ 256
+  pub variables-long : length X ≡ 256
+  pub starts-long : length St ≡ 256
+  pub rows-long : length U ≡ 256
+  pub nexts-long : length N ≡ 256
+  pub lefts-long : length F ≡ 256
 
 -- the last level has its place and a value left, and its values are small
 pub record Placed (N F : List ℕ) (depth : ℕ) : Type 0 where
   pub some : 0 < depth
-  pub deep : depth ≤ 16
+  pub deep : depth ≤ 256
   pub live : 0 < getD F (depth - 1) 0
   pub small : getD N (depth - 1) 0 + getD F (depth - 1) 0 ≤ 2049
 
 module _ (i : Input) where
   abbrev Asked : Term → Pattern → List Kind → List Expression → List Constraint → List ℕ → Type 0
   Asked T P Q es cs vals =
-      GoAsked (i .L) (i .S) (i .M) (i .tables) (i .C) (i .kinds) (i .room) (i .width)
+      GoAsked (i .L) (i .S) (i .M) (i .tables) (i .room) (i .width)
       (i .R) (i .A) (i .G) (i .X) (i .St) (i .U) (i .N) (i .F) (i .start) (i .before) T P Q es cs vals
 
   abbrev Post : Found → List ℕ → Type 0
   Post r after =
-      GoPost (i .L) (i .S) (i .M) (i .tables) (i .C) (i .kinds) (i .budget) (i .room) (i .width)
+      GoPost (i .L) (i .S) (i .M) (i .tables) (i .budget) (i .room) (i .width)
       (i .R) (i .A) (i .G) (i .X) (i .St) (i .U) (i .N) (i .F) (i .start) (i .before) r after
 
-  abbrev Pre : Type 0
+  abbrev pub Pre : Type 0
   Pre =
-      GoPre (i .L) (i .S) (i .M) (i .tables) (i .C) (i .kinds) (i .room) (i .width)
+      GoPre (i .L) (i .S) (i .M) (i .tables) (i .room) (i .width)
       (i .R) (i .A) (i .G) (i .X) (i .St) (i .U) (i .N) (i .F) (i .start) (i .before)
 
   module _ {T : Term} {P : Pattern} {Q : List Kind} {es : List Expression} {cs : List Constraint} {vals₀ : List ℕ} (a : Asked T P Q es cs vals₀) where
@@ -198,7 +194,7 @@ module _ {i : Input} where
       }
 
   module _ {out R A G X St U N F : List ℕ} {depth cnt tries : ℕ} (g : Going i out R A G X St U N F depth cnt tries) where
-    pub going-depth : Pre i → depth ≤ 16
+    pub going-depth : Pre i → depth ≤ 256
     going-depth p =
         let a = p .some .6 in
         let h = g .each a in
@@ -282,7 +278,7 @@ module _ {i : Input} where
         }
 
     pub attempt-asked : Pre i
-        → AttemptPre (i .L) (i .S) (i .M) (i .tables) (i .C) (i .kinds) R A
+        → AttemptPre (i .L) (i .S) (i .M) (i .tables) R A
         (getD G (depth - 1) 0) (getD X (depth - 1) 0) (getD St (depth - 1) 0) (getD U (depth - 1) 0) (getD N (depth - 1) 0)
     attempt-asked p =
         let h = p .some in
@@ -321,7 +317,7 @@ module _ {i : Input} where
 
     pub going-try : {o : Out} {R′ A′ : List ℕ} {u : ℕ} → Pre i → (tries ≡ i .budget → ⊥)
         → FurtherPost (i .S) (i .M) (getD G (depth - 1) 0) (getD U (depth - 1) 0) (getD F (depth - 1) 0 - 1) u
-        → AttemptPost (i .L) (i .S) (i .M) (i .tables) (i .C) (i .kinds) R A
+        → AttemptPost (i .L) (i .S) (i .M) (i .tables) R A
         (getD G (depth - 1) 0) (getD X (depth - 1) 0) (getD St (depth - 1) 0) (getD U (depth - 1) 0) (getD N (depth - 1) 0) o R′ A′
         → Tried i out R′ A′ G X St (set U (depth - 1) u) N′ F′ depth cnt (tries + 1) (getD U (depth - 1) 0) (getD F (depth - 1) 0 - 1) o
     going-try {o} {R′} {A′} {u} p b further post =
@@ -367,7 +363,7 @@ module _ {i : Input} where
     ready : Ready i out R A G X St (set U (depth - 1) u) (set N (depth - 1) (getD N (depth - 1) 0 + failed)) (set F (depth - 1) (getD F (depth - 1) 0 - failed)) depth cnt (tries + failed)
     ready = going-skip (g .ready) (g .pre) (g .fewer) (g .afford) (g .post)
 
-    inside : depth - 1 < 16
+    inside : depth - 1 < 256
     inside = omega (arith, going-depth (g .ready .going) (g .pre), g .ready .some)
 
     row-is : getD (set U (depth - 1) u) (depth - 1) 0 ≡ u
@@ -380,10 +376,10 @@ module _ {i : Input} where
     left-is = getD-set-same F (depth - 1) (getD F (depth - 1) 0 - failed) 0 (omega (arith, inside, g .ready .going .long .lefts-long))
 
     -- the numbers of the value that is tried
-    pub passed-small : (failed ≤ limit) × (depth ≤ 16) × (getD N (depth - 1) 0 + getD F (depth - 1) 0 ≤ 2049)
+    pub passed-small : (failed ≤ limit) × (depth ≤ 256) × (getD N (depth - 1) 0 + getD F (depth - 1) 0 ≤ 2049)
     passed-small = let q = placed (g .ready) (g .pre) in (g .post .few, q .deep, q .small)
 
-    pub passed-asked : AttemptPre (i .L) (i .S) (i .M) (i .tables) (i .C) (i .kinds) R A
+    pub passed-asked : AttemptPre (i .L) (i .S) (i .M) (i .tables) R A
         (getD G (depth - 1) 0) (getD X (depth - 1) 0) (getD St (depth - 1) 0) u (getD N (depth - 1) 0 + failed)
     passed-asked = rw (row-is, next-is) at (attempt-asked ready (g .pre))
 
@@ -392,7 +388,7 @@ module _ {i : Input} where
 
     pub passed-tried : {o : Out} {R′ A′ : List ℕ} {r : ℕ}
         → FurtherPost (i .S) (i .M) (getD G (depth - 1) 0) u (getD F (depth - 1) 0 - failed - 1) r
-        → AttemptPost (i .L) (i .S) (i .M) (i .tables) (i .C) (i .kinds) R A
+        → AttemptPost (i .L) (i .S) (i .M) (i .tables) R A
         (getD G (depth - 1) 0) (getD X (depth - 1) 0) (getD St (depth - 1) 0) u (getD N (depth - 1) 0 + failed) o R′ A′
         → Tried i out R′ A′ G X St (set U (depth - 1) r) (set N (depth - 1) (getD N (depth - 1) 0 + failed + 1)) (set F (depth - 1) (getD F (depth - 1) 0 - failed - 1)) depth cnt (tries + failed + 1) u (getD F (depth - 1) 0 - failed - 1) o
     passed-tried {o} {R′} {A′} {r} further post =
@@ -420,7 +416,7 @@ module _ {i : Input} where
           let n = asks a in
           (tame-need (Allowed cs) (allowed? cs) T _ (a .search .pattern .numbered) (n .asked) .1, need-deep (fixed i a) (t .each a .1) (n .lo) (suc (n .hi) - n .lo) (ap outcome (n .asked)) .0)
 
-      pub need-fits : Pre i → depth < 16
+      pub need-fits : Pre i → depth < 256
       need-fits p =
           let a = p .some .6 in
           omega (arith, need-range a .1, few (p .some .2), a .search .judging .few)

@@ -17,31 +17,31 @@ use Rattle.levels.specs.Levels.{Search, Pauses}
 use Rattle.search.specs.declared.Found.{Found}
 
 -- levels that the search can go on from
-pub record GoAsked (L S M tables : List ℕ) (C kinds : List ℕ) (room width : ℕ) (R A places variables starts rows nexts lefts : List ℕ) (depth : ℕ) (before : List ℕ)
+pub record GoAsked (L S M tables : List ℕ) (room width : ℕ) (R A places variables starts rows nexts lefts : List ℕ) (depth : ℕ) (before : List ℕ)
     (T : Term) (P : Pattern) (Q : List Kind) (es : List Expression) (cs : List Constraint) (vals : List ℕ) : Type 0 where
-  pub search : Search L S M tables C kinds T P Q es cs
+  pub search : Search L S M tables T P Q es cs
   pub wide : width ≡ length Q + length Q
   pub fits : room * width ≤ length before
-  pub vals-long : length vals ≡ 16
+  pub vals-long : length vals ≡ 256
   pub deep : depth ≤ count Q
   pub levels : Levels (Allowed cs) (allowed? cs) (search .pattern .numbered) T vals variables starts nexts lefts depth
   pub pauses : Pauses L S R A (search .K) (search .N) (search .Z) Q P T vals places variables starts rows nexts lefts depth
 
-pub record GoPre (L S M tables : List ℕ) (C kinds : List ℕ) (room width : ℕ) (R A places variables starts rows nexts lefts : List ℕ) (depth : ℕ) (before : List ℕ) : Type 0 where
+pub record GoPre (L S M tables : List ℕ) (room width : ℕ) (R A places variables starts rows nexts lefts : List ℕ) (depth : ℕ) (before : List ℕ) : Type 0 where
   pub record-long : length R ≡ 32
-  pub places-long : length places ≡ 16
-  pub variables-long : length variables ≡ 16
-  pub starts-long : length starts ≡ 16
-  pub rows-long : length rows ≡ 16
-  pub nexts-long : length nexts ≡ 16
-  pub lefts-long : length lefts ≡ 16
+  pub places-long : length places ≡ 256
+  pub variables-long : length variables ≡ 256
+  pub starts-long : length starts ≡ 256
+  pub rows-long : length rows ≡ 256
+  pub nexts-long : length nexts ≡ 256
+  pub lefts-long : length lefts ≡ 256
   pub some : (T : Term) × (P : Pattern) × (Q : List Kind) × (es : List Expression) × (cs : List Constraint) × (vals : List ℕ)
-      × GoAsked L S M tables C kinds room width R A places variables starts rows nexts lefts depth before T P Q es cs vals
+      × GoAsked L S M tables room width R A places variables starts rows nexts lefts depth before T P Q es cs vals
 
 -- the search has gone through all that the levels have left
-pub record GoPost (L S M tables : List ℕ) (C kinds : List ℕ) (budget room width : ℕ) (R A places variables starts rows nexts lefts : List ℕ) (depth : ℕ) (before : List ℕ)
+pub record GoPost (L S M tables : List ℕ) (budget room width : ℕ) (R A places variables starts rows nexts lefts : List ℕ) (depth : ℕ) (before : List ℕ)
     (r : Found) (after : List ℕ) : Type 0 where
   pub all : (T : Term) (P : Pattern) (Q : List Kind) (es : List Expression) (cs : List Constraint) (vals : List ℕ)
-      → (a : GoAsked L S M tables C kinds room width R A places variables starts rows nexts lefts depth before T P Q es cs vals)
+      → (a : GoAsked L S M tables room width R A places variables starts rows nexts lefts depth before T P Q es cs vals)
       → fill budget room width 0 0 before (rest (walked (Allowed cs) (allowed? cs) (a .search .pattern .numbered) T) (count Q) vals nexts lefts depth)
       ≡ record { ending = r .ending; records = r .records; tries = r .tries; out = after }

@@ -242,7 +242,7 @@ module _ {L S M R₀ R A₀ A : List ℕ} {p₀ pe t₀ te n₀ p t n x : ℕ} (
                 frames = fs;
                 within = look-old Q x aSequence (w .comes .kept);
                 state = rw y (a .state);
-                stands = before-terms (w .comes .kept) (sym (a .packed .kinds p (s .inside)) ∙ place .kind) (holds-here a) (past-one (a .below) (w .one)) (w .behind)
+                stands = before-terms (w .comes .kept) (sym (place .name ∙ a .packed .names p (s .inside))) (sym (a .packed .kinds p (s .inside)) ∙ place .kind) (holds-here a) (past-one (a .below) (w .one)) (w .behind)
                     (subst (GoodF Q (w .rest)) z (w .good)) (a .tree) (held-kept u (a .below .lower) (rw (sym (sequence-after ps n x (w .rest) (w .is) ∙ ap (afterF (w .rest)) z)) (a .held)));
                 low = refl;
                 high = refl;

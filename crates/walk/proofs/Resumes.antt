@@ -77,7 +77,7 @@ record AtHole (L S A K N Z : List ℕ) (Q : List Kind) (p u x s d : ℕ) (w : St
 
 module _ {L S A K N Z : List ℕ} {Q : List Kind} {p u x s d : ℕ} where
   in-list : {w : Stop} {fs : List Frame} → Stands L S A K N Z Q p x s w fs → Lands L S s u d w → getD K p 0 ≡ 2 → InList L S A K N Z Q p u x s d w fs
-  in-list (before-terms {h} {pe} {te} {ps} {us} {fs} c k e l pt g t hd) (at-terms b) two =
+  in-list (before-terms {h} {pe} {te} {ps} {us} {fs} c nm k e l pt g t hd) (at-terms b) two =
       let r : rows us ≡ rows (takeT d us) + rows (dropT d us) = ap rows (sym (take-drop d us)) ∙ rows-of (takeT d us) (dropT d us) in
       record {
         h = h;
@@ -93,11 +93,11 @@ module _ {L S A K N Z : List ℕ} {Q : List Kind} {p u x s d : ℕ} where
         held = hd;
         goes = λ B cs. ap (λ (i : ℕ). andThen (walkF Any any? ps (dropT d us) i B cs) (run Any any? fs)) (b .1);
       }
-  in-list (over-term c k z q g t m b) l two = absurd (omega arith)
+  in-list (over-term c nm k z q g t m b) l two = absurd (omega arith)
 
   at-the-hole : {w : Stop} {fs : List Frame} → Stands L S A K N Z Q p x s w fs → Lands L S s u d w → getD K p 0 ≢ 2 → AtHole L S A K N Z Q p u x s d w fs
-  at-the-hole (before-terms c k e l pt g t hd) b two = absurd (two k)
-  at-the-hole (over-term {h} {q} {T} {fs} y k z i g t m b) (at-hole c) two =
+  at-the-hole (before-terms c nm k e l pt g t hd) b two = absurd (two k)
+  at-the-hole (over-term {h} {q} {T} {fs} y nm k z i g t m b) (at-hole c) two =
       record {
         h = h;
         end = s + getD S s 0;
@@ -114,8 +114,8 @@ module _ {L S A K N Z : List ℕ} {Q : List Kind} {p u x s d : ℕ} where
       }
 
 pub stop-row : {L S M A K N Z : List ℕ} {Q : List Kind} {p x s : ℕ} {w : Stop} {fs : List Frame} → Packed K N Z M → Stands L S A K N Z Q p x s w fs → p < length K
-stop-row m (before-terms c k e l pt g t hd) = omega (arith, patterns-le pt, patterns-end pt)
-stop-row m (over-term c k z i g t o b) = omega (arith, term-seen m i .inside)
+stop-row m (before-terms c nm k e l pt g t hd) = omega (arith, patterns-le pt, patterns-end pt)
+stop-row m (over-term c nm k z i g t o b) = omega (arith, term-seen m i .inside)
 
 module _ {L S M R A : List ℕ} {p u n : ℕ} where
   pub resume-row : ResumePre L S M R A p u n → (p < 256) × (6 * p + 5 < length M)

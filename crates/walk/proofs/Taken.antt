@@ -32,8 +32,8 @@ use Rattle.walk.proofs.Views.{agree-same}
 -- what is before a stop stays, and so does the stop
 pub stands-kept : {L S A A′ K N Z : List ℕ} {Q : List Kind} {p x s q : ℕ} {w : Stop} {fs : List Frame} → p < q → Unchanged q A A′ → Stands L S A K N Z Q p x s w fs
     → Stands L S A′ K N Z Q p x s w fs
-stands-kept l u (before-terms c k e h pt g t hd) = before-terms c k e h pt g t (held-kept u (omega (arith, e .past .lower)) hd)
-stands-kept l u (over-term c k z i g t m b) = over-term c k z i g t (marked-kept u l m) (behind-kept u (omega arith) b)
+stands-kept l u (before-terms c nm k e h pt g t hd) = before-terms c nm k e h pt g t (held-kept u (omega (arith, e .past .lower)) hd)
+stands-kept l u (over-term c nm k z i g t m b) = over-term c nm k z i g t (marked-kept u l m) (behind-kept u (omega arith) b)
 
 unfoldable pub needs-kept : {L S R R′ A A′ K N Z : List ℕ} {Q : List Kind} {fs : List Frame} {f : List ℕ → Res} {p x s lo hi y q : ℕ} → x ≤ y → Unchanged (y + y) R R′ → p < q → Unchanged q A A′
     → Needs L S R A K N Z Q fs f p x s lo hi → Needs L S R′ A′ K N Z Q fs f p x s lo hi
@@ -69,7 +69,7 @@ record Value-at (L S : List ℕ) (Q : List Kind) (x s v d : ℕ) (w : Stop) : Ty
 
 value-at : {L S A K N Z : List ℕ} {Q : List Kind} {p x s u v : ℕ} {w : Stop} {fs : List Frame} → length L < 4294967296 → Stands L S A K N Z Q p x s w fs → least w s ≤ v → v ≤ largest w s
     → Lands L S s u (v - least w s) w → Value-at L S Q x s v (v - least w s) w
-value-at {v = v} small (before-terms {us = us} c k e h pt g t hd) a b (at-terms y) =
+value-at {v = v} small (before-terms {us = us} c nm k e h pt g t hd) a b (at-terms y) =
     let r = split-at v t in
     let z : v - 0 ≡ v = omega arith in
     record {
@@ -80,7 +80,7 @@ value-at {v = v} small (before-terms {us = us} c k e h pt g t hd) a b (at-terms 
       second-is = rw z (terms-take v us b);
       row = omega (arith, terms-le t, terms-end t);
     }
-value-at {L} {S} {s = s} {v = v} small (over-term {T = T} c k z i g t m b) a d (at-hole y) =
+value-at {L} {S} {s = s} {v = v} small (over-term {T = T} c nm k z i g t m b) a d (at-hole y) =
     let q = cut-at v t a (omega (arith, t .row .size)) in
     let e : s + holeRow (cut T (v - s) .around) ≡ v = omega (arith, cut-holds T (v - s) (omega arith)) in
     record {
@@ -94,8 +94,8 @@ value-at {L} {S} {s = s} {v = v} small (over-term {T = T} c k z i g t m b) a d (
 
 -- the values of a variable are rows or counts of the tree
 small-value : {L S A K N Z : List ℕ} {Q : List Kind} {p x s v : ℕ} {w : Stop} {fs : List Frame} → length L < 4294967296 → Stands L S A K N Z Q p x s w fs → v ≤ largest w s → v < 4294967296
-small-value small (before-terms {us = us} c k e h pt g t hd) b = omega (arith, terms-few us, terms-rows t, terms-end t)
-small-value small (over-term c k z i g t m o) b = omega (arith, t .row .size, term-next t .inLabels)
+small-value small (before-terms {us = us} c nm k e h pt g t hd) b = omega (arith, terms-few us, terms-rows t, terms-end t)
+small-value small (over-term c nm k z i g t m o) b = omega (arith, t .row .size, term-next t .inLabels)
 
 -- a choice in its range
 in-range : {A B C : Type 0} (a : Dec A) (b : Dec B) (c : Dec C) (r : Res) → A → B → C → when a (when b (when c r)) ≡ r

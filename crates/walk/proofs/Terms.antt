@@ -118,6 +118,9 @@ module _ {L S M R A A₁ : List ℕ} {p t n k x : ℕ} (row : AtRow L S M R A A�
   kinded : {K N Z : List ℕ} {Q : List Kind} {q : Pattern} {T : Term} {B : List Entry} {fs : List Frame} → TermAsked L S M R A p t n K N Z Q q T B fs → getD K p 0 ≡ k
   kinded a = sym (row .kind ∙ a .packed .kinds p (term-seen (a .packed) (a .pattern) .inside))
 
+  named : {K N Z : List ℕ} {Q : List Kind} {q : Pattern} {T : Term} {B : List Entry} {fs : List Frame} → TermAsked L S M R A p t n K N Z Q q T B fs → getD N p 0 ≡ x
+  named a = sym (row .name ∙ a .packed .names p (term-seen (a .packed) (a .pattern) .inside))
+
   -- at an individual variable
   module _ (one : k ≡ 1) where
     pub term-individual-pre : IndividualPre L S R x t n
@@ -200,7 +203,7 @@ module _ {L S M R A A₁ : List ℕ} {p t n k x : ℕ} (row : AtRow L S M R A A�
                         frames = fs;
                         within = look-old Q x aContext (w .comes .kept);
                         state = rw y (a .state);
-                        stands = over-term (w .comes .kept) (kinded a ∙ four) (w .size) (w .here) (subst (GoodT Q (w .inner)) z (w .good)) (a .tree) (marked a) b;
+                        stands = over-term (w .comes .kept) (named a) (kinded a ∙ four) (w .size) (w .here) (subst (GoodT Q (w .inner)) z (w .good)) (a .tree) (marked a) b;
                         low = refl;
                         high = refl;
                         asks = context-asks T t B (w .is) i;

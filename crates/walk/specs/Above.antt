@@ -52,9 +52,9 @@ pub record Held (L S A K N Z : List ℕ) (Q : List Kind) (h pe te n : ℕ) (fs :
 
 -- the walk stops at the row p of the pattern and the row s of the tree, where the variable x comes first
 pub data Stands (L S A K N Z : List ℕ) (Q : List Kind) (p x s : ℕ) : Stop → List Frame → Type 0 where
-  before-terms : {h pe te : ℕ} {ps : Patterns} {us : Forest} {fs : List Frame} → look Q x ≡ old aSequence → getD K p 0 ≡ 2 → Holds Z h p → Past Z h (p + 1)
+  before-terms : {h pe te : ℕ} {ps : Patterns} {us : Forest} {fs : List Frame} → look Q x ≡ old aSequence → getD N p 0 ≡ x → getD K p 0 ≡ 2 → Holds Z h p → Past Z h (p + 1)
       → PatternsAt K N Z Q (p + 1) pe ps → GoodF Q ps (x + 1) → TermsAt L S s te us → Held L S A K N Z Q h pe te (afterF ps (x + 1)) fs
       → Stands L S A K N Z Q p x s (at-sequence ps us) fs
-  over-term : {h : ℕ} {q : Pattern} {T : Term} {fs : List Frame} → look Q x ≡ old aContext → getD K p 0 ≡ 4 → getD Z p 0 ≡ suc (getD Z (p + 1) 0) → PatternAt K N Z Q (p + 1) q
+  over-term : {h : ℕ} {q : Pattern} {T : Term} {fs : List Frame} → look Q x ≡ old aContext → getD N p 0 ≡ x → getD K p 0 ≡ 4 → getD Z p 0 ≡ suc (getD Z (p + 1) 0) → PatternAt K N Z Q (p + 1) q
       → GoodT Q q (x + 1) → TermAt L S s (T .label) (T .args) → Marked S A p (s + getD S s 0) → Behind L S A K N Z Q h p (s + getD S s 0) (afterT q (x + 1)) fs
       → Stands L S A K N Z Q p x s (at-context q T) fs

@@ -1,5 +1,5 @@
 -- Not needed to believe the promise: what the walk needs of a pattern, prepared once: six numbers a row in one list.
-use Prim.Native.Nat.{ℕ, _+_, _*_, _<_, _≤_}
+use Prim.Native.Nat.{ℕ, _+_, _-_, _*_, _<_, _≤_}
 use mathlib.Core.Path.{_≡_}
 use mathlib.Core.Logic.{_≢_}
 use mathlib.Core.List.{List}
@@ -22,6 +22,10 @@ pub record Packed (K N Z M : List ℕ) : Type 0 where
   pub names : (p : ℕ) → p < length K → getD M (6 * p + 1) 0 ≡ getD N p 0
   pub sizes : (p : ℕ) → p < length K → getD M (6 * p + 2) 0 ≡ getD Z p 0
   pub holders : (h p : ℕ) → p < length K → Holds Z h p → getD M (6 * p + 3) 0 ≡ h
+
+-- the row of the expression of each row's variable
+abbrev pub rootOf : List ℕ → ℕ → ℕ
+rootOf M p = getD M (6 * p + 4) 0 - 1
 
 -- C has two numbers for each variable: where its expression starts, and its flag
 pub record Bounds (K N C M : List ℕ) : Type 0 where

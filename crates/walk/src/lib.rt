@@ -108,6 +108,26 @@ pub fn next(pattern: &[u32; 1536], p: usize) -> usize
     p + tree::at(pattern, 6 * p + 2)
 }
 
+// A choice: the kind of a pattern row's variable, and its constraint: where its expression starts, plus one, and the flag.
+pub struct Choice {
+    pub kind: u32,
+    pub start: u32,
+    pub flag: u32,
+}
+
+pub fn chosen(pattern: &[u32; 1536], p: usize) -> Choice
+    requires { ⌜ p < 256 ⌝ }
+    ensures { λ r. ⌜ (r .kind ≡ getD (now (pattern .entry)) (6 * p) 0) × (r .start ≡ getD (now (pattern .entry)) (6 * p + 4) 0)
+        × (r .flag ≡ getD (now (pattern .entry)) (6 * p + 5) 0) ⌝ }
+{
+    let at = 6 * p;
+    Choice {
+        kind: pattern[at],
+        start: pattern[at + 4],
+        flag: pattern[at + 5],
+    }
+}
+
 // The row of the pattern that holds the pattern row p.
 pub fn holder(pattern: &[u32; 1536], p: usize) -> usize
     requires { ⌜ 6 * p + 5 < length (now pattern) ⌝ }

@@ -1,76 +1,99 @@
-use borrow.Author.Needs.{needs}
-use mathlib.Core.Path.{refl}
-use lib.ListN.{replicate}
 use Rattle.lister.proofs.Begun.{Begun, first-asked, begun-fail, begun-full, begun-put, begun-done, at-stop, need-room, go-asked, begun-need}
+use lib.ListN.{replicate, length-replicate}
+use native.Mathlib.Omega.{arith}
+use mathlib.Core.Path.{refl, _∙_}
+use Prim.Native.Nat.{ℕ}
+use borrow.Author.Needs.{needs}
 use Rattle.lister.proofs.begin.Statement.{statement}
 use Rattle.lister.proofs.begin.Tie as tie
+use Rattle.lister.proofs.begin.Reads as reads
+use Rattle.lister.proofs.begin.Lts as lts
+use Rattle.choice.proofs.least.Reads as least-reads
+use Rattle.choice.proofs.values.Reads as values-reads
+use Rattle.levels.proofs.enter.Reads as enter-reads
+use Rattle.search.proofs.ended.Reads as ended-reads
+use Rattle.search.proofs.go.Reads as go-reads
+use Rattle.search.proofs.put.Reads as put-reads
+use Rattle.walk.proofs.begin.Reads as begin-reads
 
 -- the first walk, from a record of zeros
 begun : (c : tie.After-begin) →
-    let a = c .before .before .before .before .before .before .before .args in
+    let a = c .before .before .before .before .before .before .args in
     Begun (a .label .now) (a .size .now) (a .pattern .now) (a .tables .now)
-    (a .constraint .now) (a .kinds .now) (a .room) (a .width) (a .out .now) (c .begin .last .1 .1 .1 .0) (c .begin .last .1 .1 .1 .1 .0) (c .begin .result)
-begun c = record { R = replicate 32 0; A = replicate 256 0; long = refl; rows-long = refl; pre = c .before .before .before .before .before .before .before .pre; walked = c .begin .ensures }
+    (a .room) (a .width) (a .out .now) (c .begin .last .1 .1 .1 .0) (c .begin .last .1 .1 .1 .1 .0) (c .begin .result)
+begun c = record { R = replicate 32 0; A = replicate 256 0; long = refl; rows-long = refl; pre = c .before .before .before .before .before .before .pre; walked = c .begin .ensures }
 
+-- src/lib.rt:40:11
 begin-requires : tie.Need-begin-requires
-begin-requires c κs = first-asked (c .before .before .before .before .before .before .pre) refl refl
+begin-requires c κs = first-asked (c .before .before .before .before .before .pre) refl refl
 
+-- src/lib.rt:41:28
 enum-told : tie.Need-enum-told
 enum-told c = search needs
 
+-- src/lib.rt:41:28
+ended-requires : tie.Need-ended-requires
+ended-requires c κs = search needs
+
+-- src/lib.rt:42:25
 enum-known-p : tie.Need-enum-known-p
 enum-known-p c = search needs
 
-array-write-places : tie.Need-array-write-places
-array-write-places c = search needs
-
-array-write-rows : tie.Need-array-write-rows
-array-write-rows c = search needs
-
-array-write-variables : tie.Need-array-write-variables
-array-write-variables c = search needs
-
-array-write-starts : tie.Need-array-write-starts
-array-write-starts c = search needs
-
+-- src/lib.rt:44:17
 least-requires : tie.Need-least-requires
 least-requires c κs = need-room (begun (c .before .before .before)) (c .before .p .given .1)
 
-array-write-nexts : tie.Need-array-write-nexts
-array-write-nexts c = search needs
-
+-- src/lib.rt:45:17
 values-requires : tie.Need-values-requires
 values-requires c κs = at-stop (begun (c .before .before .before .before .before)) (c .before .before .before .p .given .1)
 
-array-write-lefts : tie.Need-array-write-lefts
-array-write-lefts c = search needs
+-- src/lib.rt:46:13
+enter-requires : tie.Need-enter-requires
+enter-requires c κs = record { long = length-replicate {A = ℕ} 1536 0; few = omega arith }
 
+-- src/lib.rt:52:13
 go-requires : tie.Need-go-requires
-go-requires c κs = go-asked (begun (c .before .before .before .before .before .before .before .before)) (c .before .before .before .before .before .before .p .given .1) (c .before .before .before .before .least .ensures) (c .before .before .values .ensures)
+go-requires c κs = (go-asked (begun (c .before .before .before .before .before .before .before .before .before .before .before .before)) (c .before .before .before .before .before .before .before .before .before .before .p .given .1) (c .before .before .before .before .before .before .before .before .least .ensures) (c .before .before .before .before .before .before .values .ensures) (c .before .before .before .before .enter .ensures), c .before .before .before .before .enter .ensures .long ∙ length-replicate {A = ℕ} 1536 0, omega (arith, c .before .before .before .before .before .before .before .before .before .before .before .before .before .before .before .before .before .before .fits .budget), omega (arith, c .before .before .before .before .before .before .before .before .before .before .before .before .before .before .before .before .before .before .fits .room))
 
+-- src/lib.rt:66:16
 enum-told-2 : tie.Need-enum-told-2
 enum-told-2 c = search needs
 
-returns : tie.Need-returns
-returns c = begun-full (begun (c .before .before .before)) (c .before .enum-told2 .given .1) (c .if1 .taken)
+-- src/lib.rt:67:17
+ended-requires-2 : tie.Need-ended-requires-2
+ended-requires-2 c κs = search needs
 
+-- src/lib.rt:67:17
+returns : tie.Need-returns
+returns c = rw (c .ended2 .ensures .0, c .ended2 .ensures .1, c .ended2 .ensures .2) (begun-full (begun (c .before .before .before .before)) (c .before .before .enum-told2 .given .1) (c .before .if1 .taken))
+
+-- src/lib.rt:69:13
 put-requires : tie.Need-put-requires
 put-requires c κs = begun-put (begun (c .before .before .before .before .before)) (c .before .before .before .enum-told2 .given .1) (c .before .before .if1 .left)
 
-returns-2 : tie.Need-returns-2
-returns-2 c = begun-fail (begun (c .before .before)) (c .enum-told .given .1)
+-- src/lib.rt:70:13
+ended-requires-3 : tie.Need-ended-requires-3
+ended-requires-3 c κs = search needs
 
+-- src/lib.rt:25:1
+returns-2 : tie.Need-returns-2
+returns-2 c = rw (c .ended .ensures .0, c .ended .ensures .1, c .ended .ensures .2) (begun-fail (begun (c .before .before .before)) (c .before .enum-told .given .1))
+
+-- src/lib.rt:25:1
 same-length : tie.Need-same-length
 same-length c = search needs
 
+-- src/lib.rt:25:1
 returns-3 : tie.Need-returns-3
-returns-3 c = begun-need (begun (c .before .before .before .before .before .before .before .before .before .before .before)) (c .before .before .before .before .before .before .before .before .before .p .given .1) (c .before .before .before .before .before .before .before .least .ensures) (c .before .before .before .before .before .values .ensures) (c .before .before .go .ensures)
+returns-3 c = begun-need (begun (c .before .before .before .before .before .before .before .before .before .before .before .before .before .before .before)) (c .before .before .before .before .before .before .before .before .before .before .before .before .before .p .given .1) (c .before .before .before .before .before .before .before .before .before .before .before .least .ensures) (c .before .before .before .before .before .before .before .before .before .values .ensures) (c .before .before .before .before .before .before .before .enter .ensures) (c .before .before .go .ensures)
 
+-- src/lib.rt:25:1
 same-length-2 : tie.Need-same-length-2
 same-length-2 c = search needs
 
+-- src/lib.rt:25:1
 returns-4 : tie.Need-returns-4
-returns-4 c = rw (c .before .before .put .ensures) (begun-done (begun (c .before .before .before .before .before .before .before .before)) (c .before .before .before .before .before .before .enum-told2 .given .1) (c .before .before .before .before .before .if1 .left))
+returns-4 c = rw (c .ended3 .ensures .0, c .ended3 .ensures .1, c .ended3 .ensures .2, c .before .before .before .put .ensures) (begun-done (begun (c .before .before .before .before .before .before .before .before .before)) (c .before .before .before .before .before .before .before .enum-told2 .given .1) (c .before .before .before .before .before .before .if1 .left))
 
 pub begin-spec : {M : Type 1} → statement M
 begin-spec =
@@ -78,19 +101,17 @@ begin-spec =
     (tie.spec
     begin-requires
     enum-told
+    ended-requires
     enum-known-p
-    array-write-places
-    array-write-rows
-    array-write-variables
-    array-write-starts
     least-requires
-    array-write-nexts
     values-requires
-    array-write-lefts
+    enter-requires
     go-requires
     enum-told-2
+    ended-requires-2
     returns
     put-requires
+    ended-requires-3
     returns-2
     same-length
     returns-3

@@ -15,7 +15,7 @@ abbrev tabled : tie.After-pack → tie.After-tables-of
 tabled k = k .before .before
 
 abbrev accepted : tie.After-tables-of → tie.Else1
-accepted t = t .before .before .before
+accepted t = t .before .before
 
 check-requires : tie.Need-check-requires
 check-requires c κs = search needs
@@ -24,7 +24,7 @@ returns : tie.Need-returns
 returns c = list-refused _ (c .before .check .ensures) _ _ (c .if1 .taken)
 
 tables-of-requires : tie.Need-tables-of-requires
-tables-of-requires c κs = (length-replicate {A = ℕ} 320 0, tables-asked _ (c .before .before .before .check .ensures) 0 [] (c .before .before .if1 .left))
+tables-of-requires c κs = (length-replicate {A = ℕ} 320 0, tables-asked _ (c .before .before .check .ensures) 0 [] (c .before .if1 .left))
 
 slice-aggregate-pack : tie.Need-slice-aggregate-pack
 slice-aggregate-pack c = search needs
@@ -44,22 +44,22 @@ room-for-requires c κs = search needs
 
 begin-requires : tie.Need-begin-requires
 begin-requires c κs =
-    let w = c .before .before .before .before in
+    let w = c .before .before .before in
     let k = w .before .before in
     let t = tabled k in
     let z = accepted t in
-    begin-asked _ (z .before .check .ensures) 0 _ (z .if1 .left) (t .tables-of .ensures) (k .pack .ensures .0) refl (w .room-for .ensures)
+    begin-asked _ (z .before .check .ensures) 0 _ (z .if1 .left) (t .tables-of .ensures) (k .pack .ensures) refl (w .room-for .ensures)
 
 same-length : tie.Need-same-length
 same-length c = search needs
 
 returns-2 : tie.Need-returns-2
 returns-2 c =
-    let w = c .before .before .before .before .before .before .before in
+    let w = c .before .before .before .before .before .before in
     let k = w .before .before in
     let t = tabled k in
     let z = accepted t in
-    list-done _ (z .before .check .ensures) _ _ (z .if1 .left) (t .tables-of .ensures) (k .pack .ensures .0) refl (w .room-for .ensures)
+    list-done _ (z .before .check .ensures) _ _ (z .if1 .left) (t .tables-of .ensures) (k .pack .ensures) refl (w .room-for .ensures)
     (c .before .before .begin .ensures)
 
 pub list-spec : {M : Type 1} → statement M

@@ -1,334 +1,286 @@
-use Prim.Native.Nat.{_+_, _-_, _*_, _<_, _≤_}
-use native.Mathlib.Omega.{arith}
-use mathlib.Core.Path.{_≡_}
-use lib.ListN.{length, getD, set}
-use Rattle.search.proofs.Turns.{Input, given, Placed, Going, Ready, Passing, Tried}
-use Rattle.search.proofs.Turns.{going-start, going-depth, going-long, going-back, going-end, going-ready, going-spent}
-use Rattle.search.proofs.Turns.{placed, level-asked, passed-small, passed-asked, passed-further, passed-tried}
-use Rattle.search.proofs.Turns.{tried-fail, need-fits, need-room, more-asked, tried-need, tried-full, put-asked, tried-match, tried-counted}
-use Rattle.memory.specs.Memory.{Both}
-use Rattle.memory.proofs.Numbers.{blank}
 use Rattle.paths.proofs.Read as paths
+use Rattle.memory.proofs.Numbers.{blank}
+use Rattle.memory.specs.Memory.{Both}
+use Rattle.walk.specs.Packed.{rootOf}
+use Rattle.levels.specs.Columns.{places, variables, starts, rows, nexts, lefts, Inside}
+use Rattle.search.proofs.Standing.{some-left, skip-pre, small, further-pre, attempt-pre, tried, more-pre, deeper}
+use Rattle.search.proofs.Turns.{tried-fail, need-fits, need-room, tried-full, put-asked, tried-match, tried-counted}
+use Rattle.search.proofs.Turns.{going-start, going-depth, going-long, going-back, going-end, going-ready, going-spent}
+use Rattle.search.proofs.Turns.{Input, given, Going, Ready, Tried}
+use lib.ListN.{length}
+use mathlib.Core.Path.{_≡_, _∙_}
+use native.Mathlib.Omega.{arith}
+use Prim.Native.Nat.{_+_, _-_, _*_, _<_, _≤_}
 use borrow.Author.Needs.{needs}
 use Rattle.search.proofs.go.Statement.{statement}
 use Rattle.search.proofs.go.Tie as tie
+use Rattle.search.proofs.go.Reads as reads
+use Rattle.search.proofs.go.Lts as lts
+use Rattle.choice.proofs.further.Reads as further-reads
+use Rattle.choice.proofs.least.Reads as least-reads
+use Rattle.choice.proofs.more_values.Reads as more-values-reads
+use Rattle.choice.proofs.skip.Reads as skip-reads
+use Rattle.levels.proofs.advance.Reads as advance-reads
+use Rattle.levels.proofs.attempt.Reads as attempt-reads
+use Rattle.levels.proofs.back.Reads as back-reads
+use Rattle.levels.proofs.enter.Reads as enter-reads
+use Rattle.levels.proofs.standing.Reads as standing-reads
+use Rattle.search.proofs.ended.Reads as ended-reads
+use Rattle.search.proofs.put.Reads as put-reads
+use Rattle.search.proofs.spare.Reads as spare-reads
 
 abbrev Inv-loop : tie.InvT-loop
-Inv-loop label size pattern tables constraint kinds budget room width at₀ start
-    out₀ record₀ places₀ variables₀ starts₀ rows₀ nexts₀ lefts₀ memory₀ path₀ depth₀ count₀ tries₀ at₁ out «record» places variables starts rows nexts lefts memory path depth count tries =
+Inv-loop label size pattern tables record₀ at₀ levels₀ start out₀ budget room width memory₀ path₀ depth₀ count₀ tries₀ «record» at levels out memory path depth count tries =
     Going
-    (given label size pattern tables constraint kinds budget room width record₀ at₀ places₀ variables₀ starts₀ rows₀ nexts₀ lefts₀ start out₀)
-    out «record» at₁ places variables starts rows nexts lefts depth count tries
-    × Both label size tables constraint memory path
+    (given label size pattern tables budget room width record₀ at₀ (places levels₀) (variables levels₀) (starts levels₀) (rows levels₀) (nexts levels₀) (lefts levels₀) start out₀)
+    out «record» at (places levels) (variables levels) (starts levels) (rows levels) (nexts levels) (lefts levels) depth count tries
+    × Both label size tables (rootOf pattern) memory path × (length levels ≡ 1536)
 
 abbrev μ-loop : tie.MeasureT-loop
-μ-loop label size pattern tables constraint kinds budget room width at₀ start
-    out₀ record₀ places₀ variables₀ starts₀ rows₀ nexts₀ lefts₀ memory₀ path₀ depth₀ count₀ tries₀ at₁ out «record» places variables starts rows nexts lefts memory path depth count tries =
-    budget - tries
+μ-loop label size pattern tables record₀ at₀ levels₀ start out₀ budget room width memory₀ path₀ depth₀ count₀ tries₀ «record» at levels out memory path depth count tries = budget - tries
 
--- what the search was given; the lists that it changes itself have no names as they came
+-- what the search was given
 abbrev input : tie.Start Inv-loop μ-loop → Input
 input s =
     let a = s .args in
-    given (a .label .now) (a .size .now) (a .pattern .now) (a .tables .now)
-    (a .constraint .now) (a .kinds .now) (a .budget) (a .room) (a .width) (a .t10) (a .at .now) (a .t12) (a .t13) (a .t14) (a .t15) (a .t16) (a .t17) (a .start) (a .out .now)
+    let w = a .levels .now in
+    given (a .label .now) (a .size .now) (a .pattern .now) (a .tables .now) (a .limits .budget) (a .limits .room) (a .limits .width)
+    (a .«record» .now) (a .at .now) (places w) (variables w) (starts w) (rows w) (nexts w) (lefts w) (a .start) (a .out .now)
 
--- from a turn's head to the function's start, and from a turn's try to its head
+-- from a turn's head to the function's start
 abbrev begun : tie.At-loop Inv-loop μ-loop → tie.Start Inv-loop μ-loop
-begun h = h .before .before .before .before .before
-
-abbrev head : tie.After-attempt Inv-loop μ-loop → tie.At-loop Inv-loop μ-loop
-head t = t .before .before .before .before .before .before .before .before .before .before .before .before .before
+begun h = h .before .before .before .before
 
 -- a turn's out is as long as the one that was lent
 kept : (h : tie.At-loop Inv-loop μ-loop) → length (h .loop .out) ≡ length (begun h .args .out .now)
-kept h = going-long (h .loop .inv .0) (begun h .pre)
+kept h = going-long (h .loop .inv .0) (begun h .pre .0)
 
 -- a turn that has gone back to a level with a value left
 ready : (c : tie.Else1 Inv-loop μ-loop) →
     let l = c .before .before .before .loop in
-    Ready (input (begun (c .before .before .before))) (l .out) (l .«record») (l .at) (l .places) (l .variables) (l .starts) (l .rows) (l .nexts) (l .lefts)
+    Ready (input (begun (c .before .before .before))) (l .out) (l .«record») (l .at) (places (l .levels)) (variables (l .levels)) (starts (l .levels)) (rows (l .levels)) (nexts (l .levels)) (lefts (l .levels))
     (c .before .back .result) (l .count) (l .tries)
 ready c = going-ready (c .before .before .before .loop .inv .0) (c .before .back .ensures) (c .if1 .left)
 
-level : (c : tie.Else2 Inv-loop μ-loop) →
-    let l = c .before .before .before .before .loop in
-    Placed (l .nexts) (l .lefts) (c .before .before .back .result)
-level c = placed (ready (c .before)) (begun (c .before .before .before .before) .pre)
+inside : (c : tie.Else1 Inv-loop μ-loop) → Inside (c .before .before .before .loop .levels) (c .before .back .result - 1)
+inside c =
+    let h = c .before .before .before in
+    let r = ready c in
+    record { long = h .loop .inv .2; few = omega (arith, r .some, going-depth (r .going) (begun h .pre .0)) }
 
--- a turn that has passed over the values that fail at once
-passing : (c : tie.After-skip Inv-loop μ-loop) →
-    let l = c .before .before .before .before .before .before .before .loop in
-    Passing (input (begun (c .before .before .before .before .before .before .before))) (l .out) (l .«record») (l .at) (l .places) (l .variables) (l .starts) (l .rows) (l .nexts) (l .lefts)
-    (c .before .before .before .before .before .back .result) (l .count) (l .tries) (c .before .before .spare .result) (c .skip .result .count) (c .skip .result .row)
-passing c =
-    record {
-      pre = begun (c .before .before .before .before .before .before .before) .pre;
-      ready = ready (c .before .before .before .before);
-      fewer = c .before .before .spare .ensures .0;
-      afford = c .before .before .spare .ensures .1;
-      post = c .skip .ensures;
-    }
+-- a turn that has passed over the values that fail at once: from there to the test of the depth, and to the turn's head
+abbrev tested : tie.After-skip Inv-loop μ-loop → tie.Else1 Inv-loop μ-loop
+tested c = c .before .before .before .before .before .before
+
+abbrev head : tie.After-skip Inv-loop μ-loop → tie.At-loop Inv-loop μ-loop
+head c = tested c .before .before .before
 
 -- the numbers of the value that it tries
-small : (c : tie.After-skip Inv-loop μ-loop) →
-    let l = c .before .before .before .before .before .before .before .loop in
-    let depth = c .before .before .before .before .before .back .result in
-    (c .skip .result .count < getD (l .lefts) (depth - 1) 0) × (0 < depth) × (depth ≤ 16) × (getD (l .nexts) (depth - 1) 0 + getD (l .lefts) (depth - 1) 0 ≤ 2049)
-    × (l .tries + c .skip .result .count < begun (c .before .before .before .before .before .before .before) .args .budget) × (begun (c .before .before .before .before .before .before .before) .args .budget < 4294967296)
-small c =
-    let q = passing c in
-    let s = passed-small q in
-    (omega (arith, q .fewer, s), q .ready .some, s .1, s .2, omega (arith, q .afford, s), omega (arith, begun (c .before .before .before .before .before .before .before) .fits .budget))
+numbers : (c : tie.After-skip Inv-loop μ-loop) →
+    let l = c .before .before .before .standing .result in
+    (c .skip .result .count < l .left) × (0 < tested c .before .back .result) × (tested c .before .back .result ≤ 256) × (l .next + l .left ≤ 2049)
+    × (head c .loop .tries + c .skip .result .count < begun (head c) .args .limits .budget)
+numbers c = small (c .before .before .before .standing .ensures) (ready (tested c)) (begun (head c) .pre .0) (c .before .before .spare .ensures .0) (c .before .before .spare .ensures .1) (c .skip .ensures)
 
 -- a turn that has tried the level's next value
-tried : (c : tie.After-attempt Inv-loop μ-loop) →
-    let l = head c .loop in
-    let depth = c .before .before .before .before .before .before .before .before .before .before .before .back .result in
-    let failed = c .before .before .before .before .before .before .skip .result .count in
-    Tried (input (begun (head c))) (l .out) (c .attempt .last .1 .1 .1 .1 .1 .1 .0) (c .attempt .last .1 .1 .1 .1 .1 .1 .1 .0) (l .places) (l .variables) (l .starts)
-    (set (l .rows) (depth - 1) (c .before .before .before .before .before .further .result)) (set (l .nexts) (depth - 1) (getD (l .nexts) (depth - 1) 0 + failed + 1)) (set (l .lefts) (depth - 1) (getD (l .lefts) (depth - 1) 0 - failed - 1))
-    depth (l .count) (l .tries + failed + 1) (c .before .before .before .before .before .before .skip .result .row) (getD (l .lefts) (depth - 1) 0 - failed - 1) (c .attempt .result)
-tried c = passed-tried (passing (c .before .before .before .before .before .before)) (c .before .before .before .before .before .further .ensures) (c .attempt .ensures .0)
+abbrev passed : tie.After-attempt Inv-loop μ-loop → tie.After-skip Inv-loop μ-loop
+passed c = c .before .before .before .before .before .before .before .before .before .before .before .before .before .before .before
 
--- the walk needs a choice: there is a place for one more level
-next-level : (c : tie.After-known-told Inv-loop μ-loop) → c .before .before .before .before .before .before .before .before .before .before .before .before .before .before .back .result < 16
-next-level c = need-fits (tried (c .before .before .before)) (c .before .p .given .1) (begun (head (c .before .before .before)) .pre)
+abbrev moved : tie.After-attempt Inv-loop μ-loop → tie.After-advance Inv-loop μ-loop
+moved c = c .before .before .before .before .before
+
+after : (c : tie.After-attempt Inv-loop μ-loop) →
+    let k = passed c in
+    let h = head k in
+    let w = moved c .advance .last .0 in
+    let left = k .before .before .before .standing .result .left - k .skip .result .count - 1 in
+    Tried (input (begun h)) (h .loop .out) (c .attempt .last .1 .1 .1 .1 .0) (c .attempt .last .1 .1 .1 .1 .1 .0) (places w) (variables w) (starts w) (rows w) (nexts w) (lefts w)
+    (tested k .before .back .result) (h .loop .count) (h .loop .tries + k .skip .result .count + 1) (k .skip .result .row) left (c .attempt .result)
+after c =
+    let k = passed c in
+    tried (k .before .before .before .standing .ensures) (ready (tested k)) (begun (head k) .pre .0) (k .before .before .spare .ensures .0) (k .before .before .spare .ensures .1) (k .skip .ensures)
+    (moved c .before .before .before .before .further .ensures) (moved c .advance .ensures) (c .attempt .ensures .0)
+
+long : (c : tie.After-attempt Inv-loop μ-loop) → length (moved c .advance .last .0) ≡ 1536
+long c = moved c .advance .ensures .long ∙ head (passed c) .loop .inv .2
 
 -- the walk is done, and there is room for the record
 room-left : (c : tie.Else3 Inv-loop μ-loop) →
-    let h = head (c .before .before .before) in
-    let width = begun h .args .width in
+    let h = head (passed (c .before .before .before)) in
+    let width = begun h .args .limits .width in
     (width ≤ 32) × (h .loop .count * width + width ≤ length (h .loop .out))
-room-left c = put-asked (tried (c .before .before .before)) (c .before .enum-told2 .given .1) (begun (head (c .before .before .before)) .pre) (c .if3 .left)
+room-left c = put-asked (after (c .before .before .before)) (c .before .enum-told2 .given .1) (begun (head (passed (c .before .before .before))) .pre .0) (c .if3 .left)
 
+-- src/lib.rt:83:5
 loop-holds : tie.Need-loop-holds Inv-loop μ-loop
-loop-holds c = (going-start (c .before .before .before .before .pre), record { sequences = blank _ _ _ _; contexts = paths.blank _ _ _ _ })
+loop-holds c = (going-start (c .before .before .before .pre .0), record { sequences = blank _ _ _ _; contexts = paths.blank _ _ _ _ }, c .before .before .before .pre .1)
 
+-- src/lib.rt:84:9
 back-requires : tie.Need-back-requires Inv-loop μ-loop
-back-requires c κs = (going-depth (c .before .loop .inv .0) (begun (c .before) .pre), c .before .loop .inv .0 .long .lefts-long)
+back-requires c κs = (going-depth (c .before .loop .inv .0) (begun (c .before) .pre .0), c .before .loop .inv .2)
 
+-- src/lib.rt:86:13
+ended-requires : tie.Need-ended-requires Inv-loop μ-loop
+ended-requires c κs = search needs
+
+-- src/lib.rt:86:13
 same-length : tie.Need-same-length Inv-loop μ-loop
-same-length c = kept (c .before .before .before)
+same-length c = kept (c .before .before .before .before)
 
+-- src/lib.rt:86:13
 returns : tie.Need-returns Inv-loop μ-loop
-returns c = going-end (going-back (c .before .before .before .loop .inv .0) (c .before .back .ensures)) (c .if1 .taken)
+returns c = rw (c .ended .ensures .0, c .ended .ensures .1, c .ended .ensures .2) (going-end (going-back (c .before .before .before .before .loop .inv .0) (c .before .before .back .ensures)) (c .before .if1 .taken))
 
+-- src/lib.rt:89:13
+ended-requires-2 : tie.Need-ended-requires-2 Inv-loop μ-loop
+ended-requires-2 c κs = search needs
+
+-- src/lib.rt:89:13
 same-length-2 : tie.Need-same-length-2 Inv-loop μ-loop
-same-length-2 c = kept (c .before .before .before .before)
+same-length-2 c = kept (c .before .before .before .before .before)
 
+-- src/lib.rt:89:13
 returns-2 : tie.Need-returns-2 Inv-loop μ-loop
-returns-2 c = going-spent (ready (c .before)) (c .if2 .taken)
+returns-2 c = rw (c .ended2 .ensures .0, c .ended2 .ensures .1, c .ended2 .ensures .2) (going-spent (ready (c .before .before)) (c .before .if2 .taken))
 
+-- src/lib.rt:91:20
 sub-last : tie.Need-sub-last Inv-loop μ-loop
-sub-last c = omega (arith, level c)
+sub-last c = omega (arith, ready (c .before) .some)
 
-mul-spare : tie.Need-mul-spare Inv-loop μ-loop
-mul-spare c = omega (arith, level c)
+-- src/lib.rt:92:13
+standing-requires : tie.Need-standing-requires Inv-loop μ-loop
+standing-requires c κs = inside (c .before .before)
 
-array-read-spare : tie.Need-array-read-spare Inv-loop μ-loop
-array-read-spare c = omega (arith, level c)
-
+-- src/lib.rt:93:13
 spare-requires : tie.Need-spare-requires Inv-loop μ-loop
-spare-requires c κs = (level c .live, omega (arith, c .if2 .left, c .before .before .before .before .loop .inv .0 .charged))
+spare-requires c κs = (some-left (c .standing .ensures) (ready (c .before .before .before)) (begun (c .before .before .before .before .before .before) .pre .0), omega (arith, c .before .before .if2 .left, c .before .before .before .before .before .before .loop .inv .0 .charged))
 
-mul-skip : tie.Need-mul-skip Inv-loop μ-loop
-mul-skip c = omega (arith, level (c .before .before))
-
-array-read-skip : tie.Need-array-read-skip Inv-loop μ-loop
-array-read-skip c = omega (arith, level (c .before .before))
-
-mul-skip-2 : tie.Need-mul-skip-2 Inv-loop μ-loop
-mul-skip-2 c = omega (arith, level (c .before .before))
-
-array-read-skip-2 : tie.Need-array-read-skip-2 Inv-loop μ-loop
-array-read-skip-2 c = omega (arith, level (c .before .before))
-
-mul-skip-3 : tie.Need-mul-skip-3 Inv-loop μ-loop
-mul-skip-3 c = omega (arith, level (c .before .before))
-
-array-read-skip-3 : tie.Need-array-read-skip-3 Inv-loop μ-loop
-array-read-skip-3 c = omega (arith, level (c .before .before))
-
+-- src/lib.rt:94:13
 skip-requires : tie.Need-skip-requires Inv-loop μ-loop
-skip-requires c κs = level-asked (ready (c .before .before .before)) (begun (c .before .before .before .before .before .before) .pre) (c .before .spare .ensures .0)
+skip-requires c κs = skip-pre (c .before .before .standing .ensures) (ready (c .before .before .before .before .before)) (begun (c .before .before .before .before .before .before .before .before) .pre .0) (c .before .spare .ensures .0)
 
-mul-v : tie.Need-mul-v Inv-loop μ-loop
-mul-v c = omega (arith, small c)
+-- src/lib.rt:100:16
+add-left : tie.Need-add-left Inv-loop μ-loop
+add-left c = omega (arith, numbers (c .before .before))
 
-array-read-v : tie.Need-array-read-v Inv-loop μ-loop
-array-read-v c = omega (arith, small c)
-
-add-v : tie.Need-add-v Inv-loop μ-loop
-add-v c = omega (arith, small c)
-
-mul-left : tie.Need-mul-left Inv-loop μ-loop
-mul-left c = omega (arith, small c)
-
-array-read-left : tie.Need-array-read-left Inv-loop μ-loop
-array-read-left c = omega (arith, small c)
-
+-- src/lib.rt:102:20
 sub-left : tie.Need-sub-left Inv-loop μ-loop
-sub-left c = omega (arith, small c)
+sub-left c = omega (arith, numbers (c .before .before .before .before))
 
+-- src/lib.rt:102:20
 sub-left-2 : tie.Need-sub-left-2 Inv-loop μ-loop
-sub-left-2 c = omega (arith, small c)
+sub-left-2 c = omega (arith, numbers (c .before .before .before .before))
 
+-- src/lib.rt:103:20
 cast-more : tie.Need-cast-more Inv-loop μ-loop
-cast-more c = omega (arith, small c)
+cast-more c = omega (arith, numbers (c .before .before .before .before .before))
 
+-- src/lib.rt:104:17
 add-tries : tie.Need-add-tries Inv-loop μ-loop
-add-tries c = omega (arith, small c)
+add-tries c = omega (arith, numbers (c .before .before .before .before .before), begun (c .before .before .before .before .before .before .before .before .before .before .before .before .before .before) .pre .2)
 
+-- src/lib.rt:104:17
 add-tries-2 : tie.Need-add-tries-2 Inv-loop μ-loop
-add-tries-2 c = omega (arith, small c)
+add-tries-2 c = omega (arith, numbers (c .before .before .before .before .before), begun (c .before .before .before .before .before .before .before .before .before .before .before .before .before .before) .pre .2)
 
-add-nexts : tie.Need-add-nexts Inv-loop μ-loop
-add-nexts c = omega (arith, small c)
-
-mul-nexts : tie.Need-mul-nexts Inv-loop μ-loop
-mul-nexts c = omega (arith, small c)
-
-array-write-nexts : tie.Need-array-write-nexts Inv-loop μ-loop
-array-write-nexts c = omega (arith, small c)
-
-mul-lefts : tie.Need-mul-lefts Inv-loop μ-loop
-mul-lefts c = omega (arith, small c)
-
-array-write-lefts : tie.Need-array-write-lefts Inv-loop μ-loop
-array-write-lefts c = omega (arith, small c)
-
-mul-further : tie.Need-mul-further Inv-loop μ-loop
-mul-further c = omega (arith, small c)
-
-array-read-further : tie.Need-array-read-further Inv-loop μ-loop
-array-read-further c = omega (arith, small c)
-
+-- src/lib.rt:105:13
 further-requires : tie.Need-further-requires Inv-loop μ-loop
-further-requires c κs = passed-further (passing c)
+further-requires c κs = further-pre (c .before .before .before .before .before .before .before .before .standing .ensures) (ready (c .before .before .before .before .before .before .before .before .before .before .before)) (begun (c .before .before .before .before .before .before .before .before .before .before .before .before .before .before) .pre .0) (c .before .before .before .before .before .before .before .spare .ensures .0) (c .before .before .before .before .before .before .before .spare .ensures .1) (c .before .before .before .before .before .skip .ensures)
 
-mul-rows : tie.Need-mul-rows Inv-loop μ-loop
-mul-rows c = omega (arith, small (c .before))
+-- src/lib.rt:106:44
+add-advance : tie.Need-add-advance Inv-loop μ-loop
+add-advance c = omega (arith, numbers (c .before .before .before .before .before .before .before .before .before))
 
-array-write-rows : tie.Need-array-write-rows Inv-loop μ-loop
-array-write-rows c = omega (arith, small (c .before))
+-- src/lib.rt:106:44
+add-advance-2 : tie.Need-add-advance-2 Inv-loop μ-loop
+add-advance-2 c = omega (arith, numbers (c .before .before .before .before .before .before .before .before .before))
 
-mul-attempt : tie.Need-mul-attempt Inv-loop μ-loop
-mul-attempt c = omega (arith, small (c .before .before .before))
+-- src/lib.rt:106:9
+advance-requires : tie.Need-advance-requires Inv-loop μ-loop
+advance-requires c κs = inside (c .before .before .before .before .before .before .before .before .before .before .before .before .before .before .before)
 
-array-read-attempt : tie.Need-array-read-attempt Inv-loop μ-loop
-array-read-attempt c = omega (arith, small (c .before .before .before))
-
-mul-attempt-2 : tie.Need-mul-attempt-2 Inv-loop μ-loop
-mul-attempt-2 c = omega (arith, small (c .before .before .before))
-
-array-read-attempt-2 : tie.Need-array-read-attempt-2 Inv-loop μ-loop
-array-read-attempt-2 c = omega (arith, small (c .before .before .before))
-
-mul-attempt-3 : tie.Need-mul-attempt-3 Inv-loop μ-loop
-mul-attempt-3 c = omega (arith, small (c .before .before .before))
-
-array-read-attempt-3 : tie.Need-array-read-attempt-3 Inv-loop μ-loop
-array-read-attempt-3 c = omega (arith, small (c .before .before .before))
-
+-- src/lib.rt:107:15
 attempt-requires : tie.Need-attempt-requires Inv-loop μ-loop
-attempt-requires c κs = (passed-asked (passing (c .before .before .before .before .before)), c .before .before .before .before .before .before .before .before .before .before .before .before .loop .inv .1)
+attempt-requires c κs = (attempt-pre (c .before .before .before .before .before .before .before .before .before .before .before .before .before .before .before .before .before .standing .ensures) (ready (c .before .before .before .before .before .before .before .before .before .before .before .before .before .before .before .before .before .before .before .before)) (begun (c .before .before .before .before .before .before .before .before .before .before .before .before .before .before .before .before .before .before .before .before .before .before .before) .pre .0) (c .before .before .before .before .before .before .before .before .before .before .before .before .before .before .before .before .spare .ensures .0) (c .before .before .before .before .before .before .before .before .before .before .before .before .before .before .before .before .spare .ensures .1) (c .before .before .before .before .before .before .before .before .before .before .before .before .before .before .skip .ensures), c .before .before .before .before .before .before .before .before .before .before .before .before .before .before .before .before .before .before .before .before .before .before .before .loop .inv .1)
 
 enum-told : tie.Need-enum-told Inv-loop μ-loop
 enum-told c = search needs
 
+-- src/lib.rt:83:5
 loop-less : tie.Need-loop-less Inv-loop μ-loop
-loop-less c = omega (arith, tried (c .before .before) .charged)
+loop-less c = omega (arith, after (c .before .before) .charged)
 
+-- src/lib.rt:83:5
 loop-again : tie.Need-loop-again Inv-loop μ-loop
-loop-again c = (tried-fail (tried (c .before .before)) (c .enum-told .given .1), c .before .before .attempt .ensures .1)
+loop-again c = (tried-fail (after (c .before .before)) (c .enum-told .given .1), c .before .before .attempt .ensures .1, long (c .before .before))
 
+-- src/lib.rt:119:29
 enum-known-p : tie.Need-enum-known-p Inv-loop μ-loop
 enum-known-p c = search needs
 
+-- src/lib.rt:120:21
 least-requires : tie.Need-least-requires Inv-loop μ-loop
-least-requires c κs = need-room (tried (c .before .before .before)) (c .before .p .given .1) (begun (head (c .before .before .before)) .pre)
+least-requires c κs = need-room (after (c .before .before .before)) (c .before .p .given .1) (begun (c .before .before .before .before .before .before .before .before .before .before .before .before .before .before .before .before .before .before .before .before .before .before .before .before .before .before .before) .pre .0)
 
-mul-nexts-2 : tie.Need-mul-nexts-2 Inv-loop μ-loop
-mul-nexts-2 c = omega (arith, next-level (c .before))
-
-array-write-nexts-2 : tie.Need-array-write-nexts-2 Inv-loop μ-loop
-array-write-nexts-2 c = omega (arith, next-level (c .before))
-
-mul-more-values : tie.Need-mul-more-values Inv-loop μ-loop
-mul-more-values c = omega (arith, small (c .before .before .before .before .before .before .before .before .before .before .before))
-
-array-read-more-values : tie.Need-array-read-more-values Inv-loop μ-loop
-array-read-more-values c = omega (arith, small (c .before .before .before .before .before .before .before .before .before .before .before))
-
+-- src/lib.rt:121:21
 more-values-requires : tie.Need-more-values-requires Inv-loop μ-loop
-more-values-requires c κs = more-asked (tried (c .before .before .before .before .before)) (c .before .before .before .p .given .1) (begun (head (c .before .before .before .before .before)) .pre)
+more-values-requires c κs = more-pre (c .before .before .before .before .before .before .before .before .before .before .before .before .before .before .before .before .before .before .before .before .before .before .before .standing .ensures) (ready (c .before .before .before .before .before .before .before .before .before .before .before .before .before .before .before .before .before .before .before .before .before .before .before .before .before .before)) (begun (c .before .before .before .before .before .before .before .before .before .before .before .before .before .before .before .before .before .before .before .before .before .before .before .before .before .before .before .before .before) .pre .0) (c .before .before .before .before .before .before .before .before .before .before .before .before .before .before .before .before .before .before .before .before .before .before .spare .ensures .0) (c .before .before .before .before .before .before .before .before .before .before .before .before .before .before .before .before .before .before .before .before .before .before .spare .ensures .1) (c .before .before .before .before .before .before .before .before .before .before .before .before .before .before .before .before .before .before .before .before .skip .ensures) (c .before .before .before .before .before .before .before .before .before .before .before .before .before .before .further .ensures) (c .before .before .before .before .before .before .before .before .before .before .advance .ensures) (c .before .before .before .before .before .attempt .ensures .0) (c .before .before .before .p .given .1)
 
-mul-lefts-2 : tie.Need-mul-lefts-2 Inv-loop μ-loop
-mul-lefts-2 c = omega (arith, next-level (c .before .before .before))
+-- src/lib.rt:122:17
+enter-requires : tie.Need-enter-requires Inv-loop μ-loop
+enter-requires c κs = record { long = long (c .before .before .before .before .before .before .before); few = need-fits (after (c .before .before .before .before .before .before .before)) (c .before .before .before .before .before .p .given .1) (begun (c .before .before .before .before .before .before .before .before .before .before .before .before .before .before .before .before .before .before .before .before .before .before .before .before .before .before .before .before .before .before .before) .pre .0) }
 
-array-write-lefts-2 : tie.Need-array-write-lefts-2 Inv-loop μ-loop
-array-write-lefts-2 c = omega (arith, next-level (c .before .before .before))
-
-mul-places : tie.Need-mul-places Inv-loop μ-loop
-mul-places c = omega (arith, next-level (c .before .before .before))
-
-array-write-places : tie.Need-array-write-places Inv-loop μ-loop
-array-write-places c = omega (arith, next-level (c .before .before .before))
-
-mul-variables : tie.Need-mul-variables Inv-loop μ-loop
-mul-variables c = omega (arith, next-level (c .before .before .before))
-
-array-write-variables : tie.Need-array-write-variables Inv-loop μ-loop
-array-write-variables c = omega (arith, next-level (c .before .before .before))
-
-mul-starts : tie.Need-mul-starts Inv-loop μ-loop
-mul-starts c = omega (arith, next-level (c .before .before .before))
-
-array-write-starts : tie.Need-array-write-starts Inv-loop μ-loop
-array-write-starts c = omega (arith, next-level (c .before .before .before))
-
-mul-rows-2 : tie.Need-mul-rows-2 Inv-loop μ-loop
-mul-rows-2 c = omega (arith, next-level (c .before .before .before))
-
-array-write-rows-2 : tie.Need-array-write-rows-2 Inv-loop μ-loop
-array-write-rows-2 c = omega (arith, next-level (c .before .before .before))
-
+-- src/lib.rt:123:17
 add-depth : tie.Need-add-depth Inv-loop μ-loop
-add-depth c = omega (arith, next-level (c .before .before .before))
+add-depth c = omega (arith, need-fits (after (c .before .before .before .before .before .before .before .before)) (c .before .before .before .before .before .before .p .given .1) (begun (c .before .before .before .before .before .before .before .before .before .before .before .before .before .before .before .before .before .before .before .before .before .before .before .before .before .before .before .before .before .before .before .before) .pre .0))
 
+-- src/lib.rt:83:5
 loop-less-2 : tie.Need-loop-less-2 Inv-loop μ-loop
-loop-less-2 c = omega (arith, tried (c .before .before .before .before .before .before) .charged)
+loop-less-2 c = omega (arith, after (c .before .before .before .before .before .before .before .before) .charged)
 
+-- src/lib.rt:83:5
 loop-again-2 : tie.Need-loop-again-2 Inv-loop μ-loop
 loop-again-2 c = (
-  tried-need (tried (c .before .before .before .before .before .before)) (c .before .before .before .before .p .given .1) (c .before .before .least .ensures) (c .more-values .ensures) (begun (head (c .before .before .before .before .before .before)) .pre) (passing (c .before .before .before .before .before .before .before .before .before .before .before .before) .ready .some),
-  c .before .before .before .before .before .before .attempt .ensures .1,
+  deeper (c .before .before .before .before .before .before .before .before .before .before .before .before .before .before .before .before .before .before .before .before .before .before .before .before .before .before .standing .ensures) (ready (c .before .before .before .before .before .before .before .before .before .before .before .before .before .before .before .before .before .before .before .before .before .before .before .before .before .before .before .before .before)) (begun (c .before .before .before .before .before .before .before .before .before .before .before .before .before .before .before .before .before .before .before .before .before .before .before .before .before .before .before .before .before .before .before .before) .pre .0) (c .before .before .before .before .before .before .before .before .before .before .before .before .before .before .before .before .before .before .before .before .before .before .before .before .before .spare .ensures .0) (c .before .before .before .before .before .before .before .before .before .before .before .before .before .before .before .before .before .before .before .before .before .before .before .before .before .spare .ensures .1) (c .before .before .before .before .before .before .before .before .before .before .before .before .before .before .before .before .before .before .before .before .before .before .before .skip .ensures) (c .before .before .before .before .before .before .before .before .before .before .before .before .before .before .before .before .before .further .ensures) (c .before .before .before .before .before .before .before .before .before .before .before .before .before .advance .ensures) (c .before .before .before .before .before .before .before .before .attempt .ensures .0) (c .before .before .before .before .before .before .p .given .1) (c .before .before .before .before .least .ensures) (c .before .before .more-values .ensures) (c .enter .ensures),
+  c .before .before .before .before .before .before .before .before .attempt .ensures .1,
+  c .enter .ensures .long ∙ long (c .before .before .before .before .before .before .before .before),
 )
 
+-- src/lib.rt:126:20
 enum-told-2 : tie.Need-enum-told-2 Inv-loop μ-loop
 enum-told-2 c = search needs
 
+-- src/lib.rt:127:21
+ended-requires-3 : tie.Need-ended-requires-3 Inv-loop μ-loop
+ended-requires-3 c κs = search needs
+
+-- src/lib.rt:127:21
 same-length-3 : tie.Need-same-length-3 Inv-loop μ-loop
-same-length-3 c = kept (head (c .before .before .before))
+same-length-3 c = kept (c .before .before .before .before .before .before .before .before .before .before .before .before .before .before .before .before .before .before .before .before .before .before .before .before .before .before .before .before)
 
+-- src/lib.rt:127:21
 returns-3 : tie.Need-returns-3 Inv-loop μ-loop
-returns-3 c = tried-full (tried (c .before .before .before)) (c .before .enum-told2 .given .1) (c .if3 .taken)
+returns-3 c = rw (c .ended3 .ensures .0, c .ended3 .ensures .1, c .ended3 .ensures .2) (tried-full (after (c .before .before .before .before)) (c .before .before .enum-told2 .given .1) (c .before .if3 .taken))
 
+-- src/lib.rt:129:26
 mul-put : tie.Need-mul-put Inv-loop μ-loop
-mul-put c = let h = head (c .before .before .before .before) in omega (arith, room-left (c .before), kept h, begun h .good)
+mul-put c = omega (arith, room-left (c .before), kept (c .before .before .before .before .before .before .before .before .before .before .before .before .before .before .before .before .before .before .before .before .before .before .before .before .before .before .before .before), begun (c .before .before .before .before .before .before .before .before .before .before .before .before .before .before .before .before .before .before .before .before .before .before .before .before .before .before .before .before) .good)
 
+-- src/lib.rt:129:17
 put-requires : tie.Need-put-requires Inv-loop μ-loop
-put-requires c κs = let r = room-left (c .before .before) in (r .0, tried (c .before .before .before .before .before) .long .record-long, r .1)
+put-requires c κs = let r = room-left (c .before .before) in (r .0, after (c .before .before .before .before .before) .long .record-long, r .1)
 
+-- src/lib.rt:130:17
 add-count : tie.Need-add-count Inv-loop μ-loop
-add-count c = omega (arith, tried-counted (tried (c .before .before .before .before .before .before .before .before)) (begun (head (c .before .before .before .before .before .before .before .before)) .pre), c .before .before .before .before .before .if3 .left, begun (head (c .before .before .before .before .before .before .before .before)) .fits .room)
+add-count c = omega (arith, tried-counted (after (c .before .before .before .before .before .before .before .before)) (begun (c .before .before .before .before .before .before .before .before .before .before .before .before .before .before .before .before .before .before .before .before .before .before .before .before .before .before .before .before .before .before .before .before) .pre .0), c .before .before .before .before .before .if3 .left, begun (c .before .before .before .before .before .before .before .before .before .before .before .before .before .before .before .before .before .before .before .before .before .before .before .before .before .before .before .before .before .before .before .before) .pre .3)
 
+-- src/lib.rt:83:5
 loop-less-3 : tie.Need-loop-less-3 Inv-loop μ-loop
-loop-less-3 c = omega (arith, tried (c .before .before .before .before .before .before .before .before) .charged)
+loop-less-3 c = omega (arith, after (c .before .before .before .before .before .before .before .before) .charged)
 
+-- src/lib.rt:83:5
 loop-again-3 : tie.Need-loop-again-3 Inv-loop μ-loop
-loop-again-3 c = (rw (c .before .before .put .ensures) (tried-match (tried (c .before .before .before .before .before .before .before .before)) (c .before .before .before .before .before .before .enum-told2 .given .1) (c .before .before .before .before .before .if3 .left)), c .before .before .before .before .before .before .before .before .attempt .ensures .1)
+loop-again-3 c = (rw (c .before .before .put .ensures) (tried-match (after (c .before .before .before .before .before .before .before .before)) (c .before .before .before .before .before .before .enum-told2 .given .1) (c .before .before .before .before .before .if3 .left)), c .before .before .before .before .before .before .before .before .attempt .ensures .1, long (c .before .before .before .before .before .before .before .before))
 
 pub go-spec : {M : Type 1} → statement M
 go-spec =
@@ -338,72 +290,39 @@ go-spec =
     μ-loop
     loop-holds
     back-requires
+    ended-requires
     same-length
     returns
+    ended-requires-2
     same-length-2
     returns-2
     sub-last
-    mul-spare
-    array-read-spare
+    standing-requires
     spare-requires
-    mul-skip
-    array-read-skip
-    mul-skip-2
-    array-read-skip-2
-    mul-skip-3
-    array-read-skip-3
     skip-requires
-    mul-v
-    array-read-v
-    add-v
-    mul-left
-    array-read-left
+    add-left
     sub-left
     sub-left-2
     cast-more
     add-tries
     add-tries-2
-    add-nexts
-    mul-nexts
-    array-write-nexts
-    mul-lefts
-    array-write-lefts
-    mul-further
-    array-read-further
     further-requires
-    mul-rows
-    array-write-rows
-    mul-attempt
-    array-read-attempt
-    mul-attempt-2
-    array-read-attempt-2
-    mul-attempt-3
-    array-read-attempt-3
+    add-advance
+    add-advance-2
+    advance-requires
     attempt-requires
     enum-told
     loop-less
     loop-again
     enum-known-p
     least-requires
-    mul-nexts-2
-    array-write-nexts-2
-    mul-more-values
-    array-read-more-values
     more-values-requires
-    mul-lefts-2
-    array-write-lefts-2
-    mul-places
-    array-write-places
-    mul-variables
-    array-write-variables
-    mul-starts
-    array-write-starts
-    mul-rows-2
-    array-write-rows-2
+    enter-requires
     add-depth
     loop-less-2
     loop-again-2
     enum-told-2
+    ended-requires-3
     same-length-3
     returns-3
     mul-put
