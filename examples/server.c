@@ -6,22 +6,22 @@
 #include <stdio.h>
 #include "khargovsun.h"
 
-enum { BYTES = 32768, ROWS = 2048, PAGE = 10, WIDTH = 4, BUDGET = 100000 };
+enum { ROWS = KHARGOVSUN_MAX_ROWS, PAGE = 10, WIDTH = 4, BUDGET = 100000 };
 
-static const uint8_t DICTIONARY[] = "g\nf\nh\na\nb\n";
-enum { NAMES = sizeof DICTIONARY - 1 };
+static const uint8_t NAMES[] = "g\nf\nh\na\nb\n";
+static const khargovsun_bytes DICTIONARY = {NAMES, sizeof NAMES - 1};
 
 /* The query: any context over an f with any arguments, `context 0 over f(sequence 1)`, without constraints. */
-static const uint32_t KIND[] = {4, 0, 2}, NAME[] = {0, 1, 1}, SIZE[] = {3, 2, 1}, CONSTRAINT[] = {0, 0, 0, 0};
+static const uint32_t KIND[] = {KHARGOVSUN_KIND_CONTEXT, KHARGOVSUN_KIND_SYMBOL, KHARGOVSUN_KIND_SEQUENCE};
+static const uint32_t NAME[] = {0, 1, 1}, SIZE[] = {3, 2, 1}, FREE[] = {0, 0, 0, 0};
 
-static uint8_t document[BYTES + 1]; /* one byte more than is allowed, so that a longer document is refused and not cut */
-static size_t bytes;
-static uint32_t label[ROWS], size[ROWS], start[ROWS], length[ROWS], rows;
+static uint8_t input[KHARGOVSUN_MAX_DOCUMENT_BYTES + 1]; /* one byte more than is allowed, so that a longer document is refused and not cut */
+static uint32_t label[ROWS], size[ROWS], start[ROWS], length[ROWS];
 
+/* In rows that were read a row is spelt by the document from its start on, as many bytes as its length, also where the dictionary has
+ * the name: proved, LookupIsRead in crates/document/specs/Promises.antt. So no call, and no check of the dictionary, is needed for it. */
 static void spell(uint32_t row) {
-    khargovsun_part p = khargovsun_spelling(DICTIONARY, NAMES, document, bytes, label, rows, start, rows, length, rows, row);
-    const uint8_t *from = p.source == 0 ? DICTIONARY : document;
-    printf(" %.*s", (int)p.length, (const char *)from + p.start);
+    printf(" %.*s", (int)length[row], (const char *)input + start[row]);
 }
 
 /* A record has two numbers a variable: the context's row and the row of its hole; the sequence's first row and its count of terms. */
@@ -35,24 +35,24 @@ static void print_match(const uint32_t *record) {
     printf("\n");
 }
 
-static void page(void) {
+static void page(khargovsun_tree tree) {
     static const char *const ENDING[] = {"that is all", "there are more", "the search was cut short"};
-    uint32_t out[PAGE * WIDTH];
-    khargovsun_listing l = khargovsun_list(label, rows, size, rows, KIND, 3, NAME, 3, SIZE, 3, NULL, 0, NULL, 0, NULL, 0, CONSTRAINT, 4,
-                                           BUDGET, out, PAGE * WIDTH);
-    for (uint32_t k = 0; k < l.records; k++) print_match(out + k * WIDTH);
-    printf("%u matches on %u rows, %u tries: %s\n", l.records, rows, l.tries, ENDING[l.ending]);
+    khargovsun_problem problem = {.tree = tree, .pattern = {.kind = KIND, .name = NAME, .size = SIZE, .rows = 3}, .constraints = {FREE, 4}};
+    uint32_t records[PAGE * WIDTH];
+    khargovsun_lent_records out = {records, PAGE * WIDTH};
+    khargovsun_listing l = khargovsun_list_matchers(&problem, BUDGET, out);
+    for (uint32_t k = 0; k < l.records; k++) print_match(records + k * WIDTH);
+    printf("%u matches on %u rows, %u tries: %s\n", l.records, (unsigned)tree.rows, l.tries, ENDING[l.ending]);
 }
 
 int main(void) {
-    bytes = fread(document, 1, sizeof document, stdin);
-    uint64_t checked = khargovsun_check(DICTIONARY, NAMES, document, bytes);
-    if (checked >> 32 != 0) {
-        printf("refused: code %u, place %u\n", (unsigned)(checked >> 32), (unsigned)checked);
+    khargovsun_bytes document = {input, fread(input, 1, sizeof input, stdin)};
+    khargovsun_lent_rows lent = {.label = label, .size = size, .start = start, .length = length, .room = ROWS};
+    khargovsun_reading read = khargovsun_read_document(DICTIONARY, document, lent);
+    if (read.code != KHARGOVSUN_CODE_NONE) {
+        printf("refused: code %u, place %u\n", read.code, read.place);
         return 1;
     }
-    /* The lists have room for the largest document that the check lets through, so this cannot be refused. */
-    rows = khargovsun_read(DICTIONARY, NAMES, document, bytes, label, ROWS, size, ROWS, start, ROWS, length, ROWS).rows;
-    page();
+    page(khargovsun_tree_read(lent, read));
     return 0;
 }

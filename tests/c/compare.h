@@ -1,4 +1,4 @@
-/* What the two tests share: lists with their length, comparing, and counting what differs. */
+/* What the tests share: lists with their length, comparing, and counting what differs. */
 #include <stddef.h>
 #include <stdint.h>
 #include <stdio.h>
@@ -30,12 +30,12 @@ static void same(const char *name, const char *what, uint64_t got, uint64_t want
     printf("%s: %s is %lu, and should be %lu\n", name, what, (unsigned long)got, (unsigned long)want);
 }
 
-static void mark(uint32_t *to, size_t n) {
+static inline void mark(uint32_t *to, size_t n) {
     for (size_t k = 0; k < n; k++) to[k] = MARK;
 }
 
 /* The list begins with what is wanted, and is unchanged behind it. */
-static void holds(const char *name, const char *what, const uint32_t *got, size_t n, list want) {
+static inline void holds(const char *name, const char *what, const uint32_t *got, size_t n, list want) {
     compared++;
     for (size_t k = 0; k < n; k++) {
         uint32_t right = k < want.n ? want.at[k] : MARK;

@@ -1,4 +1,5 @@
 /* khargovsun_list, khargovsun_test and khargovsun_instance, held to what 01 says. */
+#include <stdbool.h>
 #include "compare.h"
 #include "khargovsun.h"
 
@@ -167,14 +168,42 @@ static const struct making {
 /* ---- The calls ---- */
 
 #define LENT(l) (l).at, (l).n
+#define LENDS(l) (l).at, (l).length
 #define TREE(t) LENT((t).label), LENT((t).size)
 #define ROWS3(r) LENT((r).kind), LENT((r).name), LENT((r).size)
 #define PROBLEM(p) TREE((p).tree), ROWS3((p).pattern), ROWS3((p).expression), LENT((p).constraint)
 
-static void list_is(const char *name, const problem *p, uint32_t budget, size_t room, khargovsun_listing want, list records) {
-    static uint32_t out[BEYOND];
-    mark(out, BEYOND);
-    khargovsun_listing got = khargovsun_list(PROBLEM(*p), budget, room ? out : NULL, room);
+/* Each call is made with the lists one by one and, where lists that belong together are equally long, with the header's structs too. */
+static unsigned by_structs, by_lists_alone;
+
+static bool even(rows3 r) {
+    return r.kind.n == r.name.n && r.name.n == r.size.n;
+}
+
+static bool expressible(tree t, rows3 pattern, rows3 expression) {
+    bool all = t.label.n == t.size.n && even(pattern) && even(expression);
+    *(all ? &by_structs : &by_lists_alone) += 1;
+    return all;
+}
+
+static khargovsun_tree tree_of(tree t) {
+    return (khargovsun_tree){.label = t.label.at, .size = t.size.at, .rows = t.size.n};
+}
+
+static khargovsun_pattern pattern_of(rows3 r) {
+    return (khargovsun_pattern){.kind = r.kind.at, .name = r.name.at, .size = r.size.at, .rows = r.size.n};
+}
+
+static khargovsun_problem problem_of(const problem *p) {
+    const rows3 *e = &p->expression;
+    return (khargovsun_problem){.tree = tree_of(p->tree), .pattern = pattern_of(p->pattern),
+                                .expressions = {.kind = e->kind.at, .name = e->name.at, .size = e->size.at, .rows = e->size.n},
+                                .constraints = {LENT(p->constraint)}};
+}
+
+static uint32_t out[BEYOND];
+
+static void listed(const char *name, khargovsun_listing got, khargovsun_listing want, list records) {
     same(name, "the code", got.code, want.code);
     same(name, "the ending", got.ending, want.ending);
     same(name, "the records", got.records, want.records);
@@ -182,22 +211,48 @@ static void list_is(const char *name, const problem *p, uint32_t budget, size_t 
     holds(name, "out", out, BEYOND, records);
 }
 
-static void test_is(const char *name, const problem *p, list record, uint32_t code, uint32_t yes) {
-    khargovsun_testing got = khargovsun_test(PROBLEM(*p), LENT(record));
+static void list_is(const char *name, const problem *p, uint32_t budget, size_t room, khargovsun_listing want, list records) {
+    khargovsun_lent_records lent = {room ? out : NULL, room};
+    mark(out, BEYOND);
+    listed(name, khargovsun_list(PROBLEM(*p), budget, LENDS(lent)), want, records);
+    if (!expressible(p->tree, p->pattern, p->expression)) return;
+    khargovsun_problem q = problem_of(p);
+    mark(out, BEYOND);
+    listed(name, khargovsun_list_matchers(&q, budget, lent), want, records);
+}
+
+static void tested(const char *name, khargovsun_testing got, uint32_t code, uint32_t yes) {
     same(name, "the test's code", got.code, code);
     same(name, "the test's yes", got.yes, yes);
 }
 
+static void test_is(const char *name, const problem *p, list record, uint32_t code, uint32_t yes) {
+    tested(name, khargovsun_test(PROBLEM(*p), LENT(record)), code, yes);
+    if (!expressible(p->tree, p->pattern, p->expression)) return;
+    khargovsun_problem q = problem_of(p);
+    khargovsun_record r = {LENT(record)};
+    tested(name, khargovsun_test_record(&q, r), code, yes);
+}
+
 static uint32_t new_label[ROWS + 2], new_size[ROWS + 2];
 
-static void instance_is(const char *name, tree t, rows3 pattern, list record, size_t label_room, size_t size_room, uint32_t code, list label, list size) {
-    mark(new_label, ROWS + 2), mark(new_size, ROWS + 2);
-    khargovsun_making got = khargovsun_instance(TREE(t), ROWS3(pattern), LENT(record), label_room ? new_label : NULL, label_room,
-                                                size_room ? new_size : NULL, size_room);
+static void made(const char *name, khargovsun_making got, uint32_t code, list label, list size) {
     same(name, "the code", got.code, code);
     same(name, "the rows", got.rows, label.n);
     holds(name, "label", new_label, ROWS + 2, label);
     holds(name, "size", new_size, ROWS + 2, size);
+    mark(new_label, ROWS + 2), mark(new_size, ROWS + 2);
+}
+
+static void instance_is(const char *name, tree t, rows3 pattern, list record, size_t label_room, size_t size_room, uint32_t code, list label, list size) {
+    static const rows3 nothing = NOTHING;
+    uint32_t *to_label = label_room ? new_label : NULL, *to_size = size_room ? new_size : NULL;
+    mark(new_label, ROWS + 2), mark(new_size, ROWS + 2);
+    made(name, khargovsun_instance(TREE(t), ROWS3(pattern), LENT(record), to_label, label_room, to_size, size_room), code, label, size);
+    if (label_room != size_room || !expressible(t, pattern, nothing)) return;
+    khargovsun_lent_tree lent = {.label = to_label, .size = to_size, .room = size_room};
+    khargovsun_record r = {LENT(record)};
+    made(name, khargovsun_make_instance(tree_of(t), pattern_of(pattern), r, lent), code, label, size);
 }
 
 /* A listed record passes the test, and the pattern under it is the tree again. */
@@ -262,5 +317,6 @@ int main(void) {
     for (size_t k = 0; k < COUNT(TESTINGS); k++) test_is(TESTINGS[k].name, &TESTINGS[k].problem, TESTINGS[k].record, TESTINGS[k].code, TESTINGS[k].yes);
     makings();
     largest();
+    same("the structs", "calls with them, and some with lists alone", by_structs > 0 && by_lists_alone > 0, true);
     return result("matcher.c");
 }

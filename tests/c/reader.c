@@ -39,23 +39,46 @@ static const struct reading {
     {"1 before 3", BYTES("\n"), BYTES("<g>"), 1, 0, 0, NONE, NONE, NONE, NONE},
 };
 
-static void check_is(const char *name, bytes dictionary, bytes document, uint32_t code, uint32_t place, uint32_t rows) {
-    same(name, "the check", khargovsun_check(dictionary.at, dictionary.n, document.at, document.n), code * 4294967296u + place + rows);
+/* Each call is made with the lists one by one and, where the four are equally long, with the header's structs too. */
+
+static khargovsun_bytes bytes_of(bytes b) {
+    return (khargovsun_bytes){b.at, b.n};
 }
 
-/* Reads into lists of these lengths; with code 0 the rows' entries are looked at by the caller. */
-static void read_is(const char *name, bytes dictionary, bytes document, const size_t room[4], uint32_t code, uint32_t place, uint32_t rows) {
+static void answered(const char *name, khargovsun_reading got, uint32_t code, uint32_t place, uint32_t rows) {
+    same(name, "the code", got.code, code);
+    same(name, "the place", got.place, place);
+    same(name, "the rows", got.rows, rows);
+}
+
+static void check_is(const char *name, bytes dictionary, bytes document, uint32_t code, uint32_t place, uint32_t rows) {
+    same(name, "the check", khargovsun_check(dictionary.at, dictionary.n, document.at, document.n), code * 4294967296u + place + rows);
+    answered(name, khargovsun_check_document(bytes_of(dictionary), bytes_of(document)), code, place, rows);
+}
+
+static void mark_all(void) {
     mark(label, BEYOND), mark(size, BEYOND), mark(start, BEYOND), mark(length, BEYOND);
-    khargovsun_reading r = khargovsun_read(dictionary.at, dictionary.n, document.at, document.n, room[0] ? label : NULL, room[0],
-                                           room[1] ? size : NULL, room[1], room[2] ? start : NULL, room[2], room[3] ? length : NULL, room[3]);
-    same(name, "the code", r.code, code);
-    same(name, "the place", r.place, place);
-    same(name, "the rows", r.rows, rows);
+}
+
+/* The entries of the rows are looked at by the caller. */
+static void was_read(const char *name, khargovsun_reading got, uint32_t code, uint32_t place, uint32_t rows) {
     list none = NONE;
+    answered(name, got, code, place, rows);
     holds(name, "label behind the rows", label + rows, BEYOND - rows, none);
     holds(name, "size behind the rows", size + rows, BEYOND - rows, none);
     holds(name, "start behind the rows", start + rows, BEYOND - rows, none);
     holds(name, "length behind the rows", length + rows, BEYOND - rows, none);
+}
+
+static void read_is(const char *name, bytes dictionary, bytes document, const size_t room[4], uint32_t code, uint32_t place, uint32_t rows) {
+    uint32_t *to[4] = {room[0] ? label : NULL, room[1] ? size : NULL, room[2] ? start : NULL, room[3] ? length : NULL};
+    mark_all();
+    was_read(name, khargovsun_read(dictionary.at, dictionary.n, document.at, document.n, to[0], room[0], to[1], room[1], to[2], room[2], to[3], room[3]),
+             code, place, rows);
+    if (room[0] != room[1] || room[1] != room[2] || room[2] != room[3]) return;
+    khargovsun_lent_rows lent = {.label = to[0], .size = to[1], .start = to[2], .length = to[3], .room = room[0]};
+    mark_all();
+    was_read(name, khargovsun_read_document(bytes_of(dictionary), bytes_of(document), lent), code, place, rows);
 }
 
 /* With one entry too few in one of the four lists, whichever it is, the code is 6. */
@@ -73,15 +96,34 @@ static void spelling_is(const char *name, khargovsun_part got, uint32_t source, 
     same(name, "the part's length", got.length, n);
 }
 
+/* The rows that stand in the four lists, as the reader answers them. */
+static const khargovsun_lent_rows LENT = {.label = label, .size = size, .start = start, .length = length, .room = ROOM};
+
+static khargovsun_part spelt(bytes dictionary, bytes document, size_t rows, size_t row) {
+    khargovsun_reading reading = {.rows = (uint32_t)rows};
+    return khargovsun_spell_row(bytes_of(dictionary), bytes_of(document), LENT, reading, row);
+}
+
 /* Every row that was read is spelt by the bytes that stand in the document, whichever side answers; the row after them is not there. */
 static void spells(const char *name, bytes dictionary, bytes document, size_t rows) {
     for (size_t row = 0; row < rows; row++) {
         khargovsun_part p = khargovsun_spelling(dictionary.at, dictionary.n, document.at, document.n, label, rows, start, rows, length, rows, row);
-        const uint8_t *from = (p.source == 0 ? dictionary.at : document.at) + p.start;
+        const uint8_t *from = (p.source == KHARGOVSUN_SOURCE_DICTIONARY ? dictionary.at : document.at) + p.start;
         same(name, "the spelling's length", p.length, length[row]);
         for (uint32_t k = 0; k < p.length; k++) same(name, "a byte of the spelling", from[k], document.at[start[row] + k]);
+        spelling_is(name, spelt(dictionary, document, rows, row), p.source, p.start, p.length);
     }
     spelling_is(name, khargovsun_spelling(dictionary.at, dictionary.n, document.at, document.n, label, rows, start, rows, length, rows, rows), 1, 0, 0);
+    spelling_is(name, spelt(dictionary, document, rows, rows), 1, 0, 0);
+}
+
+/* The tree of what was read has the lists that were lent, as many rows as were answered. */
+static void tree_is_read(const char *name, uint32_t rows) {
+    khargovsun_reading reading = {.rows = rows};
+    khargovsun_tree tree = khargovsun_tree_read(LENT, reading);
+    same(name, "the tree's labels are those lent", tree.label == label, 1);
+    same(name, "the tree's sizes are those lent", tree.size == size, 1);
+    same(name, "the tree's rows", tree.rows, rows);
 }
 
 static void readings(void) {
@@ -98,6 +140,7 @@ static void readings(void) {
         holds(r->name, "start", start, BEYOND, r->start);
         holds(r->name, "length", length, BEYOND, r->length);
         spells(r->name, r->dictionary, r->document, r->rows);
+        tree_is_read(r->name, r->rows);
     }
 }
 
@@ -165,12 +208,19 @@ static const struct spelling {
     {"no lists at all", NONE, NONE, NONE, NONE, NONE, 0, 1, 0, 0},
 };
 
+/* The same by the header's structs, for which the three lists are copied to those that are lent. */
+static void spelling_by_structs_is(const struct spelling *s) {
+    for (size_t k = 0; k < s->label.n; k++) label[k] = s->label.at[k], start[k] = s->start.at[k], length[k] = s->length.at[k];
+    spelling_is(s->name, spelt(s->dictionary, s->document, s->label.n, s->row), s->source, s->from, s->n);
+}
+
 static void spellings(void) {
     for (size_t k = 0; k < COUNT(SPELLINGS); k++) {
         const struct spelling *s = &SPELLINGS[k];
         khargovsun_part p = khargovsun_spelling(s->dictionary.at, s->dictionary.n, s->document.at, s->document.n, s->label.at, s->label.n,
                                                 s->start.at, s->start.n, s->length.at, s->length.n, s->row);
         spelling_is(s->name, p, s->source, s->from, s->n);
+        if (s->label.n == s->start.n && s->start.n == s->length.n) spelling_by_structs_is(s);
     }
 }
 

@@ -1,4 +1,4 @@
-/* The kit has x86-64's C library and no headers: these four hold what our C files use. */
+/* The kit has x86-64's C library and no headers: these hold what our C files use. */
 #ifndef KIT_STDINT_H
 #define KIT_STDINT_H
 typedef unsigned char uint8_t;
