@@ -5,6 +5,8 @@ ghost use Prim.Native.Nat.{_+_, _*_, _<_, _≤_};
 ghost use lib.ListN.{length, getD};
 ghost use Rattle.choice.specs.Stops.{AtStop, LeastPost, ValuesPost, LandingPre, LandingPost, FurtherPre, FurtherPost, FewerPre, Fewer, MorePre, MorePost};
 ghost use Rattle.choice.specs.Runs.{HolesPost, NeighboursPre, NeighboursPost, WholePre, WholePost, LevelPre, SkipPost};
+use meaning::kinds::SEQUENCE;
+use meaning::kinds::SYMBOL;
 
 // How many terms stand from a row on, if that is known.
 pub enum Counted {
@@ -23,7 +25,11 @@ pub fn least(pattern: &[u32; 1536], p: usize, s: usize) -> usize
     requires { ⌜ 6 * p + 5 < length (now pattern) ⌝ }
     ensures { λ r. ⌜ LeastPost (now (pattern .entry)) p s r ⌝ }
 {
-    if walk::kind(pattern, p) == 2 { 0 } else { s }
+    if walk::kind(pattern, p) == SEQUENCE {
+        0
+    } else {
+        s
+    }
 }
 
 // How many values there are: a row of the term each, or a count of the terms that are left in the list.
@@ -31,7 +37,7 @@ pub fn values(size: &[u32], pattern: &[u32; 1536], at: &[usize; 256], p: usize, 
     requires { ⌜ AtStop (now size) (now pattern) (now at) p s ⌝ }
     ensures { λ r. ⌜ ValuesPost (now (size .entry)) (now (pattern .entry)) (now (at .entry)) p s r ⌝ }
 {
-    if walk::kind(pattern, p) != 2 {
+    if walk::kind(pattern, p) != SEQUENCE {
         return tree::at(size, s);
     }
     let h = walk::holder(pattern, p);
@@ -44,7 +50,7 @@ pub fn landing(size: &[u32], pattern: &[u32; 1536], p: usize, s: usize, v: usize
     requires { ⌜ LandingPre (now size) (now pattern) p s v ⌝ }
     ensures { λ r. ⌜ LandingPost (now (size .entry)) (now (pattern .entry)) p s v r ⌝ }
 {
-    if walk::kind(pattern, p) == 2 {
+    if walk::kind(pattern, p) == SEQUENCE {
         return tree::past(size, s, v);
     }
     v
@@ -58,7 +64,7 @@ pub fn further(size: &[u32], pattern: &[u32; 1536], p: usize, u: usize, left: us
     if left == 0 {
         return u;
     }
-    if walk::kind(pattern, p) == 2 {
+    if walk::kind(pattern, p) == SEQUENCE {
         return tree::next(size, u);
     }
     u + 1
@@ -96,8 +102,8 @@ pub fn more_values(
     requires { ⌜ MorePre (now size) (now pattern) (now at) q u left p s ⌝ }
     ensures { λ r. ⌜ MorePost (now (size .entry)) (now (pattern .entry)) (now (at .entry)) q u left p s r ⌝ }
 {
-    if walk::kind(pattern, q) == 2 {
-        if walk::kind(pattern, p) == 2 {
+    if walk::kind(pattern, q) == SEQUENCE {
+        if walk::kind(pattern, p) == SEQUENCE {
             if walk::holder(pattern, q) == walk::holder(pattern, p) {
                 return match fewer(size, u, s, left) {
                     Counted::Unknown => values(size, pattern, at, p, s),
@@ -172,7 +178,7 @@ fn terms(
     if p + 1 == walk::next(pattern, h) {
         return whole(size, at, h, u, left, limit);
     }
-    if walk::kind(pattern, p + 1) == 0 {
+    if walk::kind(pattern, p + 1) == SYMBOL {
         let symbol = walk::name(pattern, p + 1);
         return neighbours(label, size, symbol, u, limit);
     }
@@ -194,10 +200,10 @@ pub fn skip(
     requires { ⌜ LevelPre (now label) (now size) (now pattern) (now at) p u left limit ⌝ }
     ensures { λ r. ⌜ SkipPost (now (label .entry)) (now (size .entry)) (now (pattern .entry)) (now (at .entry)) p u left limit (r .count) (r .row) ⌝ }
 {
-    if walk::kind(pattern, p) == 2 {
+    if walk::kind(pattern, p) == SEQUENCE {
         return terms(label, size, pattern, at, p, u, left, limit);
     }
-    if walk::kind(pattern, p + 1) == 0 {
+    if walk::kind(pattern, p + 1) == SYMBOL {
         let symbol = walk::name(pattern, p + 1);
         let count = holes(label, symbol, u, limit);
         let row = u + count;

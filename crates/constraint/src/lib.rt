@@ -16,6 +16,9 @@ ghost use Rattle.constraint.specs.Whole.{Good};
 ghost use Rattle.pattern.specs.Known.{KindsAre};
 ghost use Rattle.constraint.specs.Pair.{Pair, GivenPre};
 ghost use Rattle.constraint.specs.Reading.{HeadsPre, MorePre, ReadTo, ReadOn, PathPre, After, ObeysPre, ObeysPost, ForbiddenPost};
+use meaning::kinds::FUNCTION;
+use meaning::kinds::INDIVIDUAL;
+use meaning::kinds::SEQUENCE;
 
 // Whether a variable of this kind may have these two numbers.
 fn paired(kind: u32, size: &[u32], first: u32, flag: u32) -> bool
@@ -28,10 +31,10 @@ fn paired(kind: u32, size: &[u32], first: u32, flag: u32) -> bool
     if 1 < flag {
         return false;
     }
-    if kind == 1 {
+    if kind == INDIVIDUAL {
         return false;
     }
-    if kind == 3 {
+    if kind == FUNCTION {
         return false;
     }
     let above = first as usize;
@@ -161,7 +164,7 @@ pub fn forbidden(flag: u32, kind: u32, a: usize, b: usize) -> bool
     if flag != 1 {
         return false;
     }
-    if kind == 2 {
+    if kind == SEQUENCE {
         return b == 0;
     }
     a == b
@@ -189,7 +192,7 @@ pub fn obeys(
     }
     let above = start as usize;
     let root = above - 1;
-    if kind == 2 {
+    if kind == SEQUENCE {
         let state = after_heads(label, size, tables, root, a, b);
         return state.end;
     }

@@ -9,6 +9,11 @@ ghost use Rattle.expression.specs.Good.{GoodTable};
 ghost use Rattle.expression.specs.Starts.{StartsAt};
 ghost use Rattle.expression.specs.Rule.{numberAt, NameFits, SizeFits};
 
+pub mod kinds;
+
+use kinds::REPETITION;
+use kinds::SYMBOL;
+
 fn wide(x: u32) -> usize
     ensures is { λ r. ⌜ r ≡ x ⌝ }
     ensures below { λ r. ⌜ r < 4294967296 ⌝ }
@@ -20,7 +25,7 @@ fn wide(x: u32) -> usize
 fn named(kind: u32, name: u32) -> bool
     ensures { λ r. ⌜ Says r (NameFits kind name) ⌝ }
 {
-    if kind == 0 {
+    if kind == SYMBOL {
         return name < 65536;
     }
     name == 0
@@ -45,7 +50,7 @@ fn sized(kind: &[u32], size: &[u32], row: usize) -> bool
         return false;
     }
     let left = wide(size[l]);
-    if k == 4 {
+    if k == REPETITION {
         return own == left + 1;
     }
     let r = l + left;

@@ -12,6 +12,10 @@ ghost use Rattle.letters.specs.Accepts.{flagAt};
 ghost use Rattle.letters.specs.State.{StateOf, TablesOf};
 ghost use Rattle.letters.specs.Tables.{noted, five, LayPre, Holds};
 ghost use Rattle.letters.specs.Following.{gate, headSet, headNull, HeadRow, Shape, PartsAre, followed, ContsOf};
+use expression::kinds::CHOICE;
+use expression::kinds::CONCATENATION;
+use expression::kinds::EMPTY;
+use expression::kinds::SYMBOL;
 
 // The rows that may read the next letter, and whether the word may end here.
 pub struct State {
@@ -78,22 +82,22 @@ fn head_of(kind: u32, row: usize, l: Head, r: Head) -> Head
     ensures { λ h. ⌜ (h .first ≡ headSet kind row (l .first) (l .null) (r .first)) × (h .null ≡ headNull kind (l .null) (r .null)) ⌝ }
 {
     match kind {
-        0 => Head {
+        SYMBOL => Head {
             first: 1u64 << row,
             null: false,
         },
-        1 => Head {
+        EMPTY => Head {
             first: 0,
             null: true,
         },
-        2 => {
+        CONCATENATION => {
             let more = gated(l.null, r.first);
             Head {
                 first: l.first | more,
                 null: l.null & r.null,
             }
         }
-        3 => Head {
+        CHOICE => Head {
             first: l.first | r.first,
             null: l.null | r.null,
         },
@@ -150,7 +154,7 @@ fn follow(kind: u32, head: Head, here: State) -> State
     ensures { λ r. ⌜ (r .next ≡ followed kind (bitOr (head .first) (gate (head .null) (here .next))) (bitOr (head .first) (here .next)) (here .next))
         × (r .end ≡ followed kind (head .null && here .end) (here .end) (here .end)) ⌝ }
 {
-    if kind == 2 {
+    if kind == CONCATENATION {
         let more = gated(head.null, here.next);
         return State {
             next: head.first | more,

@@ -3,6 +3,8 @@ ghost use mathlib.Core.Path.{_≡_};
 ghost use Rattle.listing.proofs.Back.{fitting};
 ghost use Rattle.lister.specs.Begun.{BeginPre, BeginPost};
 ghost use Rattle.lister.specs.Listed.{Settled};
+use meaning::endings::ALL;
+use meaning::endings::ROOM;
 use search::Found;
 use search::Limits;
 
@@ -38,7 +40,7 @@ fn begin(
     let mut record = [0u32; 32];
     let mut at = [0usize; 256];
     match walk::begin(label, size, pattern, &mut record, &mut at) {
-        walk::Out::Fail => search::ended(0, 0, 0),
+        walk::Out::Fail => search::ended(ALL, 0, 0),
         walk::Out::Need(p, x, s) => {
             let mut levels = [0usize; 1536];
             let least = choice::least(pattern, p, s);
@@ -64,10 +66,10 @@ fn begin(
         }
         walk::Out::Ok(_) => {
             if room == 0 {
-                return search::ended(1, 0, 0);
+                return search::ended(ROOM, 0, 0);
             }
             search::put(out, 0, &record, width);
-            search::ended(0, 1, 0)
+            search::ended(ALL, 1, 0)
         }
     }
 }

@@ -1,1 +1,4 @@
-// No code: what trees, patterns, substitutions, instances and records are stands in specs/, their laws in proofs/.
+// What matchers and records are, and the rules' numbers by name. No function.
+pub mod codes;
+pub mod endings;
+pub mod kinds;

@@ -4,6 +4,7 @@ ghost use mathlib.Core.Path.{_≡_};
 ghost use Prim.Native.Nat.{_<_, _-_};
 ghost use lib.ListN.{length};
 ghost use Rattle.memory.specs.Memory.{kept, RecallPre, RecallPost, GrownPre, GrownPost, GrowPre, GrowPost};
+use meaning::kinds::SEQUENCE;
 
 // A reading of the heads of a sequence: where it stands, its state, and how many are read.
 struct Recalled {
@@ -129,7 +130,7 @@ pub fn judge(
         return false;
     }
     let root = row_of(start);
-    if kind == 2 {
+    if kind == SEQUENCE {
         return grown(label, size, tables, root, p, a, b, memory);
     }
     paths::accepted(label, size, tables, root, p, a, b, path)

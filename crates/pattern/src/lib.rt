@@ -5,6 +5,11 @@ ghost use lib.ListN.{length};
 ghost use Rattle.meaning.specs.Says.{Says};
 ghost use Rattle.pattern.specs.Answer.{Refused, Settled};
 ghost use Rattle.pattern.specs.Scan.{OneArgumentAt, SizedAt, Named, Scanned};
+use meaning::kinds::CONTEXT;
+use meaning::kinds::FUNCTION;
+use meaning::kinds::INDIVIDUAL;
+use meaning::kinds::SEQUENCE;
+use meaning::kinds::SYMBOL;
 
 // The kinds are by the variables' numbers, 0 for numbers that are not used.
 pub struct Checked {
@@ -39,7 +44,7 @@ fn one_argument(kind: &[u32], size: &[u32], row: usize) -> bool
     if first == kind.len() {
         return false;
     }
-    if kind[first] == 2 {
+    if kind[first] == SEQUENCE {
         return false;
     }
     if size[row] < 2 {
@@ -54,9 +59,9 @@ fn sized(kind: &[u32], size: &[u32], row: usize) -> bool
     ensures { λ r. ⌜ Says r (SizedAt (now (kind .entry)) (now (size .entry)) row) ⌝ }
 {
     match kind[row] {
-        0 | 3 => true,
-        1 | 2 => size[row] == 1,
-        4 => one_argument(kind, size, row),
+        SYMBOL | FUNCTION => true,
+        INDIVIDUAL | SEQUENCE => size[row] == 1,
+        CONTEXT => one_argument(kind, size, row),
         _ => false,
     }
 }
@@ -66,7 +71,7 @@ fn named(kinds: &[u32; 16], kind: u32, name: usize, variables: usize) -> Naming
     requires { ⌜ (length (now kinds) ≡ 16) × (variables ≤ 16) ⌝ }
     ensures { λ r. ⌜ Named (now (kinds .entry)) kind name variables r ⌝ }
 {
-    if kind == 0 {
+    if kind == SYMBOL {
         if name < 65536 {
             return Naming::Known;
         }
@@ -137,7 +142,7 @@ pub fn check(kind: &[u32], name: &[u32], size: &[u32]) -> Checked
     if !tree::shape(size) {
         return refused();
     }
-    if kind[0] == 2 {
+    if kind[0] == SEQUENCE {
         return refused();
     }
     scan(kind, name, size)

@@ -3,6 +3,10 @@ ghost use Rattle.problem.specs.Answer.{Answered};
 ghost use Rattle.problem.specs.Judge.{JudgePre, JudgePost};
 ghost use Rattle.pattern.specs.Answer.{listed};
 ghost use mathlib.Core.List.{[]};
+use meaning::codes::CONSTRAINTS;
+use meaning::codes::EXPRESSIONS;
+use meaning::codes::PATTERN;
+use meaning::codes::TREE;
 
 // What the checks of a problem's lists come to: the code, and for code 0 the pattern's variables and their kinds.
 pub struct Problem {
@@ -46,19 +50,19 @@ pub fn check(
     }) r ⌝ }
 {
     if !tree::good(label, size) {
-        return refused(11);
+        return refused(TREE);
     }
     let checked = pattern::check(kind, name, pattern_size);
     if !checked.good {
-        return refused(12);
+        return refused(PATTERN);
     }
     if !expression::good(expression_kind, expression_name, expression_size) {
-        return refused(13);
+        return refused(EXPRESSIONS);
     }
     let kinds = checked.kinds;
     let variables = checked.variables;
     if !constraint::given(variables, &kinds, expression_size, constraint) {
-        return refused(14);
+        return refused(CONSTRAINTS);
     }
     Problem {
         code: 0,

@@ -2,6 +2,8 @@ ghost use Rattle.meaning.specs.Says.{Says};
 ghost use Rattle.meaning.specs.Pattern.{anIndividual, aSequence, aFunction, aContext};
 ghost use Rattle.record.specs.Good.{Good};
 ghost use Rattle.record.specs.Pairs.{RowsPre, FitsPost, PairPost, RecordPre, RecordPost};
+use meaning::kinds::CONTEXT;
+use meaning::kinds::SEQUENCE;
 
 // An individual or a function variable: its row is in the tree, and the second number is 0.
 fn row_fits(size: &[u32], a: usize, b: usize) -> bool
@@ -47,10 +49,10 @@ fn pair_fits(size: &[u32], kind: u32, a: usize, b: usize) -> bool
     requires { ⌜ RowsPre (now size) ⌝ }
     ensures { λ r. ⌜ PairPost (now (size .entry)) kind a b r ⌝ }
 {
-    if kind == 2 {
+    if kind == SEQUENCE {
         return sequence_fits(size, a, b);
     }
-    if kind == 4 {
+    if kind == CONTEXT {
         return context_fits(size, a, b);
     }
     row_fits(size, a, b)

@@ -5,6 +5,9 @@ ghost use lib.Seq.{paste};
 ghost use Rattle.levels.specs.Columns.{places, variables, starts, rows, nexts, lefts};
 ghost use Rattle.search.specs.Search.{GoPre, GoPost};
 use levels::Try;
+use meaning::endings::ALL;
+use meaning::endings::BUDGET;
+use meaning::endings::ROOM;
 
 // What the search comes to: the ending, how many records were written, and the tries.
 pub struct Found {
@@ -83,10 +86,10 @@ pub fn go(
     loop {
         depth = levels::back(levels, depth);
         if depth == 0 {
-            return ended(0, count, tries);
+            return ended(ALL, count, tries);
         }
         if tries == budget {
-            return ended(2, count, tries);
+            return ended(BUDGET, count, tries);
         }
         let last = depth - 1;
         let l = levels::standing(levels, last);
@@ -124,7 +127,7 @@ pub fn go(
             }
             walk::Out::Ok(_) => {
                 if count == room {
-                    return ended(1, count, tries);
+                    return ended(ROOM, count, tries);
                 }
                 put(out, count * width, record, width);
                 count += 1;

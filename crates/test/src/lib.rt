@@ -5,6 +5,7 @@ ghost use Rattle.meaning.specs.Says.{Says};
 ghost use Rattle.test.specs.Tested.{Settled};
 ghost use Rattle.test.specs.Followed.{FollowPre, FollowPost};
 ghost use Rattle.test.specs.Inside.{Copied, WalkablePre, PlacedPost, ConstrainedPre, ObeyedPost, AllPre, AllPost};
+use meaning::codes::RECORD;
 
 // What the test of one record answers.
 pub enum Tested {
@@ -177,7 +178,7 @@ pub fn test(
     let kinds = p.kinds;
     let variables = p.variables;
     if !record::fits(size, &kinds, variables, record) {
-        return Tested::Refused(15);
+        return Tested::Refused(RECORD);
     }
     if !placed(
         label,

@@ -5,6 +5,7 @@ ghost use mathlib.Core.Path.{_≡_};
 ghost use Prim.Native.Nat.{_+_, _<_};
 ghost use lib.ListN.{length, set};
 ghost use Rattle.variable.specs.Steps.{IndividualPre, IndividualPost, HeadPre, HeadPost, SequencePre, SequencePost, ContextPre, ContextPost};
+use meaning::kinds::SYMBOL;
 
 // What an individual variable and the head of a term answer: no match, or one with so many variables bound.
 pub enum Bound {
@@ -54,11 +55,11 @@ pub fn individual(
 }
 
 // The head of the term at row t: the symbol or function variable x.
-pub fn head(label: &[u32], record: &mut [u32], kind: usize, x: usize, t: usize, n: usize) -> Bound
+pub fn head(label: &[u32], record: &mut [u32], kind: u32, x: usize, t: usize, n: usize) -> Bound
     requires { ⌜ HeadPre (now label) (now «record») kind x t n ⌝ }
     ensures { λ r. ⌜ HeadPost (now (label .entry)) (now («record» .entry)) kind x t n r (now («record» .exit)) ⌝ }
 {
-    if kind == 0 {
+    if kind == SYMBOL {
         if x == tree::at(label, t) {
             return Bound::Ok(n);
         }

@@ -7,6 +7,9 @@ ghost use Rattle.walk.specs.Above.{Came};
 ghost use Rattle.walk.specs.Cycle.{TermPre, TermPost, ListPre, ListPost};
 ghost use Rattle.walk.specs.Onward.{UpPre, UpPost, ResumePre, ResumePost, BeginPre, BeginPost};
 ghost use Rattle.walk.specs.Taken.{TakePre, TakePost};
+use meaning::kinds::CONTEXT;
+use meaning::kinds::INDIVIDUAL;
+use meaning::kinds::SEQUENCE;
 
 // What a walk answers: no match; a variable that has to be chosen, with the row of the pattern, its number and the row of the tree
 // where it starts; or a match with so many variables bound.
@@ -85,11 +88,11 @@ pub fn pack(kind: &[u32], name: &[u32], size: &[u32], constraint: &[u32], packed
 }
 
 // A pattern row's kind.
-pub fn kind(pattern: &[u32; 1536], p: usize) -> usize
+pub fn kind(pattern: &[u32; 1536], p: usize) -> u32
     requires { ⌜ 6 * p + 5 < length (now pattern) ⌝ }
     ensures { λ r. ⌜ r ≡ getD (now (pattern .entry)) (6 * p) 0 ⌝ }
 {
-    tree::at(pattern, 6 * p)
+    tree::at(pattern, 6 * p) as u32
 }
 
 // A pattern row's name.
@@ -169,13 +172,13 @@ fn term(
     come(at, p, t);
     let k = kind(pattern, p);
     let x = name(pattern, p);
-    if k == 1 {
+    if k == INDIVIDUAL {
         return match variable::individual(label, size, record, x, t, n) {
             variable::Bound::Fail => Out::Fail,
             variable::Bound::Ok(m) => Out::Ok(m),
         };
     }
-    if k == 4 {
+    if k == CONTEXT {
         return match variable::context(label, size, record, x, t, n) {
             variable::Step::Fail => Out::Fail,
             variable::Step::Need => Out::Need(p, x, t),
@@ -219,7 +222,7 @@ fn args(
     let mut u = t;
     let mut m = n;
     while q != pe {
-        if kind(pattern, q) == 2 {
+        if kind(pattern, q) == SEQUENCE {
             let x = name(pattern, q);
             match variable::sequence(label, size, record, x, u, te, m) {
                 variable::Step::Fail => return Out::Fail,
@@ -271,7 +274,7 @@ fn up(
     let mut m = n;
     while q != 0 {
         let h = holder(pattern, q);
-        if kind(pattern, h) == 4 {
+        if kind(pattern, h) == CONTEXT {
             q = h;
         } else {
             let t = row(at, q);
@@ -315,7 +318,7 @@ pub fn resume(
     requires { ⌜ ResumePre (now label) (now size) (now pattern) (now «record») (now at) p u n ⌝ }
     ensures { λ r. ⌜ ResumePost (now (label .entry)) (now (size .entry)) (now (pattern .entry)) (now («record» .entry)) (now (at .entry)) p u n r (now («record» .exit)) (now (at .exit)) ⌝ }
 {
-    if kind(pattern, p) == 2 {
+    if kind(pattern, p) == SEQUENCE {
         let h = holder(pattern, p);
         let g = row(at, h);
         return match args(
