@@ -141,7 +141,7 @@ module _ {d w label size start width label' size' start' width' : List ℕ} {nam
           let p : i < length (spellingsOf f) = omega (arith, ap length e, labels-n, spellings-n) in
           rw e (omega (arith, label-below names (spellingsOf f) i p, g .few, spellings-n, whole v refl .few))
 
-  pub spelt : Spelt w label' start' width' n names (spellingsOf f)
+  pub spelt : Spelt w label' start' width' n names f
   spelt = record {
     all = spellings-n;
     inside = λ r h. rows-spell start start' width width' y (u .start-is) (u .width-is) r (omega (arith, rows-n)) .inside;
@@ -165,11 +165,13 @@ tree-is-good d w _ _ _ _ _ _ _ _ p n r = go r refl
     go (filled g v z y u) e = good-tree g v y u
 
 pub spellings-inside : SpellingsInside
-spellings-inside d w _ _ _ _ _ _ _ _ p n r = go r refl
+spellings-inside d w _ _ _ _ _ _ _ _ p n names f t r g y = go r refl
   where
-    go : {d w label size start width label' size' start' width' : List ℕ} {c p n : ℕ} → Read d w label size start width label' size' start' width' c p n → c ≡ 0 →
-        (names spellings : List (List ℕ)) × Spelt w label' start' width' n names spellings
-    go (badDictionary h u) e = absurd (omega (arith, e))
-    go (badDocument g v z u) e = absurd (z e)
-    go (noRoom g v z u) e = absurd (omega (arith, e))
-    go (filled {names} {f} g v z y u) e = (names, spellingsOf f, spelt g v y u)
+    go : {label size start width label' size' start' width' : List ℕ} {c p n : ℕ} → Read d w label size start width label' size' start' width' c p n → c ≡ 0 → Spelt w label' start' width' n names f
+    go (badDictionary h u) e = absurd (h names g)
+    go (badDocument g' v z u) e = absurd (z e)
+    go (noRoom g' v z u) e = absurd (omega (arith, e))
+    go (filled {names = ns} {f = h} g' v z y' u) e =
+        let a : ns ≡ names = good-unique g' g in
+        let b : h ≡ f = one-reading y' y .0 in
+        rw (a, b) at (spelt g' v y' u)

@@ -5,8 +5,11 @@ use mathlib.Core.List.{List, []}
 use Prim.Native.Nat.{ℕ, _+_, _*_, _≤_, _<_}
 use lib.ListN.{length, getD, take, drop}
 use Rattle.tree.specs.Good.{Good}
+use Rattle.grammar.specs.Grammar.{Bytes, Content, Document}
+use Rattle.dictionary.specs.Names.{GoodDictionary}
 use Rattle.dictionary.specs.Labels.{labelsOf}
 use Rattle.dictionary.specs.Spelling.{SpellingAnswered}
+use Rattle.document.specs.Labels.{spellingsOf}
 use Rattle.document.specs.Reading.{Read, shortest}
 use Rattle.document.specs.Checked.{Checked}
 
@@ -42,18 +45,19 @@ TreeIsGood =
     (d w label size start width label' size' start' width' : List ℕ) (place rows : ℕ) →
     Read d w label size start width label' size' start' width' 0 place rows → Good (take rows label') (take rows size')
 
--- each row's spelling lies within the document, and the labels are those of the spellings: a name's place, and then by first appearance
-pub record Spelt (w label start width : List ℕ) (rows : ℕ) (names spellings : List (List ℕ)) : Type 0 where
-  pub all : length spellings ≡ rows
+-- for a content f of the document and the dictionary's names: each row's spelling stands in the document at its start and length, and
+-- the labels are those of the spellings, a name's place, and then by first appearance
+pub record Spelt (w label start width : List ℕ) (rows : ℕ) (names : List (List ℕ)) (f : Content) : Type 0 where
+  pub all : length (spellingsOf f) ≡ rows
   pub inside : (row : ℕ) → row < rows → getD start row 0 + getD width row 0 ≤ length w
-  pub bytes : (row : ℕ) → row < rows → take (getD width row 0) (drop (getD start row 0) w) ≡ getD spellings row []
-  pub labelled : take rows label ≡ labelsOf names spellings
+  pub bytes : (row : ℕ) → row < rows → take (getD width row 0) (drop (getD start row 0) w) ≡ getD (spellingsOf f) row []
+  pub labelled : take rows label ≡ labelsOf names (spellingsOf f)
 
 abbrev pub SpellingsInside : Type 0
 SpellingsInside =
-    (d w label size start width label' size' start' width' : List ℕ) (place rows : ℕ) →
-    Read d w label size start width label' size' start' width' 0 place rows →
-    (names spellings : List (List ℕ)) × Spelt w label' start' width' rows names spellings
+    (d w label size start width label' size' start' width' : List ℕ) (place rows : ℕ) (names : List (List ℕ)) (f : Content) (t : Bytes) →
+    Read d w label size start width label' size' start' width' 0 place rows → GoodDictionary d names → Document w f t →
+    Spelt w label' start' width' rows names f
 
 -- the spelling lookup of a tree that was read gives a row the bytes that stand at its start and length in the document, also where the
 -- dictionary answers

@@ -21,8 +21,8 @@ use Rattle.tree.proofs.Unique.{good-lengths}
 use Rattle.pattern.specs.Good.{GoodPattern}
 use Rattle.instance.specs.declared.Made.{Made}
 use Rattle.instance.specs.declared.Made.the-variants.{Refused, Rows}
-use Rattle.instance.specs.Instance.{codeGiven, rowsGiven, Lists, Instance, Codes}
-use Rattle.instance.specs.Promises.{OneMaking, MatcherMade}
+use Rattle.instance.specs.Instance.{codeGiven, rowsGiven, Lists, Instance, Codes, Settled}
+use Rattle.instance.specs.Promises.{OneMaking}
 use Rattle.instance.proofs.Whole.{one-instance}
 
 -- one code
@@ -83,7 +83,11 @@ accepted-code {U = U} i h a b c (inr (_, inr (_, inr (_, inl (x, _))))) = absurd
 accepted-code {U = U} i h a b c (inr (_, inr (_, inr (_, inr (_, inl (x, _)))))) = absurd (x (U, i, a, b))
 accepted-code i h a b c (inr (_, inr (_, inr (_, inr (_, inr (_, e)))))) = e
 
-pub matcher-made : MatcherMade
+-- .. and is written where it fits
+pub matcher-made : (Allowed : ℕ → Value → Type 0) (allowed? : (x : ℕ) (v : Value) → Dec (Allowed x v)) (l : Lists) (T : Term) (P : Pattern) (Q : List Kind) (OL OS : List ℕ) (r : Made) (NL NS : List ℕ)
+    → GoodTree (l .label) (l .size) T → GoodPattern (l .kind) (l .name) (l .patternSize) P Q → IsRecord Allowed Q P T (l .numbers) → Settled l OL OS r NL NS
+    → length (l .label) ≤ length OL → length (l .label) ≤ length OS
+    → (r ≡ Rows (length (l .label))) × (NL ≡ l .label ++ drop (length (l .label)) OL) × (NS ≡ l .size ++ drop (length (l .label)) OS)
 unfolding rows
 matcher-made Allowed allowed? l T P Q OL OS r NL NS t p m s a b =
     let i = matcher-instance Allowed allowed? t p m in

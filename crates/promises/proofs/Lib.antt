@@ -1,3 +1,4 @@
+pub mod Reader
 pub mod Refusals
 pub mod Answers
 pub mod Lists

@@ -8,11 +8,13 @@ use mathlib.Core.List.{List, [], _++_}
 use lib.ListN.{length, drop, getD}
 use Rattle.meaning.specs.Forest.{none, Term, _◂_}
 use Rattle.meaning.specs.Pattern.{Pattern, Kind}
-use Rattle.meaning.specs.Value.{Value}
+use Rattle.meaning.specs.Value.{Value, kinds}
 use Rattle.meaning.specs.Solves.{Solves}
 use Rattle.meaning.specs.Record.{recordOf}
+use Rattle.meaning.specs.Matcher.{IsRecord}
+use Rattle.meaning.specs.Order.{choices}
 use Rattle.meaning.specs.Read.{readOff}
-use Rattle.meaning.specs.Reached.{Begins}
+use Rattle.meaning.specs.Reached.{Begins, Reached}
 use Rattle.expression.specs.Expression.{Expression}
 use Rattle.constraint.specs.Obeys.{Constraint, Allowed}
 use Rattle.problem.specs.Problem.{Lists, Poses}
@@ -31,6 +33,7 @@ pub record ListIs (Q : List Kind) (P : Pattern) (T : Term) (cs : List Constraint
   pub all : List (List ℕ)
   pub tries : List (List ℕ)
   -- the lent list: the records, and behind them what it held
+  pub accepted : r .code ≡ 0
   pub counted : r .records ≡ length listed
   pub written : after ≡ joined listed ++ drop (length (joined listed)) before
   -- all solutions, once each and in order, and nothing else; all tries
@@ -42,21 +45,22 @@ pub record ListIs (Q : List Kind) (P : Pattern) (T : Term) (cs : List Constraint
   pub within : r .tries ≤ budget
   -- a list that ends complete
   pub every : r .ending ≡ 0 → (σ : List Value) → Solves (Allowed cs) Q σ P T → Mem (recordOf P σ) listed
-  pub only : (x : List ℕ) → Mem x listed → (σ : List Value) × Solves (Allowed cs) Q σ P T × (recordOf P σ ≡ x)
-  -- no two of its records mean one substitution
+  pub only : (x : List ℕ) → Mem x listed → IsRecord (Allowed cs) Q P T x
+  -- a record means its substitution, so that each that solves has one; and no two that are listed mean the same
+  pub means : (σ : List Value) → Solves (Allowed cs) Q σ P T → readOff Q (T ◂ none) (recordOf P σ) ≡ σ
   pub once : (i j : ℕ) → i < j → j < length listed → readOff Q (T ◂ none) (getD listed i []) ≡ readOff Q (T ◂ none) (getD listed j []) → ⊥
 
 -- of every answer that keeps the lister's promise, for every problem that is well formed
 abbrev pub ListsAll : Type 0
 ListsAll =
     (l : Lists) (budget : ℕ) (before after : List ℕ) (r : Listed) (T : Term) (P : Pattern) (Q : List Kind) (es : List Expression) (cs : List Constraint)
-    → Settled l budget before r after → r .code ≡ 0 → Poses l T P Q es cs → ListIs Q P T cs budget before r after
+    → Settled l budget before r after → Poses l T P Q es cs → ListIs Q P T cs budget before r after
 
 -- a complete list is empty if and only if nothing solves
 abbrev pub EmptyIsNone : Type 0
 EmptyIsNone =
     (l : Lists) (budget : ℕ) (before after : List ℕ) (r : Listed) (T : Term) (P : Pattern) (Q : List Kind) (es : List Expression) (cs : List Constraint)
-    → Settled l budget before r after → r .code ≡ 0 → r .ending ≡ 0 → Poses l T P Q es cs → (r .records ≡ 0) ↔ ((σ : List Value) → Solves (Allowed cs) Q σ P T → ⊥)
+    → Settled l budget before r after → r .ending ≡ 0 → Poses l T P Q es cs → (r .records ≡ 0) ↔ ((σ : List Value) → Solves (Allowed cs) Q σ P T → ⊥)
 
 -- more room or budget only lengthens the list
 abbrev pub MoreLengthens : Type 0
@@ -64,7 +68,16 @@ MoreLengthens =
     (l : Lists) (b c : ℕ) (before after before' after' : List ℕ) (r s : Listed) (T : Term) (P : Pattern) (Q : List Kind) (es : List Expression) (cs : List Constraint)
     → b ≤ c → length before ≤ length before' → Poses l T P Q es cs → (x : ListIs Q P T cs b before r after) (y : ListIs Q P T cs c before' s after') → Begins (x .listed) (y .listed)
 
+-- the choices up to a try tell which it is: where two places are reached by the same choices, the values so far are the same, and so are
+-- those to be tried. So each vector in the list of tries is one try.
+abbrev pub OnePlace : Type 0
+OnePlace =
+    (l : Lists) (T : Term) (P : Pattern) (Q : List Kind) (es : List Expression) (cs : List Constraint) (σ τ : List Value) (a b c d : ℕ)
+    → Poses l T P Q es cs → Reached (Allowed cs) Q σ P T a b → Reached (Allowed cs) Q τ P T c d
+    → choices (kinds σ) (recordOf P σ) ≡ choices (kinds τ) (recordOf P τ) → (σ ≡ τ) × (a ≡ c) × (b ≡ d)
+
 pub record Listings : Type 0 where
   pub lists-all : ListsAll
+  pub one-place : OnePlace
   pub empty-is-none : EmptyIsNone
   pub more-lengthens : MoreLengthens
