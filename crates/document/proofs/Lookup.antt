@@ -51,7 +51,7 @@ module _ {d w label start width : List ℕ} {names : List (List ℕ)} {f : Conte
       either true e = by-name (ltb-true (getD label row 0) (length names) e)
       either false e = by-document
 
-  pub looked-up : {bytes : List ℕ} → SpellingAnswered d w label start width row bytes → bytes ≡ take (getD width row 0) (drop (getD start row 0) w)
+  pub looked-up : {dAt wAt at : ℕ × ℕ} {bytes : List ℕ} → SpellingAnswered dAt wAt d w label start width row at bytes → bytes ≡ take (getD width row 0) (drop (getD start row 0) w)
   looked-up x =
       x .bytes-are
       ∙ ap (λ (ns : List (List ℕ)). bytesOf d w (spellingOf ns w label start width row)) (x .taken .good names g)
@@ -63,10 +63,10 @@ begun : {n row : ℕ} (xs before after : List ℕ) → after ≡ xs ++ drop (len
 begun xs before after e h l = omega (arith, ap length e, length-append xs (drop (length xs) before))
 
 pub lookup-is-read : LookupIsRead
-lookup-is-read d w _ _ _ _ _ _ _ _ p n row bytes r l x = go r refl l x
+lookup-is-read d w _ _ _ _ _ _ _ _ p n row dAt wAt at bytes r l x = go r refl l x
   where
     go : {label size start width label' size' start' width' : List ℕ} {c p n : ℕ} → Read d w label size start width label' size' start' width' c p n → c ≡ 0 → row < n →
-        SpellingAnswered d w label' start' width' row bytes → bytes ≡ take (getD width' row 0) (drop (getD start' row 0) w)
+        SpellingAnswered dAt wAt d w label' start' width' row at bytes → bytes ≡ take (getD width' row 0) (drop (getD start' row 0) w)
     go (badDictionary h u) e l x = absurd (omega (arith, e))
     go (badDocument g v z u) e l x = absurd (z e)
     go (noRoom g v z u) e l x = absurd (omega (arith, e))

@@ -63,6 +63,6 @@ SpellingsInside =
 -- dictionary answers
 abbrev pub LookupIsRead : Type 0
 LookupIsRead =
-    (d w label size start width label' size' start' width' : List ℕ) (place rows row : ℕ) (bytes : List ℕ) →
-    Read d w label size start width label' size' start' width' 0 place rows → row < rows → SpellingAnswered d w label' start' width' row bytes →
+    (d w label size start width label' size' start' width' : List ℕ) (place rows row : ℕ) (dictionaryAt documentAt at : ℕ × ℕ) (bytes : List ℕ) →
+    Read d w label size start width label' size' start' width' 0 place rows → row < rows → SpellingAnswered dictionaryAt documentAt d w label' start' width' row at bytes →
     bytes ≡ take (getD width' row 0) (drop (getD start' row 0) w)

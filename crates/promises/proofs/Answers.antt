@@ -1,6 +1,6 @@
 -- Demand 2 holds.
 use Prim.Native.Nat.{ℕ}
-use mathlib.Core.Path.{_≡_, refl, sym}
+use mathlib.Core.Path.{_≡_, refl, sym, ap, subst, _∙_}
 use mathlib.Core.Bool.{true, false, true≢false}
 use mathlib.Core.Logic.{inl, inr}
 use mathlib.Core.List.{List}
@@ -13,7 +13,8 @@ use Rattle.meaning.proofs.Round.{round-good}
 use Rattle.grammar.specs.Grammar.{Bytes, Content, Document}
 use Rattle.grammar.proofs.Unique.{one-reading}
 use Rattle.dictionary.specs.Names.{GoodDictionary}
-use Rattle.dictionary.proofs.Names.{good-unique}
+use Rattle.dictionary.specs.Spelling.{spellingOf, bytesOf, IsPart, standsAt}
+use Rattle.dictionary.proofs.Names.{good-unique, names-unique}
 use Rattle.document.specs.Reading.{Read, Written, badDictionary, badDocument, noRoom, filled}
 use Rattle.document.proofs.Promises.{tree-is-good, spellings-inside}
 use Rattle.document.proofs.Lookup.{lookup-is-read}
@@ -26,7 +27,7 @@ use Rattle.test.specs.Tested.{codeOf, yesOf, Fifteen, Settled}
 use Rattle.test.specs.declared.Tested.{Tested}
 use Rattle.test.specs.declared.Tested.the-variants.{Refused, Yes, No}
 use Rattle.instance.proofs.Promises.{matcher-made}
-use Rattle.promises.specs.Answers.{Tests, Answers}
+use Rattle.promises.specs.Answers.{LooksUp, Tests, Answers}
 
 module _ {d w l s b n l' s' b' n' : List ℕ} where
   tree : {code place rows : ℕ} {names : List (List ℕ)} {f : Content} {t : Bytes} → Read d w l s b n l' s' b' n' code place rows → code ≡ 0
@@ -38,6 +39,14 @@ module _ {d w l s b n l' s' b' n' : List ℕ} where
       let a : ns ≡ names = good-unique g' g in
       let c : h ≡ f = one-reading y' y .0 in
       rw (a, c) at u
+
+looks-up : LooksUp
+looks-up = record {
+  part = λ {d} {w} {l} {b} {n} {row} {s} {t} {u} x m. subst (λ (ns : List (List ℕ)). IsPart s t u (spellingOf ns w l b n row)) (names-unique (x .taken) m) (x .part-is);
+  slice = λ {dAt} {wAt} {at} {d} {w} {l} {b} {n} {v} {row} x m.
+      let e = ap (λ (ns : List (List ℕ)). spellingOf ns w l b n row) (names-unique (x .taken) m) in
+      (x .stands ∙ ap (standsAt dAt wAt) e, x .bytes-are ∙ ap (bytesOf d w) e);
+}
 
 -- a yes is no refusal
 accepted : (r : Tested) → yesOf r ≡ true → codeOf r ≡ 0
@@ -61,6 +70,7 @@ tests l list r T P Q es cs s p =
 pub answers : Answers
 answers = record {
   reader = record { tree = tree; one = λ a c. one-reading a c .0; taken = tree-is-good; spelt = spellings-inside; looked-up = lookup-is-read };
+  lookup = looks-up;
   test = tests;
   instance = λ l L S L' S' r T P Q cs s t p m a b. matcher-made (Allowed cs) (allowed? cs) l T P Q L S r L' S' t p m s a b;
 }

@@ -12,7 +12,8 @@ use Rattle.meaning.specs.Matcher.{IsRecord}
 use Rattle.tree.specs.Good.{GoodTree}
 use Rattle.pattern.specs.Good.{GoodPattern}
 use Rattle.grammar.specs.Grammar.{Bytes, Content, Document}
-use Rattle.dictionary.specs.Names.{GoodDictionary}
+use Rattle.dictionary.specs.Names.{GoodDictionary, NamesOf}
+use Rattle.dictionary.specs.Spelling.{spellingOf, bytesOf, IsPart, PartAnswered, standsAt, SpellingAnswered}
 use Rattle.document.specs.Reading.{Read, Written}
 use Rattle.document.specs.Promises.{TreeIsGood, SpellingsInside, LookupIsRead}
 use Rattle.expression.specs.Expression.{Expression}
@@ -34,6 +35,12 @@ pub record TreeRead : Type 0 where
   pub spelt : SpellingsInside
   pub looked-up : LookupIsRead
 
+-- the spelling lookup gives the part that 01 names, of the slice that it names, for any row and any lists: by its numbers, and as a slice
+pub record LooksUp : Type 0 where
+  pub part : {d w l b n : List ℕ} {row s t u : ℕ} {names : List (List ℕ)} → PartAnswered d w l b n row s t u → NamesOf d names → IsPart s t u (spellingOf names w l b n row)
+  pub slice : {dAt wAt at : ℕ × ℕ} {d w l b n v : List ℕ} {row : ℕ} {names : List (List ℕ)} → SpellingAnswered dAt wAt d w l b n row at v → NamesOf d names
+      → (at ≡ standsAt dAt wAt (spellingOf names w l b n row)) × (v ≡ bytesOf d w (spellingOf names w l b n row))
+
 -- the test says yes exactly to the records of matchers
 abbrev pub Tests : Type 0
 Tests =
@@ -50,5 +57,6 @@ MatcherMade =
 
 pub record Answers : Type 0 where
   pub reader : TreeRead
+  pub lookup : LooksUp
   pub test : Tests
   pub instance : MatcherMade

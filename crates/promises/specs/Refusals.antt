@@ -48,7 +48,7 @@ pub record OnlyOne : Type 1 where
   pub judge : {w : List ℕ} {c p n c' p' n' : ℕ} → Verdict w c p n → Verdict w c' p' n' → (c ≡ c') × (p ≡ p') × (n ≡ n')
   pub dictionary : {d : List ℕ} {a b : Bool} {j k : ℕ} → DictionaryChecked d a j → DictionaryChecked d b k → (a ≡ b) × (j ≡ k)
   pub part : {d w l b n : List ℕ} {row s t u s' t' u' : ℕ} → PartAnswered d w l b n row s t u → PartAnswered d w l b n row s' t' u' → (s ≡ s') × (t ≡ t') × (u ≡ u')
-  pub spelling : {d w l b n : List ℕ} {row : ℕ} {v v' : List ℕ} → SpellingAnswered d w l b n row v → SpellingAnswered d w l b n row v' → v ≡ v'
+  pub spelling : {dAt wAt at at' : ℕ × ℕ} {d w l b n : List ℕ} {row : ℕ} {v v' : List ℕ} → SpellingAnswered dAt wAt d w l b n row at v → SpellingAnswered dAt wAt d w l b n row at' v' → (at ≡ at') × (v ≡ v')
   pub pattern : {k n s : List ℕ} {r r' : PatternChecked} → Pattern.Settled k n s r → Pattern.Settled k n s r' → r ≡ r'
   pub problem : {l : Problem.Lists} {r r' : ProblemChecked} → Posed.Answered l r → Posed.Answered l r' → r ≡ r'
   pub test : {l : Problem.Lists} {list : List ℕ} {r s : Tested} → Test.Settled l list r → Test.Settled l list s → r ≡ s
