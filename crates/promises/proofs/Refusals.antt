@@ -5,8 +5,8 @@ use mathlib.Core.Bool.{Bool, true, false}
 use mathlib.Core.List.{List}
 use native.Mathlib.Decide.{ℕ-discrete}
 use Rattle.meaning.specs.Lowest.{accept}
-use Rattle.meaning.specs.Says.{Says}
 use Rattle.meaning.proofs.OneCode.{one-accept}
+use Rattle.meaning.proofs.Answers.{one-answer as one-yes}
 use Rattle.pattern.specs.Answer.{Settled}
 use Rattle.pattern.specs.declared.Checked.{Checked}
 use Rattle.judge.proofs.OneVerdict.{one-verdict}
@@ -23,12 +23,6 @@ use Rattle.lister.proofs.Unique.{Same, one-listed}
 use Rattle.instance.proofs.Promises.{one-making}
 use Rattle.promises.specs.Refusals.{Refusals}
 use Rattle.promises.proofs.Reader.{read, unchanged, check}
-
-one-yes : {P : Type 0} (a b : Bool) → Says a P → Says b P → a ≡ b
-one-yes true true h k = refl
-one-yes true false h k = sym (k .1 (h .0 refl))
-one-yes false true h k = h .1 (k .0 refl)
-one-yes false false h k = refl
 
 one-pattern-answer : {k n s : List ℕ} {r r' : Checked} → Settled k n s r → Settled k n s r' → r ≡ r'
 one-pattern-answer {k} {n} {s} {r} {r'} a b = go (r .good) refl
