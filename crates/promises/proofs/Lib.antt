@@ -5,3 +5,4 @@ pub mod Lists
 pub mod Examples
 pub mod Table
 pub mod Demands
+pub mod Wrong
