@@ -26,7 +26,7 @@ use Rattle.problem.proofs.Posed.{codes-high, one-codes}
 use Rattle.test.specs.Tested.{codeOf, yesOf, Fifteen, Settled}
 use Rattle.test.specs.declared.Tested.{Tested}
 use Rattle.test.specs.declared.Tested.the-variants.{Refused, Yes, No}
-use Rattle.instance.proofs.Promises.{matcher-made}
+use Rattle.instance.proofs.Promises.{instance-made, matcher-made}
 use Rattle.promises.specs.Answers.{LooksUp, Tests, Answers}
 
 module _ {d w l s b n l' s' b' n' : List ℕ} where
@@ -72,5 +72,6 @@ answers = record {
   reader = record { tree = tree; one = λ a c. one-reading a c .0; taken = tree-is-good; spelt = spellings-inside; looked-up = lookup-is-read };
   lookup = looks-up;
   test = tests;
-  instance = λ l L S L' S' r T P Q cs s t p m a b. matcher-made (Allowed cs) (allowed? cs) l T P Q L S r L' S' t p m s a b;
+  instance = λ l L S L' S' r U s i h a b. instance-made l L S r L' S' U i h a b s;
+  of-matcher = λ l L S L' S' r T P Q cs s t p m a b. matcher-made (Allowed cs) (allowed? cs) l T P Q L S r L' S' t p m s a b;
 }

@@ -6,9 +6,10 @@ use mathlib.Core.Logic.{_↔_}
 use mathlib.Core.Bool.{true}
 use mathlib.Core.List.{List, _++_}
 use lib.ListN.{length, drop}
-use Rattle.meaning.specs.Forest.{Term}
+use Rattle.meaning.specs.Forest.{none, Term, _◂_, size}
 use Rattle.meaning.specs.Pattern.{Pattern, Kind}
 use Rattle.meaning.specs.Matcher.{IsRecord}
+use Rattle.tree.specs.Rows.{labels, sizes}
 use Rattle.tree.specs.Good.{GoodTree}
 use Rattle.pattern.specs.Good.{GoodPattern}
 use Rattle.grammar.specs.Grammar.{Bytes, Content, Document}
@@ -47,7 +48,13 @@ Tests =
     (l : Lists) (list : List ℕ) (r : Tested) (T : Term) (P : Pattern) (Q : List Kind) (es : List Expression) (cs : List Constraint) → Settled l list r → Poses l T P Q es cs
     → (yesOf r ≡ true) ↔ IsRecord (Allowed cs) Q P T list
 
--- for the record of a matcher, whatever the constraints, the instance maker writes the tree itself, where it fits
+-- the instance maker writes the pattern under the record's substitution, where it fits
+abbrev pub InstanceMade : Type 0
+InstanceMade =
+    (l : Maker.Lists) (L S L' S' : List ℕ) (r : Made) (U : Term) → Maker.Settled l L S r L' S' → Maker.Instance l U → size U ≤ 2048 → size U ≤ length L → size U ≤ length S
+    → (r ≡ Rows (size U)) × (L' ≡ labels (U ◂ none) ++ drop (size U) L) × (S' ≡ sizes (U ◂ none) ++ drop (size U) S)
+
+-- and for the record of a matcher, whatever the constraints, that is the tree
 abbrev pub MatcherMade : Type 0
 MatcherMade =
     (l : Maker.Lists) (L S L' S' : List ℕ) (r : Made) (T : Term) (P : Pattern) (Q : List Kind) (cs : List Constraint) → Maker.Settled l L S r L' S'
@@ -59,4 +66,5 @@ pub record Answers : Type 0 where
   pub reader : TreeRead
   pub lookup : LooksUp
   pub test : Tests
-  pub instance : MatcherMade
+  pub instance : InstanceMade
+  pub of-matcher : MatcherMade
