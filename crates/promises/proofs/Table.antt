@@ -32,7 +32,7 @@ use Rattle.listing.proofs.Stays.{run-stays, fitting-more}
 use Rattle.lister.specs.Listed.{Settled}
 use Rattle.lister.specs.declared.Listed.{Listed}
 use Rattle.lister.proofs.Unique.{one-listed}
-use Rattle.promises.specs.Table.{Row, Serves, answerOf, outOf, Answers, table, TableHolds}
+use Rattle.promises.specs.Table.{Row, Serves, answerOf, outOf, RowHolds, table, TableHolds}
 use Rattle.promises.proofs.Refusals.{one-answer-listed}
 use Rattle.promises.proofs.Lists.{ran, ran-meant}
 use Rattle.promises.proofs.Examples.{query-on-tree, two-sequences, in-choice, same-sequence, in-repetition, same-context, no-term-left, function-over-individual, is-ground}
@@ -71,7 +71,7 @@ fitting-same m n (suc w) h = h
 
 -- what a row says of one budget and one lent list holds wherever the row serves
 pub answers : {T : Term} {P : Pattern} {Q : List Kind} {es : List Expression} {cs : List Constraint} (row : Row) (p : Poses (row .lists) T P Q es cs)
-    → run-of p (row .budget) (row .lent) ≡ record { records = row .records; ending = row .ending; tries = row .tries } → Answers row
+    → run-of p (row .budget) (row .lent) ≡ record { records = row .records; ending = row .ending; tries = row .tries } → RowHolds row
 answers {T} {P} {Q} {es} {cs} row p e = record { exactly = λ budget before h. exact budget before (serves (row .ending) refl budget (length before) h) }
   where
     serves : (ending : ℕ) → ending ≡ row .ending → (budget lent : ℕ) → Serves ending row budget lent → run-of p budget lent ≡ record { records = row .records; ending = row .ending; tries = row .tries }
@@ -105,7 +105,7 @@ of-all C [] h a m = absurd m
 of-all C (b ∷ l) h a (inl e) = rw e (h .0)
 of-all C (b ∷ l) h a (inr m) = of-all C l (h .1) a m
 
-each-row : All Answers table
+each-row : All RowHolds table
 unfolding walkT walkF rows terms takeT dropT cut cutF holeRow decLe ℕ-discrete decLt heads path when? by? either? parts? again? repeated? word? in? flagged? obeys? allowed?
 each-row = (
   answers _ query-on-tree refl,
@@ -149,4 +149,4 @@ each-row = (
 )
 
 pub table-holds : TableHolds
-table-holds = of-all Answers table each-row
+table-holds = of-all RowHolds table each-row

@@ -27,7 +27,7 @@ ReaderCodes d w room =
     accept)))))
 
 -- code, place and rows
-pub record Answered (d w : List ℕ) (room code place number : ℕ) : Type 0 where
+pub record ReaderAnswer (d w : List ℕ) (room code place number : ℕ) : Type 0 where
   pub lowest : ReaderCodes d w room code
   pub placed : code ≡ 3 → OutsideAt w place
   pub no-place : (code ≡ 3 → ⊥) → place ≡ 0

@@ -25,14 +25,14 @@ use Rattle.lister.specs.declared.Listed.{Listed}
 use Rattle.instance.specs.Instance as Maker
 use Rattle.instance.specs.Promises.{OneMaking}
 use Rattle.instance.specs.declared.Made.{Made}
-use Rattle.promises.specs.Reader.{Answered}
+use Rattle.promises.specs.Reader.{ReaderAnswer}
 
 -- the reader and the C server's check give the lowest code whose rule is broken, and 0 where none is, with 01's place and rows; a
 -- tree of 2,048 rows has room in the check, so that it never gives 6
 pub record ReaderRefuses : Type 0 where
-  pub read : {d w l s b n l' s' b' n' : List ℕ} {code place rows : ℕ} → Read d w l s b n l' s' b' n' code place rows → Answered d w (shortest l s b n) code place rows
+  pub read : {d w l s b n l' s' b' n' : List ℕ} {code place rows : ℕ} → Read d w l s b n l' s' b' n' code place rows → ReaderAnswer d w (shortest l s b n) code place rows
   pub unchanged : {d w l s b n l' s' b' n' : List ℕ} {code place rows : ℕ} → Read d w l s b n l' s' b' n' code place rows → (code ≡ 0 → ⊥) → Unchanged l s b n l' s' b' n'
-  pub check : {d w : List ℕ} {r : ℕ} → Checked d w r → (code : ℕ) × (place : ℕ) × (rows : ℕ) × Answered d w 2048 code place rows × (r ≡ code * 4294967296 + (place + rows))
+  pub check : {d w : List ℕ} {r : ℕ} → Checked d w r → (code : ℕ) × (place : ℕ) × (rows : ℕ) × ReaderAnswer d w 2048 code place rows × (r ≡ code * 4294967296 + (place + rows))
   pub check-is-read : CheckIsRead
 
 -- the lister, the test and the instance maker give the lowest code whose rule is broken, and 0 where none is

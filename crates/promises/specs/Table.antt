@@ -32,7 +32,7 @@ abbrev pub outOf : Row → List ℕ → List ℕ
 outOf row before = joined (row .records) ++ drop (length (joined (row .records))) before
 
 -- the lister's promise holds of this answer and this list, and of no other
-pub record Answers (row : Row) : Type 0 where
+pub record RowHolds (row : Row) : Type 0 where
   pub exactly : (budget : ℕ) (before : List ℕ) → Serves (row .ending) row budget (length before)
       → (r : Listed) (after : List ℕ) → Settled (row .lists) budget before r after ↔ ((r ≡ answerOf row) × (after ≡ outOf row before))
 
@@ -110,4 +110,4 @@ table =
     ∷ []
 
 abbrev pub TableHolds : Type 0
-TableHolds = (r : Row) → Mem r table → Answers r
+TableHolds = (r : Row) → Mem r table → RowHolds r
