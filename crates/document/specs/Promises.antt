@@ -1,5 +1,4 @@
--- 01, "What the contracts have to decide": "Each public function has a contract that settles its result and every lent list afterwards, on
--- all inputs, refused ones too; uniqueness of both is shown". And what else is promised of a document that was read.
+-- What else is promised of a document that was read: the C server's check agrees, its tree is good, and its spellings are found again.
 use mathlib.Core.Path.{_≡_}
 use mathlib.Core.List.{List, []}
 use Prim.Native.Nat.{ℕ, _+_, _*_, _≤_, _<_}
@@ -12,26 +11,6 @@ use Rattle.dictionary.specs.Spelling.{SpellingAnswered}
 use Rattle.document.specs.Labels.{spellingsOf}
 use Rattle.document.specs.Reading.{Read, shortest}
 use Rattle.document.specs.Checked.{Checked}
-
-pub record Same (code place rows : ℕ) (label size start width : List ℕ) (code' place' rows' : ℕ) (label' size' start' width' : List ℕ) : Type 0 where
-  pub code-same : code ≡ code'
-  pub place-same : place ≡ place'
-  pub rows-same : rows ≡ rows'
-  pub label-same : label ≡ label'
-  pub size-same : size ≡ size'
-  pub start-same : start ≡ start'
-  pub width-same : width ≡ width'
-
--- two answers, with the lists after them, that both keep the promise of `read` are equal
-abbrev pub OneAnswer : Type 0
-OneAnswer =
-    (d w label size start width label₁ size₁ start₁ width₁ label₂ size₂ start₂ width₂ : List ℕ) (c₁ p₁ n₁ c₂ p₂ n₂ : ℕ) →
-    Read d w label size start width label₁ size₁ start₁ width₁ c₁ p₁ n₁ → Read d w label size start width label₂ size₂ start₂ width₂ c₂ p₂ n₂ →
-    Same c₁ p₁ n₁ label₁ size₁ start₁ width₁ c₂ p₂ n₂ label₂ size₂ start₂ width₂
-
--- .. and of `check`
-abbrev pub OneCheck : Type 0
-OneCheck = (d w : List ℕ) (r s : ℕ) → Checked d w r → Checked d w s → r ≡ s
 
 -- with room enough `read` does not give 6, and then `check` gives its code, place and rows
 abbrev pub CheckIsRead : Type 0

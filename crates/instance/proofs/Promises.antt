@@ -22,7 +22,6 @@ use Rattle.pattern.specs.Good.{GoodPattern}
 use Rattle.instance.specs.declared.Made.{Made}
 use Rattle.instance.specs.declared.Made.the-variants.{Refused, Rows}
 use Rattle.instance.specs.Instance.{codeGiven, rowsGiven, Lists, Instance, Codes, Settled}
-use Rattle.instance.specs.Promises.{OneMaking}
 use Rattle.instance.proofs.Whole.{one-instance}
 
 -- one code
@@ -37,7 +36,8 @@ one-number (Refused a) (Rows n) p q h = absurd (omega (arith, h p))
 one-number (Rows m) (Refused b) p q h = absurd (omega (arith, h refl))
 one-number (Rows m) (Rows n) p q h = ap Rows q
 
-pub one-making : OneMaking
+-- the answer and both lists afterwards are settled
+pub one-making : (l : Lists) (OL OS : List ℕ) (r s : Made) (NL NS XL XS : List ℕ) → Settled l OL OS r NL NS → Settled l OL OS s XL XS → (r ≡ s) × (NL ≡ XL) × (NS ≡ XS)
 one-making l OL OS r s NL NS XL XS x y = go (ℕ-discrete (codeGiven r) 0)
   where
     same : codeGiven r ≡ codeGiven s

@@ -74,8 +74,8 @@ refusals = record {
   matcher = record { list = λ s. s .code; test = λ s. s .code; instance = λ s. s .coded };
   one =
       record {
-        read = one-answer;
-        check = one-check;
+        read = λ x y. one-answer _ _ _ _ _ _ _ _ _ _ _ _ _ _ _ _ _ _ _ _ x y;
+        check = λ x y. one-check _ _ _ _ x y;
         judge = one-verdict;
         dictionary = λ x y. checked-unique _ _ _ _ _ x y;
         part = λ x y. part-unique _ _ _ _ _ _ _ _ _ _ _ _ x y;
@@ -84,7 +84,7 @@ refusals = record {
         problem = one-problem;
         test = λ {l} {list} {r} {s} a b. one-tested r s a b;
         list = λ a b. one-answer-listed (one-listed a b);
-        instance = one-making;
+        instance = λ x y. one-making _ _ _ _ _ _ _ _ _ x y;
         yes-or-no = λ {a} {b} h k. one-yes a b h k;
       };
   nothing-written = record { list = λ s z. let f = s .refused z in (f .3, f .0, f .1, f .2); instance = λ s z. let f = s .refused z in (f .labelled, f .sized, f .answered) };

@@ -14,7 +14,7 @@ use Rattle.dictionary.specs.Names.{DictionaryChecked}
 use Rattle.dictionary.specs.Spelling.{PartAnswered, SpellingAnswered}
 use Rattle.document.specs.Reading.{Read, Unchanged, shortest}
 use Rattle.document.specs.Checked.{Checked}
-use Rattle.document.specs.Promises.{OneAnswer, OneCheck, CheckIsRead}
+use Rattle.document.specs.Promises.{CheckIsRead}
 use Rattle.problem.specs.Problem as Problem
 use Rattle.problem.specs.Answer as Posed
 use Rattle.problem.specs.declared.Problem.{Problem as ProblemChecked}
@@ -23,7 +23,6 @@ use Rattle.test.specs.declared.Tested.{Tested}
 use Rattle.lister.specs.Listed as Lister
 use Rattle.lister.specs.declared.Listed.{Listed}
 use Rattle.instance.specs.Instance as Maker
-use Rattle.instance.specs.Promises.{OneMaking}
 use Rattle.instance.specs.declared.Made.{Made}
 use Rattle.promises.specs.Reader.{ReaderAnswer}
 
@@ -43,8 +42,9 @@ pub record MatcherRefuses : Type 0 where
 
 -- every answer, refusals among them, is settled, with each lent list afterwards
 pub record OnlyOne : Type 1 where
-  pub read : OneAnswer
-  pub check : OneCheck
+  pub read : {d w l s b n l₁ s₁ b₁ n₁ l₂ s₂ b₂ n₂ : List ℕ} {code place rows code' place' rows' : ℕ} → Read d w l s b n l₁ s₁ b₁ n₁ code place rows → Read d w l s b n l₂ s₂ b₂ n₂ code' place' rows'
+      → (code ≡ code') × (place ≡ place') × (rows ≡ rows') × (l₁ ≡ l₂) × (s₁ ≡ s₂) × (b₁ ≡ b₂) × (n₁ ≡ n₂)
+  pub check : {d w : List ℕ} {r s : ℕ} → Checked d w r → Checked d w s → r ≡ s
   pub judge : {w : List ℕ} {c p n c' p' n' : ℕ} → Verdict w c p n → Verdict w c' p' n' → (c ≡ c') × (p ≡ p') × (n ≡ n')
   pub dictionary : {d : List ℕ} {a b : Bool} {j k : ℕ} → DictionaryChecked d a j → DictionaryChecked d b k → (a ≡ b) × (j ≡ k)
   pub part : {d w l b n : List ℕ} {row s t u s' t' u' : ℕ} → PartAnswered d w l b n row s t u → PartAnswered d w l b n row s' t' u' → (s ≡ s') × (t ≡ t') × (u ≡ u')
@@ -54,7 +54,7 @@ pub record OnlyOne : Type 1 where
   pub test : {l : Problem.Lists} {list : List ℕ} {r s : Tested} → Test.Settled l list r → Test.Settled l list s → r ≡ s
   pub list : {l : Problem.Lists} {budget : ℕ} {before after after' : List ℕ} {r s : Listed} → Lister.Settled l budget before r after → Lister.Settled l budget before s after'
       → (r ≡ s) × (after ≡ after')
-  pub instance : OneMaking
+  pub instance : {l : Maker.Lists} {L S L₁ S₁ L₂ S₂ : List ℕ} {r s : Made} → Maker.Settled l L S r L₁ S₁ → Maker.Settled l L S s L₂ S₂ → (r ≡ s) × (L₁ ≡ L₂) × (S₁ ≡ S₂)
   -- the other checks answer yes or no
   pub yes-or-no : {a b : Bool} {P : Type 0} → Says a P → Says b P → a ≡ b
 
