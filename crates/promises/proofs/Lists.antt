@@ -57,15 +57,8 @@ lists-all l budget before after r T P Q es cs s w =
     let h = s .listed e T P Q es cs w in
     let m = h .meant in
     record {
-      listed = h .result .records;
-      all = m .solutions;
-      tries = m .tries;
       accepted = e;
-      counted = h .counts;
-      written = h .written;
-      solutions = m .solutions-are;
-      tried = m .tries-are;
-      cut = (λ i. record { records = h .result .records; ending = h .ends i; tries = h .tried i }) ∙ m .result;
+      listing = h;
       leading = leading m;
       within = rw (h .tried) (bounded g T cs (length before) m);
       every = λ z σ o. rw (whole m (sym (h .ends) ∙ z)) (m .solutions-are .all (recordOf P σ) .1 (record { matcher = σ; solves = o; its = refl }));
@@ -86,17 +79,14 @@ empty-is-none l budget before after r T P Q es cs s z w =
     (λ n. empty-none (h .meant) (sym (h .ends) ∙ z) (no-records (h .result .records) (sym (h .counts) ∙ n)), λ n. h .counts ∙ ap length (none-empty (h .meant) n))
 
 module _ {Q : List Kind} {P : Pattern} {T : Term} {cs : List Constraint} {budget : ℕ} {before after : List ℕ} {r : Listed} (x : ListIs Q P T cs budget before r after) where
-  abbrev result : Result
-  result = record { records = x .listed; ending = r .ending; tries = r .tries }
-
-  is-meant : Meant (Allowed cs) Q P T budget (roomOf (length before) (length Q)) result
-  is-meant = record { solutions = x .all; tries = x .tries; solutions-are = x .solutions; tries-are = x .tried; result = x .cut }
+  is-ran-list : (g : Numbered P Q) → x .listing .result .records ≡ ran g T cs budget (length before) .records
+  is-ran-list g = ap (λ (z : Result). z .records) (is-ran g T cs (length before) (x .listing .meant))
 
 more-lengthens : MoreLengthens
 more-lengthens l b c before after before' after' r s T P Q es cs h k w x y =
     let g = w .rest .pattern .numbered in
-    let e : x .listed ≡ ran g T cs b (length before) .records = ap (λ (z : Result). z .records) (is-ran g T cs (length before) (is-meant x)) in
-    let f : y .listed ≡ ran g T cs c (length before') .records = ap (λ (z : Result). z .records) (is-ran g T cs (length before') (is-meant y)) in
+    let e = is-ran-list x g in
+    let f = is-ran-list y g in
     let d = more (events (walked (Allowed cs) (allowed? cs) g T) (count Q) []) b c (fitting (length before) (length Q + length Q)) (fitting (length before') (length Q + length Q)) h (fitting-more (length before) (length before') (length Q + length Q) k) in
     rw (e, f) d
 
