@@ -76,7 +76,8 @@ typedef struct {
 } khargovsun_part;
 
 /* Where a row's spelling stands, as bytes of the dictionary or of the document. Writes nothing. It has no code: a row beyond any of the
- * three lists, or a range outside the document, gives source 1, start 0, length 0; a bad dictionary counts as one without names. */
+ * three lists, or a range outside the document where the document is to answer, gives source 1, start 0, length 0; a bad dictionary counts as
+ * one without names. */
 khargovsun_part khargovsun_spelling(const uint8_t *dictionary, size_t dictionary_length, const uint8_t *document, size_t document_length,
                                     const uint32_t *label, size_t label_length, const uint32_t *start, size_t start_length,
                                     const uint32_t *length, size_t length_length, size_t row);
