@@ -12,7 +12,7 @@ use lib.Seq.{take-at, drop-at, drop-cons}
 use borrow.Author.Tests.{ltb-true, leb-true, eq-eqb, ne-eqb, lt-ltb, le-ltb, le-leb, lt-leb}
 use Rattle.dictionary.specs.Names.{encoding, GoodDictionary, NamesOf, DictionaryChecked}
 use Rattle.dictionary.specs.Scan.{range, upto, pieces}
-use Rattle.dictionary.specs.Spelling.{PartOf, emptyPart, partOfDictionary, partOfDocument, spellingOf, bytesOf, IsPart, PartAnswered, SpellingAnswered}
+use Rattle.dictionary.specs.Spelling.{PartOf, emptyPart, partOfDictionary, partOfDocument, spellingOf, bytesOf, IsPart, PartAnswered, standsAt, SpellingAnswered}
 use Rattle.dictionary.proofs.Pieces.{piece-length, within, encoding-append}
 use Rattle.dictionary.proofs.Names.{Begins, begins-next, begins-start, piece-is, good-pieces, names-unique, names-good, bad-end}
 use Rattle.dictionary.proofs.Decided.{named}
@@ -183,14 +183,16 @@ module _ {dictionary document labels starts lengths : List ℕ} {row source star
   in-source : start + count ≤ length (cond (eqb source 0) dictionary document)
   in-source = rw (x .part-is .source-is, x .part-is .start-is, x .part-is .length-is) (part-inside dictionary document labels starts lengths row (x .names) (x .taken))
 
-  spelled : (text : List ℕ) → cond (eqb source 0) dictionary document ≡ text → SpellingAnswered dictionary document labels starts lengths row (range text start (start + count))
-  spelled text e = record {
+  spelled : (d w at : ℕ × ℕ) (text : List ℕ) → cond (eqb source 0) dictionary document ≡ text → cond (eqb source 0) (d .0, start + d .1) (w .0, start + w .1) ≡ at →
+      SpellingAnswered d w dictionary document labels starts lengths row at (range text start (start + count))
+  spelled d w at text e f = record {
     names = x .names;
     taken = x .taken;
     bytes-are =
         ap (λ (k : ℕ). take k (drop start text)) (add-sub-cancel-left start count)
         ∙ ap (λ (l : List ℕ). take count (drop start l)) (sym e)
         ∙ rw (x .part-is .source-is, x .part-is .start-is, x .part-is .length-is) refl;
+    stands = sym f ∙ rw (x .part-is .source-is, x .part-is .start-is) refl;
   }
 
   pub inside-dictionary : source ≡ 0 → start + count ≤ length dictionary
@@ -199,11 +201,11 @@ module _ {dictionary document labels starts lengths : List ℕ} {row source star
   pub inside-document : (source ≡ 0 → ⊥) → start + count ≤ length document
   inside-document h = rw (ne-eqb source 0 h) at in-source
 
-  pub spelled-dictionary : source ≡ 0 → SpellingAnswered dictionary document labels starts lengths row (range dictionary start (start + count))
-  spelled-dictionary h = spelled dictionary (simp (eq-eqb source 0 h))
+  pub spelled-dictionary : (d w : ℕ × ℕ) → source ≡ 0 → SpellingAnswered d w dictionary document labels starts lengths row (d .0, start + d .1) (range dictionary start (start + count))
+  spelled-dictionary d w h = spelled d w (d .0, start + d .1) dictionary (simp (eq-eqb source 0 h)) (simp (eq-eqb source 0 h))
 
-  pub spelled-document : (source ≡ 0 → ⊥) → SpellingAnswered dictionary document labels starts lengths row (range document start (start + count))
-  spelled-document h = spelled document (simp (ne-eqb source 0 h))
+  pub spelled-document : (d w : ℕ × ℕ) → (source ≡ 0 → ⊥) → SpellingAnswered d w dictionary document labels starts lengths row (w .0, start + w .1) (range document start (start + count))
+  spelled-document d w h = spelled d w (w .0, start + w .1) document (simp (ne-eqb source 0 h)) (simp (ne-eqb source 0 h))
 
 -- BOTH PROMISES SETTLE THEIR ANSWERS
 module _ (dictionary document labels starts lengths : List ℕ) (row : ℕ) where
@@ -217,8 +219,9 @@ module _ (dictionary document labels starts lengths : List ℕ) (row : ℕ) wher
         x .part-is .length-is ∙ ap (λ (p : PartOf). p .length) e ∙ sym (y .part-is .length-is),
       )
 
-  pub spelling-unique : (v w : List ℕ) → SpellingAnswered dictionary document labels starts lengths row v → SpellingAnswered dictionary document labels starts lengths row w → v ≡ w
-  spelling-unique v w x y =
-      x .bytes-are
-      ∙ ap (λ (l : List (List ℕ)). bytesOf dictionary document (spellingOf l document labels starts lengths row)) (names-unique (x .taken) (y .taken))
-      ∙ sym (y .bytes-are)
+  pub spelling-unique : (d w at at' : ℕ × ℕ) (v v' : List ℕ) → SpellingAnswered d w dictionary document labels starts lengths row at v →
+      SpellingAnswered d w dictionary document labels starts lengths row at' v' → (at ≡ at') × (v ≡ v')
+  spelling-unique d w at at' v v' x y =
+      let e : spellingOf (x .names) document labels starts lengths row ≡ spellingOf (y .names) document labels starts lengths row =
+      ap (λ (l : List (List ℕ)). spellingOf l document labels starts lengths row) (names-unique (x .taken) (y .taken)) in
+      (x .stands ∙ ap (standsAt d w) e ∙ sym (y .stands), x .bytes-are ∙ ap (bytesOf dictionary document) e ∙ sym (y .bytes-are))

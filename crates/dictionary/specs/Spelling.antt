@@ -46,8 +46,13 @@ pub record PartAnswered (dictionary document labels starts lengths : List ℕ) (
   pub taken : NamesOf dictionary names
   pub part-is : IsPart source start count (spellingOf names document labels starts lengths row)
 
--- the promise of `spelling`: the bytes of that part
-pub record SpellingAnswered (dictionary document labels starts lengths : List ℕ) (row : ℕ) (bytes : List ℕ) : Type 0 where
+-- where a part stands in memory, by block and offset, if the dictionary begins at d and the document at w
+abbrev pub standsAt : (d w : ℕ × ℕ) → PartOf → ℕ × ℕ
+standsAt d w part = cond (eqb (part .source) 0) (d .0, part .start + d .1) (w .0, part .start + w .1)
+
+-- the promise of `spelling`: the slice that is that part, at its place and with its bytes
+pub record SpellingAnswered (dictionaryAt documentAt : ℕ × ℕ) (dictionary document labels starts lengths : List ℕ) (row : ℕ) (at : ℕ × ℕ) (bytes : List ℕ) : Type 0 where
   pub names : List (List ℕ)
   pub taken : NamesOf dictionary names
   pub bytes-are : bytes ≡ bytesOf dictionary document (spellingOf names document labels starts lengths row)
+  pub stands : at ≡ standsAt dictionaryAt documentAt (spellingOf names document labels starts lengths row)

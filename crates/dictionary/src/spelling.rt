@@ -3,6 +3,7 @@ ghost use mathlib.Core.Path.{_≡_};
 ghost use mathlib.Core.List.{List};
 ghost use Prim.Native.Nat.{ℕ, _<_};
 ghost use lib.ListN.{length};
+ghost use denote.Ref.{ptr};
 ghost use Rattle.dictionary.specs.Names.{GoodDictionary};
 ghost use Rattle.dictionary.specs.Spelling.{IsPart, partOfDictionary, partOfDocument, PartAnswered, SpellingAnswered};
 
@@ -101,7 +102,7 @@ pub fn spelling<'a>(
     length: &[u32],
     row: usize,
 ) -> &'a [u8]
-    ensures { λ r. ⌜ SpellingAnswered (now (dictionary .entry)) (now (document .entry)) (now (label .entry)) (now (start .entry)) (now (length .entry)) row (now r) ⌝ }
+    ensures { λ r. ⌜ SpellingAnswered (ptr (dictionary .entry)) (ptr (document .entry)) (now (dictionary .entry)) (now (document .entry)) (now (label .entry)) (now (start .entry)) (now (length .entry)) row (ptr r) (now r) ⌝ }
 {
     let found = part_of(dictionary, document, label, start, length, row);
     let at = wide(found.start);

@@ -23,38 +23,41 @@ use Rattle.dictionary.proofs.Names.{good-unique}
 use Rattle.dictionary.proofs.Labels.{length-labels, label-below}
 use Rattle.document.specs.Labels.{spellingsOf, labelOf, treeOf}
 use Rattle.document.specs.Reading.{Unchanged, Written, Read, badDictionary, badDocument, noRoom, filled}
-use Rattle.document.specs.Checked.{bad, judged}
-use Rattle.document.specs.Promises.{Same, OneAnswer, OneCheck, CheckIsRead, TreeIsGood, Spelt, SpellingsInside}
+use Rattle.document.specs.Checked.{Checked, bad, judged}
+use Rattle.document.specs.Promises.{CheckIsRead, TreeIsGood, Spelt, SpellingsInside}
 use Rattle.document.proofs.Filling.{tree-labels, rows-spell}
 use Rattle.document.proofs.Answers.{whole}
 
 -- ONE ANSWER
+abbrev pub Same : (code place rows : ℕ) (label size start width : List ℕ) (code' place' rows' : ℕ) (label' size' start' width' : List ℕ) → Type 0
+Same c p n l s b w c' p' n' l' s' b' w' = (c ≡ c') × (p ≡ p') × (n ≡ n') × (l ≡ l') × (s ≡ s') × (b ≡ b') × (w ≡ w')
+
 module _ {label size start width label₁ size₁ start₁ width₁ label₂ size₂ start₂ width₂ : List ℕ} {c₁ p₁ n₁ c₂ p₂ n₂ : ℕ} where
   -- where nothing is written
   same-kept : (c₁ ≡ c₂) × (p₁ ≡ p₂) × (n₁ ≡ n₂) → Unchanged label size start width label₁ size₁ start₁ width₁ →
       Unchanged label size start width label₂ size₂ start₂ width₂ → Same c₁ p₁ n₁ label₁ size₁ start₁ width₁ c₂ p₂ n₂ label₂ size₂ start₂ width₂
-  same-kept e u v = record {
-    code-same = e .0;
-    place-same = e .1;
-    rows-same = e .2;
-    label-same = u .label-kept ∙ sym (v .label-kept);
-    size-same = u .size-kept ∙ sym (v .size-kept);
-    start-same = u .start-kept ∙ sym (v .start-kept);
-    width-same = u .width-kept ∙ sym (v .width-kept);
-  }
+  same-kept e u v = (
+    e .0,
+    e .1,
+    e .2,
+    u .label-kept ∙ sym (v .label-kept),
+    u .size-kept ∙ sym (v .size-kept),
+    u .start-kept ∙ sym (v .start-kept),
+    u .width-kept ∙ sym (v .width-kept),
+  )
 
   same-written : {names : List (List ℕ)} {f : Content} → (c₁ ≡ c₂) × (p₁ ≡ p₂) × (n₁ ≡ n₂) →
       Written names f label size start width label₁ size₁ start₁ width₁ → Written names f label size start width label₂ size₂ start₂ width₂ →
       Same c₁ p₁ n₁ label₁ size₁ start₁ width₁ c₂ p₂ n₂ label₂ size₂ start₂ width₂
-  same-written e u v = record {
-    code-same = e .0;
-    place-same = e .1;
-    rows-same = e .2;
-    label-same = u .label-is ∙ sym (v .label-is);
-    size-same = u .size-is ∙ sym (v .size-is);
-    start-same = u .start-is ∙ sym (v .start-is);
-    width-same = u .width-is ∙ sym (v .width-is);
-  }
+  same-written e u v = (
+    e .0,
+    e .1,
+    e .2,
+    u .label-is ∙ sym (v .label-is),
+    u .size-is ∙ sym (v .size-is),
+    u .start-is ∙ sym (v .start-is),
+    u .width-is ∙ sym (v .width-is),
+  )
 
   same-both : {d w : List ℕ} {names names' : List (List ℕ)} {f f' : Content} {t t' : Bytes} → GoodDictionary d names → GoodDictionary d names' →
       Document w f t → Document w f' t' → (c₁ ≡ c₂) × (p₁ ≡ p₂) × (n₁ ≡ n₂) → Written names f label size start width label₁ size₁ start₁ width₁ →
@@ -64,7 +67,10 @@ module _ {label size start width label₁ size₁ start₁ width₁ label₂ siz
       let b : f' ≡ f = one-reading y' y .0 in
       same-written e u (rw (a, b) at v)
 
-pub one-answer : OneAnswer
+-- two answers, with the lists after them, that both keep the promise of `read` are equal
+pub one-answer : (d w label size start width label₁ size₁ start₁ width₁ label₂ size₂ start₂ width₂ : List ℕ) (c₁ p₁ n₁ c₂ p₂ n₂ : ℕ) →
+    Read d w label size start width label₁ size₁ start₁ width₁ c₁ p₁ n₁ → Read d w label size start width label₂ size₂ start₂ width₂ c₂ p₂ n₂ →
+    Same c₁ p₁ n₁ label₁ size₁ start₁ width₁ c₂ p₂ n₂ label₂ size₂ start₂ width₂
 one-answer d w _ _ _ _ _ _ _ _ _ _ _ _ _ _ _ _ _ _ (badDictionary h u) (badDictionary k v) = same-kept (refl, refl, refl) u v
 one-answer d w _ _ _ _ _ _ _ _ _ _ _ _ _ _ _ _ _ _ (badDictionary h u) (badDocument g x z v) = absurd (h _ g)
 one-answer d w _ _ _ _ _ _ _ _ _ _ _ _ _ _ _ _ _ _ (badDictionary h u) (noRoom g x z v) = absurd (h _ g)
@@ -82,7 +88,7 @@ one-answer d w _ _ _ _ _ _ _ _ _ _ _ _ _ _ _ _ _ _ (filled g x z y u) (badDocume
 one-answer d w _ _ _ _ _ _ _ _ _ _ _ _ _ _ _ _ _ _ (filled g x z y u) (noRoom g' x' z' v) = absurd (omega (arith, one-verdict x x' .2))
 one-answer d w _ _ _ _ _ _ _ _ _ _ _ _ _ _ _ _ _ _ (filled g x z y u) (filled g' x' z' y' v) = same-both g g' y y' (refl, refl, one-verdict x x' .2) u v
 
-pub one-check : OneCheck
+pub one-check : (d w : List ℕ) (r s : ℕ) → Checked d w r → Checked d w s → r ≡ s
 one-check d w r s (bad h) (bad k) = refl
 one-check d w r s (bad h) (judged g v) = absurd (h _ g)
 one-check d w r s (judged g v) (bad h) = absurd (h _ g)
@@ -141,7 +147,7 @@ module _ {d w label size start width label' size' start' width' : List ℕ} {nam
           let p : i < length (spellingsOf f) = omega (arith, ap length e, labels-n, spellings-n) in
           rw e (omega (arith, label-below names (spellingsOf f) i p, g .few, spellings-n, whole v refl .few))
 
-  pub spelt : Spelt w label' start' width' n names (spellingsOf f)
+  pub spelt : Spelt w label' start' width' n names f
   spelt = record {
     all = spellings-n;
     inside = λ r h. rows-spell start start' width width' y (u .start-is) (u .width-is) r (omega (arith, rows-n)) .inside;
@@ -165,11 +171,13 @@ tree-is-good d w _ _ _ _ _ _ _ _ p n r = go r refl
     go (filled g v z y u) e = good-tree g v y u
 
 pub spellings-inside : SpellingsInside
-spellings-inside d w _ _ _ _ _ _ _ _ p n r = go r refl
+spellings-inside d w _ _ _ _ _ _ _ _ p n names f t r g y = go r refl
   where
-    go : {d w label size start width label' size' start' width' : List ℕ} {c p n : ℕ} → Read d w label size start width label' size' start' width' c p n → c ≡ 0 →
-        (names spellings : List (List ℕ)) × Spelt w label' start' width' n names spellings
-    go (badDictionary h u) e = absurd (omega (arith, e))
-    go (badDocument g v z u) e = absurd (z e)
-    go (noRoom g v z u) e = absurd (omega (arith, e))
-    go (filled {names} {f} g v z y u) e = (names, spellingsOf f, spelt g v y u)
+    go : {label size start width label' size' start' width' : List ℕ} {c p n : ℕ} → Read d w label size start width label' size' start' width' c p n → c ≡ 0 → Spelt w label' start' width' n names f
+    go (badDictionary h u) e = absurd (h names g)
+    go (badDocument g' v z u) e = absurd (z e)
+    go (noRoom g' v z u) e = absurd (omega (arith, e))
+    go (filled {names = ns} {f = h} g' v z y' u) e =
+        let a : ns ≡ names = good-unique g' g in
+        let b : h ≡ f = one-reading y' y .0 in
+        rw (a, b) at (spelt g' v y' u)

@@ -1,34 +1,16 @@
--- 01, "What the contracts have to decide": "Each public function has a contract that settles its result and every lent list afterwards, on
--- all inputs, refused ones too; uniqueness of both is shown". And what else is promised of a document that was read.
+-- What else is promised of a document that was read: the C server's check agrees, its tree is good, and its spellings are found again.
 use mathlib.Core.Path.{_≡_}
 use mathlib.Core.List.{List, []}
 use Prim.Native.Nat.{ℕ, _+_, _*_, _≤_, _<_}
 use lib.ListN.{length, getD, take, drop}
 use Rattle.tree.specs.Good.{Good}
+use Rattle.grammar.specs.Grammar.{Bytes, Content, Document}
+use Rattle.dictionary.specs.Names.{GoodDictionary}
 use Rattle.dictionary.specs.Labels.{labelsOf}
 use Rattle.dictionary.specs.Spelling.{SpellingAnswered}
+use Rattle.document.specs.Labels.{spellingsOf}
 use Rattle.document.specs.Reading.{Read, shortest}
 use Rattle.document.specs.Checked.{Checked}
-
-pub record Same (code place rows : ℕ) (label size start width : List ℕ) (code' place' rows' : ℕ) (label' size' start' width' : List ℕ) : Type 0 where
-  pub code-same : code ≡ code'
-  pub place-same : place ≡ place'
-  pub rows-same : rows ≡ rows'
-  pub label-same : label ≡ label'
-  pub size-same : size ≡ size'
-  pub start-same : start ≡ start'
-  pub width-same : width ≡ width'
-
--- two answers, with the lists after them, that both keep the promise of `read` are equal
-abbrev pub OneAnswer : Type 0
-OneAnswer =
-    (d w label size start width label₁ size₁ start₁ width₁ label₂ size₂ start₂ width₂ : List ℕ) (c₁ p₁ n₁ c₂ p₂ n₂ : ℕ) →
-    Read d w label size start width label₁ size₁ start₁ width₁ c₁ p₁ n₁ → Read d w label size start width label₂ size₂ start₂ width₂ c₂ p₂ n₂ →
-    Same c₁ p₁ n₁ label₁ size₁ start₁ width₁ c₂ p₂ n₂ label₂ size₂ start₂ width₂
-
--- .. and of `check`
-abbrev pub OneCheck : Type 0
-OneCheck = (d w : List ℕ) (r s : ℕ) → Checked d w r → Checked d w s → r ≡ s
 
 -- with room enough `read` does not give 6, and then `check` gives its code, place and rows
 abbrev pub CheckIsRead : Type 0
@@ -42,23 +24,24 @@ TreeIsGood =
     (d w label size start width label' size' start' width' : List ℕ) (place rows : ℕ) →
     Read d w label size start width label' size' start' width' 0 place rows → Good (take rows label') (take rows size')
 
--- each row's spelling lies within the document, and the labels are those of the spellings: a name's place, and then by first appearance
-pub record Spelt (w label start width : List ℕ) (rows : ℕ) (names spellings : List (List ℕ)) : Type 0 where
-  pub all : length spellings ≡ rows
+-- for a content f of the document and the dictionary's names: each row's spelling stands in the document at its start and length, and
+-- the labels are those of the spellings, a name's place, and then by first appearance
+pub record Spelt (w label start width : List ℕ) (rows : ℕ) (names : List (List ℕ)) (f : Content) : Type 0 where
+  pub all : length (spellingsOf f) ≡ rows
   pub inside : (row : ℕ) → row < rows → getD start row 0 + getD width row 0 ≤ length w
-  pub bytes : (row : ℕ) → row < rows → take (getD width row 0) (drop (getD start row 0) w) ≡ getD spellings row []
-  pub labelled : take rows label ≡ labelsOf names spellings
+  pub bytes : (row : ℕ) → row < rows → take (getD width row 0) (drop (getD start row 0) w) ≡ getD (spellingsOf f) row []
+  pub labelled : take rows label ≡ labelsOf names (spellingsOf f)
 
 abbrev pub SpellingsInside : Type 0
 SpellingsInside =
-    (d w label size start width label' size' start' width' : List ℕ) (place rows : ℕ) →
-    Read d w label size start width label' size' start' width' 0 place rows →
-    (names spellings : List (List ℕ)) × Spelt w label' start' width' rows names spellings
+    (d w label size start width label' size' start' width' : List ℕ) (place rows : ℕ) (names : List (List ℕ)) (f : Content) (t : Bytes) →
+    Read d w label size start width label' size' start' width' 0 place rows → GoodDictionary d names → Document w f t →
+    Spelt w label' start' width' rows names f
 
 -- the spelling lookup of a tree that was read gives a row the bytes that stand at its start and length in the document, also where the
 -- dictionary answers
 abbrev pub LookupIsRead : Type 0
 LookupIsRead =
-    (d w label size start width label' size' start' width' : List ℕ) (place rows row : ℕ) (bytes : List ℕ) →
-    Read d w label size start width label' size' start' width' 0 place rows → row < rows → SpellingAnswered d w label' start' width' row bytes →
+    (d w label size start width label' size' start' width' : List ℕ) (place rows row : ℕ) (dictionaryAt documentAt at : ℕ × ℕ) (bytes : List ℕ) →
+    Read d w label size start width label' size' start' width' 0 place rows → row < rows → SpellingAnswered dictionaryAt documentAt d w label' start' width' row at bytes →
     bytes ≡ take (getD width' row 0) (drop (getD start' row 0) w)

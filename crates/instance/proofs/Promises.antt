@@ -21,8 +21,7 @@ use Rattle.tree.proofs.Unique.{good-lengths}
 use Rattle.pattern.specs.Good.{GoodPattern}
 use Rattle.instance.specs.declared.Made.{Made}
 use Rattle.instance.specs.declared.Made.the-variants.{Refused, Rows}
-use Rattle.instance.specs.Instance.{codeGiven, rowsGiven, Lists, Instance, Codes}
-use Rattle.instance.specs.Promises.{OneMaking, MatcherMade}
+use Rattle.instance.specs.Instance.{codeGiven, rowsGiven, Lists, Instance, Codes, Settled}
 use Rattle.instance.proofs.Whole.{one-instance}
 
 -- one code
@@ -37,7 +36,8 @@ one-number (Refused a) (Rows n) p q h = absurd (omega (arith, h p))
 one-number (Rows m) (Refused b) p q h = absurd (omega (arith, h refl))
 one-number (Rows m) (Rows n) p q h = ap Rows q
 
-pub one-making : OneMaking
+-- the answer and both lists afterwards are settled
+pub one-making : (l : Lists) (OL OS : List ℕ) (r s : Made) (NL NS XL XS : List ℕ) → Settled l OL OS r NL NS → Settled l OL OS s XL XS → (r ≡ s) × (NL ≡ XL) × (NS ≡ XS)
 one-making l OL OS r s NL NS XL XS x y = go (ℕ-discrete (codeGiven r) 0)
   where
     same : codeGiven r ≡ codeGiven s
@@ -83,16 +83,26 @@ accepted-code {U = U} i h a b c (inr (_, inr (_, inr (_, inl (x, _))))) = absurd
 accepted-code {U = U} i h a b c (inr (_, inr (_, inr (_, inr (_, inl (x, _)))))) = absurd (x (U, i, a, b))
 accepted-code i h a b c (inr (_, inr (_, inr (_, inr (_, inr (_, e)))))) = e
 
-pub matcher-made : MatcherMade
-unfolding rows
-matcher-made Allowed allowed? l T P Q OL OS r NL NS t p m s a b =
-    let i = matcher-instance Allowed allowed? t p m in
-    let n = good-lengths t in
-    let z : size T ≡ length (l .label) = omega (arith, n .0) in
-    let e = accepted-code i (omega (arith, t .few)) (omega arith) (omega arith) (codeGiven r) (s .coded) in
+-- an instance is written where it fits
+pub instance-made : (l : Lists) (OL OS : List ℕ) (r : Made) (NL NS : List ℕ) (U : Term) → Instance l U → size U ≤ 2048 → size U ≤ length OL → size U ≤ length OS → Settled l OL OS r NL NS
+    → (r ≡ Rows (size U)) × (NL ≡ labels (U ◂ none) ++ drop (size U) OL) × (NS ≡ sizes (U ◂ none) ++ drop (size U) OS)
+instance-made l OL OS r NL NS U i h a b s =
+    let e = accepted-code i h a b (codeGiven r) (s .coded) in
     let x = s .accepted e in
     let u = one-instance (x .its) i in (
-      one-number r (Rows (length (l .label))) e (x .answered ∙ ap size u ∙ z) (λ _. omega (arith, x .answered)),
-      x .labelled ∙ ap (λ (U : Term). labels (U ◂ none) ++ drop (size U) OL) u ∙ ap₂ (λ (xs : List ℕ) (k : ℕ). xs ++ drop k OL) (sym (t .labelled)) z,
-      x .sized ∙ ap (λ (U : Term). sizes (U ◂ none) ++ drop (size U) OS) u ∙ ap₂ (λ (xs : List ℕ) (k : ℕ). xs ++ drop k OS) (sym (t .sized)) z,
+      one-number r (Rows (size U)) e (x .answered ∙ ap size u) (λ _. omega (arith, x .answered)),
+      x .labelled ∙ ap (λ (X : Term). labels (X ◂ none) ++ drop (size X) OL) u,
+      x .sized ∙ ap (λ (X : Term). sizes (X ◂ none) ++ drop (size X) OS) u,
     )
+
+-- for the record of a matcher that is the tree
+pub matcher-made : (Allowed : ℕ → Value → Type 0) (allowed? : (x : ℕ) (v : Value) → Dec (Allowed x v)) (l : Lists) (T : Term) (P : Pattern) (Q : List Kind) (OL OS : List ℕ) (r : Made) (NL NS : List ℕ)
+    → GoodTree (l .label) (l .size) T → GoodPattern (l .kind) (l .name) (l .patternSize) P Q → IsRecord Allowed Q P T (l .numbers) → Settled l OL OS r NL NS
+    → length (l .label) ≤ length OL → length (l .label) ≤ length OS
+    → (r ≡ Rows (length (l .label))) × (NL ≡ l .label ++ drop (length (l .label)) OL) × (NS ≡ l .size ++ drop (length (l .label)) OS)
+unfolding rows
+matcher-made Allowed allowed? l T P Q OL OS r NL NS t p m s a b =
+    let n = good-lengths t in
+    let z : size T ≡ length (l .label) = omega (arith, n .0) in
+    let x = instance-made l OL OS r NL NS T (matcher-instance Allowed allowed? t p m) (omega (arith, t .few)) (omega arith) (omega arith) s in
+    (x .0 ∙ ap Rows z, x .1 ∙ ap₂ (λ (xs : List ℕ) (k : ℕ). xs ++ drop k OL) (sym (t .labelled)) z, x .2 ∙ ap₂ (λ (xs : List ℕ) (k : ℕ). xs ++ drop k OS) (sym (t .sized)) z)

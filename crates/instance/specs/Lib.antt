@@ -1,5 +1,4 @@
 pub mod Instance
-pub mod Promises
 pub mod Places
 pub mod Pieces
 pub mod Cycle

@@ -1,4 +1,4 @@
--- 01, "Patterns and constraints": "A set of its letters fits one 64-bit number, visited from the lowest set bit up."
+-- Not needed to believe the promise: 01, "Patterns and constraints": "A set of its letters fits one 64-bit number, visited from the lowest set bit up."
 use mathlib.Core.Path.{_≡_}
 use mathlib.Core.Bool.{Bool, true, false}
 use mathlib.Core.List.{List, [], _∷_}

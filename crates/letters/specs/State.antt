@@ -1,4 +1,4 @@
--- 01, "Patterns and constraints": "Languages are those of 000", decided one letter after another.
+-- Not needed to believe the promise: 01, "Patterns and constraints": "Languages are those of 000", decided one letter after another.
 use mathlib.Core.Bool.{Bool}
 use mathlib.Core.List.{List, [], _++_}
 use Prim.Native.Nat.{ℕ}

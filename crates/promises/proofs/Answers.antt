@@ -1,47 +1,77 @@
 -- Demand 2 holds.
 use Prim.Native.Nat.{ℕ}
-use mathlib.Core.Path.{_≡_, _∙_}
+use mathlib.Core.Path.{_≡_, refl, sym, ap, subst, _∙_}
+use mathlib.Core.Bool.{true, false, true≢false}
+use mathlib.Core.Logic.{inl, inr}
 use mathlib.Core.List.{List}
 use native.Mathlib.Omega.{arith}
-use lib.ListN.{take}
-use Rattle.tree.specs.Rows.{labels, sizes}
+use Rattle.meaning.specs.Forest.{Term}
+use Rattle.meaning.specs.Pattern.{Pattern, Kind}
+use Rattle.meaning.specs.Matcher.{IsRecord}
+use Rattle.meaning.proofs.OneCode.{one-refuse, one-accept}
+use Rattle.meaning.proofs.Round.{round-good}
 use Rattle.grammar.specs.Grammar.{Bytes, Content, Document}
 use Rattle.grammar.proofs.Unique.{one-reading}
 use Rattle.dictionary.specs.Names.{GoodDictionary}
-use Rattle.dictionary.proofs.Names.{good-unique}
-use Rattle.document.specs.Reading.{Read, badDictionary, badDocument, noRoom, filled}
-use Rattle.document.specs.Labels.{treeOf}
-use Rattle.document.proofs.Promises.{first-labels, first-sizes, tree-is-good}
+use Rattle.dictionary.specs.Spelling.{spellingOf, bytesOf, IsPart, standsAt}
+use Rattle.dictionary.proofs.Names.{good-unique, names-unique}
+use Rattle.document.specs.Reading.{Read, Written, badDictionary, badDocument, noRoom, filled}
+use Rattle.document.proofs.Promises.{tree-is-good, spellings-inside}
 use Rattle.document.proofs.Lookup.{lookup-is-read}
-use Rattle.instance.proofs.Promises.{matcher-made}
-use Rattle.promises.specs.Answers.{Tests, Answers}
+use Rattle.expression.specs.Expression.{Expression}
+use Rattle.constraint.specs.Obeys.{Constraint, Allowed}
+use Rattle.constraint.proofs.Allowed.{allowed?}
+use Rattle.problem.specs.Problem.{Lists, Poses}
+use Rattle.problem.proofs.Posed.{codes-high, one-codes}
+use Rattle.test.specs.Tested.{codeOf, yesOf, Fifteen, Settled}
+use Rattle.test.specs.declared.Tested.{Tested}
+use Rattle.test.specs.declared.Tested.the-variants.{Refused, Yes, No}
+use Rattle.instance.proofs.Promises.{instance-made, matcher-made}
+use Rattle.promises.specs.Answers.{LooksUp, Tests, Answers}
 
 module _ {d w l s b n l' s' b' n' : List ℕ} where
-  some : {code place rows : ℕ} → Read d w l s b n l' s' b' n' code place rows → code ≡ 0
-      → (names : List (List ℕ)) × (f : Content) × (t : Bytes) × GoodDictionary d names × Document w f t
-  some (badDictionary h u) e = absurd (omega (arith, e))
-  some (badDocument g v z u) e = absurd (z e)
-  some (noRoom g v h u) e = absurd (omega (arith, e))
-  some (filled {names} {f} {t} g v h y u) e = (names, f, t, g, y)
-
   tree : {code place rows : ℕ} {names : List (List ℕ)} {f : Content} {t : Bytes} → Read d w l s b n l' s' b' n' code place rows → code ≡ 0
-      → GoodDictionary d names → Document w f t → (take rows l' ≡ labels (treeOf names f)) × (take rows s' ≡ sizes (treeOf names f))
-  tree (badDictionary h u) e g y = absurd (omega (arith, e))
+      → GoodDictionary d names → Document w f t → Written names f l s b n l' s' b' n'
+  tree (badDictionary h u) e g y = absurd (h _ g)
   tree (badDocument g' v z u) e g y = absurd (z e)
   tree (noRoom g' v h u) e g y = absurd (omega (arith, e))
-  tree (filled g' v h y' u) e g y =
-      let p = good-unique g' g in
-      let q = one-reading y' y .0 in
-      (first-labels g' v y' u ∙ (λ i. labels (treeOf (p i) (q i))), first-sizes g' v y' u ∙ (λ i. sizes (treeOf (p i) (q i))))
+  tree {names = names} {f = f} (filled {names = ns} {f = h} g' v k y' u) e g y =
+      let a : ns ≡ names = good-unique g' g in
+      let c : h ≡ f = one-reading y' y .0 in
+      rw (a, c) at u
+
+looks-up : LooksUp
+looks-up = record {
+  part = λ {d} {w} {l} {b} {n} {row} {s} {t} {u} x m. subst (λ (ns : List (List ℕ)). IsPart s t u (spellingOf ns w l b n row)) (names-unique (x .taken) m) (x .part-is);
+  slice = λ {dAt} {wAt} {at} {d} {w} {l} {b} {n} {v} {row} x m.
+      let e = ap (λ (ns : List (List ℕ)). spellingOf ns w l b n row) (names-unique (x .taken) m) in
+      (x .stands ∙ ap (standsAt dAt wAt) e, x .bytes-are ∙ ap (bytesOf d w) e);
+}
+
+-- a yes is no refusal
+accepted : (r : Tested) → yesOf r ≡ true → codeOf r ≡ 0
+accepted (Refused c) h = absurd (true≢false (sym h))
+accepted Yes h = refl
+accepted No h = refl
+
+module _ {l : Lists} {list : List ℕ} {r : Tested} {T : Term} {P : Pattern} {Q : List Kind} {es : List Expression} {cs : List Constraint} (s : Settled l list r) (p : Poses l T P Q es cs) where
+  -- the record of a matcher is not refused
+  of-matcher : IsRecord (Allowed cs) Q P T list → codeOf r ≡ 0
+  of-matcher m =
+      let g = p .rest .pattern in
+      let x = rw (m .its) at (round-good (Allowed cs) (allowed? cs) (g .numbered) (m .solves)) in
+      one-codes l (Fifteen l list) (λ i j. one-refuse 15 _ _ i j one-accept) (codeOf r) 0 (s .code)
+      (codes-high l (Fifteen l list) 0 (record { T = T; P = P; Q = Q; es = es; cs = cs; poses = p }) (inr ((T, P, Q, p .tree, g, x), refl)))
 
 tests : Tests
-tests l list r T P Q es cs s e w =
-    let y = s .yes-or-no e T P Q es cs w in
-    (λ h. let m = y .0 h in (m .matcher, m .solves, m .its), λ h. y .1 (record { matcher = h .0; solves = h .1; its = h .2 }))
+tests l list r T P Q es cs s p =
+    (λ h. s .yes-or-no (accepted r h) T P Q es cs p .0 h, λ m. s .yes-or-no (of-matcher s p m) T P Q es cs p .1 m)
 
 pub answers : Answers
 answers = record {
-  reader = record { tree = tree; some = some; one = λ a c. one-reading a c .0; taken = tree-is-good; spelt = lookup-is-read };
+  reader = record { tree = tree; one = λ a c. one-reading a c .0; taken = tree-is-good; spelt = spellings-inside; looked-up = lookup-is-read };
+  lookup = looks-up;
   test = tests;
-  instance = matcher-made;
+  instance = λ l L S L' S' r U s i h a b. instance-made l L S r L' S' U i h a b s;
+  of-matcher = λ l L S L' S' r T P Q cs s t p m a b. matcher-made (Allowed cs) (allowed? cs) l T P Q L S r L' S' t p m s a b;
 }

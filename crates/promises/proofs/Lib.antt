@@ -1,6 +1,8 @@
+pub mod Reader
 pub mod Refusals
 pub mod Answers
 pub mod Lists
 pub mod Examples
 pub mod Table
 pub mod Demands
+pub mod Wrong

@@ -6,10 +6,18 @@ use lib.ListN.{length}
 use native.Mathlib.Omega.{arith}
 use Rattle.meaning.specs.Forest.{Term}
 use Rattle.meaning.specs.Pattern.{Pattern, Kind, Numbered}
-use Rattle.meaning.specs.Record.{recordOf}
+use Rattle.meaning.specs.Record.{values, recordOf}
+use Rattle.meaning.specs.Lowest.{accept}
+use Rattle.meaning.proofs.OneCode.{one-accept}
+use Rattle.meaning.proofs.Walk.{need, walk}
+use Rattle.meaning.proofs.Asked.{reached-asked}
+use Rattle.meaning.proofs.Round.{round}
 use Rattle.meaning.proofs.Tame.{count}
 use Rattle.constraint.specs.Obeys.{Constraint, Allowed}
 use Rattle.constraint.proofs.Allowed.{allowed?}
+use Rattle.expression.specs.Expression.{Expression}
+use Rattle.problem.specs.Problem.{Lists, Poses, Codes}
+use Rattle.problem.proofs.Posed.{codes-high, one-codes}
 use Rattle.listing.specs.Answer.{Result, roomOf}
 use Rattle.listing.specs.Meant.{Meant}
 use Rattle.listing.proofs.Back.{fitting}
@@ -21,7 +29,7 @@ use Rattle.listing.proofs.Stays.{fitting-more}
 use Rattle.listing.proofs.Different.{different}
 use Rattle.lister.specs.declared.Listed.{Listed}
 use Rattle.lister.proofs.Whole.{in-room}
-use Rattle.promises.specs.Lists.{ListIs, ListsAll, EmptyIsNone, MoreLengthens, Listings}
+use Rattle.promises.specs.Lists.{ListIs, ListsAll, OnePlace, EmptyIsNone, MoreLengthens, Listings}
 
 module _ {Q : List Kind} {P : Pattern} (g : Numbered P Q) (T : Term) (cs : List Constraint) where
   -- the answer by going through the events, with the room of a lent list
@@ -37,27 +45,27 @@ module _ {Q : List Kind} {P : Pattern} (g : Numbered P Q) (T : Term) (cs : List 
   bounded : {budget : ℕ} (lent : ℕ) {x : Result} → Meant (Allowed cs) Q P T budget (roomOf lent (length Q)) x → x .tries ≤ budget
   bounded {budget} lent m = rw (is-ran lent m) (tries-bound (Allowed cs) (allowed? cs) g T (meant (Allowed cs) (allowed? cs) g T budget (fitting lent (length Q + length Q))))
 
+-- a problem that is well formed is not refused
+accepted : {l : Lists} {T : Term} {P : Pattern} {Q : List Kind} {es : List Expression} {cs : List Constraint} {c : ℕ} → Poses l T P Q es cs → Codes l accept c → c ≡ 0
+accepted {l} {T} {P} {Q} {es} {cs} {c} w o =
+    one-codes l accept one-accept c 0 o (codes-high l accept 0 (record { T = T; P = P; Q = Q; es = es; cs = cs; poses = w }) refl)
+
 lists-all : ListsAll
-lists-all l budget before after r T P Q es cs s e w =
+lists-all l budget before after r T P Q es cs s w =
     let g = w .rest .pattern .numbered in
+    let e = accepted w (s .code) in
     let h = s .listed e T P Q es cs w in
     let m = h .meant in
     record {
-      listed = h .result .records;
-      all = m .solutions;
-      tries = m .tries;
-      counted = h .counts;
-      written = h .written;
-      solutions = m .solutions-are;
-      tried = m .tries-are;
-      cut = (λ i. record { records = h .result .records; ending = h .ends i; tries = h .tried i }) ∙ m .result;
+      accepted = e;
+      listing = h;
       leading = leading m;
       within = rw (h .tried) (bounded g T cs (length before) m);
       every = λ z σ o. rw (whole m (sym (h .ends) ∙ z)) (m .solutions-are .all (recordOf P σ) .1 (record { matcher = σ; solves = o; its = refl }));
       only = λ x i.
           let b = leading m in
-          let k = m .solutions-are .all x .0 (rw (b .is) (mem-left x (h .result .records) (b .rest) i)) in
-          (k .matcher, k .solves, k .its);
+          m .solutions-are .all x .0 (rw (b .is) (mem-left x (h .result .records) (b .rest) i));
+      means = λ σ o. round (Allowed cs) (allowed? cs) g o;
       once = different (Allowed cs) (allowed? cs) g m;
     }
 
@@ -66,24 +74,30 @@ no-records [] e = refl
 no-records (a ∷ l) e = absurd (omega arith)
 
 empty-is-none : EmptyIsNone
-empty-is-none l budget before after r T P Q es cs s e z w =
-    let h = s .listed e T P Q es cs w in
+empty-is-none l budget before after r T P Q es cs s z w =
+    let h = s .listed (accepted w (s .code)) T P Q es cs w in
     (λ n. empty-none (h .meant) (sym (h .ends) ∙ z) (no-records (h .result .records) (sym (h .counts) ∙ n)), λ n. h .counts ∙ ap length (none-empty (h .meant) n))
 
 module _ {Q : List Kind} {P : Pattern} {T : Term} {cs : List Constraint} {budget : ℕ} {before after : List ℕ} {r : Listed} (x : ListIs Q P T cs budget before r after) where
-  abbrev result : Result
-  result = record { records = x .listed; ending = r .ending; tries = r .tries }
-
-  is-meant : Meant (Allowed cs) Q P T budget (roomOf (length before) (length Q)) result
-  is-meant = record { solutions = x .all; tries = x .tries; solutions-are = x .solutions; tries-are = x .tried; result = x .cut }
+  is-ran-list : (g : Numbered P Q) → x .listing .result .records ≡ ran g T cs budget (length before) .records
+  is-ran-list g = ap (λ (z : Result). z .records) (is-ran g T cs (length before) (x .listing .meant))
 
 more-lengthens : MoreLengthens
 more-lengthens l b c before after before' after' r s T P Q es cs h k w x y =
     let g = w .rest .pattern .numbered in
-    let e : x .listed ≡ ran g T cs b (length before) .records = ap (λ (z : Result). z .records) (is-ran g T cs (length before) (is-meant x)) in
-    let f : y .listed ≡ ran g T cs c (length before') .records = ap (λ (z : Result). z .records) (is-ran g T cs (length before') (is-meant y)) in
+    let e = is-ran-list x g in
+    let f = is-ran-list y g in
     let d = more (events (walked (Allowed cs) (allowed? cs) g T) (count Q) []) b c (fitting (length before) (length Q + length Q)) (fitting (length before') (length Q + length Q)) h (fitting-more (length before) (length before') (length Q + length Q) k) in
     rw (e, f) d
 
+one-place : OnePlace
+one-place l T P Q es cs σ τ a b c d w x y e =
+    let g = w .rest .pattern .numbered in
+    let m = reached-asked (Allowed cs) (allowed? cs) g x in
+    let n = reached-asked (Allowed cs) (allowed? cs) g y in
+    let same : need (m .0) (m .1 .0) a b ≡ need (n .0) (n .1 .0) c d = sym (m .1 .1) ∙ ap (λ (v : List ℕ). walk (Allowed cs) (allowed? cs) P T v) e ∙ n .1 .1 in
+    let z : m .0 ≡ n .0 = cc in
+    (sym (m .2) ∙ ap values z ∙ n .2, cc, cc)
+
 pub listings : Listings
-listings = record { lists-all = lists-all; empty-is-none = empty-is-none; more-lengthens = more-lengthens }
+listings = record { lists-all = lists-all; one-place = one-place; empty-is-none = empty-is-none; more-lengthens = more-lengthens }

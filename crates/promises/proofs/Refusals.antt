@@ -1,60 +1,68 @@
 -- Demand 1 holds.
-use Prim.Native.Nat.{ℕ, _<_}
-use mathlib.Core.Path.{_≡_, refl}
-use mathlib.Core.Logic.{_↔_}
+use Prim.Native.Nat.{ℕ}
+use mathlib.Core.Path.{_≡_, refl, _∙_, sym}
+use mathlib.Core.Bool.{Bool, true, false}
 use mathlib.Core.List.{List}
-use native.Mathlib.Omega.{arith}
-use Rattle.judge.specs.Verdict.{Verdict, long, outside, deep, many}
-use Rattle.judge.specs.Verdict as Judged
+use native.Mathlib.Decide.{ℕ-discrete}
+use Rattle.meaning.specs.Lowest.{accept}
+use Rattle.meaning.proofs.OneCode.{one-accept}
+use Rattle.meaning.proofs.Answers.{one-answer as one-yes}
+use Rattle.pattern.specs.Answer.{Settled}
+use Rattle.pattern.specs.declared.Checked.{Checked}
 use Rattle.judge.proofs.OneVerdict.{one-verdict}
-use Rattle.dictionary.specs.Names.{GoodDictionary}
-use Rattle.document.specs.Reading.{Read, Unchanged, shortest, badDictionary, badDocument, noRoom, filled}
-use Rattle.document.proofs.Promises.{one-answer, one-check}
+use Rattle.dictionary.proofs.Names.{checked-unique}
+use Rattle.dictionary.proofs.Parts.{part-unique, spelling-unique}
+use Rattle.document.proofs.Promises.{one-answer, one-check, check-is-read}
+use Rattle.problem.specs.Problem.{Lists}
+use Rattle.problem.specs.Answer.{Answered}
+use Rattle.problem.specs.declared.Problem.{Problem}
+use Rattle.problem.proofs.Posed.{the, one-codes}
 use Rattle.test.proofs.Unique.{one-tested}
 use Rattle.lister.specs.declared.Listed.{Listed}
 use Rattle.lister.proofs.Unique.{Same, one-listed}
 use Rattle.instance.proofs.Promises.{one-making}
 use Rattle.promises.specs.Refusals.{Refusals}
+use Rattle.promises.proofs.Reader.{read, unchanged, check}
 
-no-one : {w : List ℕ} {code place rows : ℕ} → Verdict w code place rows → code ≡ 1 → ⊥
-no-one (long h) e = omega (arith, e)
-no-one (outside h o) e = omega (arith, e)
-no-one (deep h d k) e = omega (arith, e)
-no-one (many h d k m) e = omega (arith, e)
-no-one (Judged.read h d k m) e = omega (arith, e)
+one-pattern-answer : {k n s : List ℕ} {r r' : Checked} → Settled k n s r → Settled k n s r' → r ≡ r'
+one-pattern-answer {k} {n} {s} {r} {r'} a b = go (r .good) refl
+  where
+    good : r .good ≡ r' .good
+    good = one-yes (r .good) (r' .good) (a .judged) (b .judged)
 
-no-rows : {w : List ℕ} {code place rows : ℕ} → Verdict w code place rows → (code ≡ 0 → ⊥) → rows ≡ 0
-no-rows (long h) z = refl
-no-rows (outside h o) z = refl
-no-rows (deep h d k) z = refl
-no-rows (many h d k m) z = refl
-no-rows (Judged.read h d k m) z = absurd (z refl)
+    whole : r .variables ≡ r' .variables → r .kinds ≡ r' .kinds → r ≡ r'
+    whole v t = λ i. record { good = good i; variables = v i; kinds = t i }
 
-module _ {d w l s b n l' s' b' n' : List ℕ} where
-  dictionary : {code place rows : ℕ} → Read d w l s b n l' s' b' n' code place rows → (code ≡ 1) ↔ ((names : List (List ℕ)) → GoodDictionary d names → ⊥)
-  dictionary (badDictionary h u) = (λ e. h, λ k. refl)
-  dictionary (badDocument g v z u) = (λ e. absurd (no-one v e), λ k. absurd (k _ g))
-  dictionary (noRoom g v h u) = (λ e. absurd (omega (arith, e)), λ k. absurd (k _ g))
-  dictionary (filled g v h y u) = (λ e. absurd (omega (arith, e)), λ k. absurd (k _ g))
+    go : (g : Bool) → r .good ≡ g → r ≡ r'
+    go true e =
+        let x = a .judged .0 e in
+        let f = a .found (x .0) (x .1) (x .2) in
+        let h = b .found (x .0) (x .1) (x .2) in
+        whole (f .0 ∙ sym (h .0)) (f .1 ∙ sym (h .1))
+    go false e =
+        let f = a .refused e in
+        let h = b .refused (sym good ∙ e) in
+        whole (f .none ∙ sym (h .none)) (f .empty ∙ sym (h .empty))
 
-  document : {code place rows code' place' rows' : ℕ} {names : List (List ℕ)} → Read d w l s b n l' s' b' n' code place rows → GoodDictionary d names
-      → Verdict w code' place' rows' → (code' ≡ 0 → ⊥) → (code ≡ code') × (place ≡ place')
-  document (badDictionary h u) g v z = absurd (h _ g)
-  document (badDocument g' v' z' u) g v z = let o = one-verdict v' v in (o .0, o .1)
-  document (noRoom g' v' h u) g v z = absurd (z (one-verdict v v' .0))
-  document (filled g' v' h y u) g v z = absurd (z (one-verdict v v' .0))
+one-problem : {l : Lists} {r r' : Problem} → Answered l r → Answered l r' → r ≡ r'
+one-problem {l} {r} {r'} a b = go (ℕ-discrete (r .code) 0)
+  where
+    code : r .code ≡ r' .code
+    code = one-codes l accept one-accept (r .code) (r' .code) (a .code) (b .code)
 
-  room : {code place rows fit : ℕ} {names : List (List ℕ)} → Read d w l s b n l' s' b' n' code place rows → GoodDictionary d names → Verdict w 0 0 fit → (code ≡ 6) ↔ (shortest l s b n < fit)
-  room (badDictionary h u) g v = absurd (h _ g)
-  room (badDocument g' v' z u) g v = absurd (z (one-verdict v' v .0))
-  room (noRoom g' v' h u) g v = (λ e. omega (arith, one-verdict v' v .2), λ k. refl)
-  room (filled g' v' h y u) g v = (λ e. absurd (omega (arith, e)), λ k. absurd (omega (arith, one-verdict v' v .2)))
+    whole : r .variables ≡ r' .variables → r .kinds ≡ r' .kinds → r ≡ r'
+    whole v t = λ i. record { code = code i; variables = v i; kinds = t i }
 
-  unchanged : {code place rows : ℕ} → Read d w l s b n l' s' b' n' code place rows → (code ≡ 0 → ⊥) → Unchanged l s b n l' s' b' n' × (rows ≡ 0)
-  unchanged (badDictionary h u) z = (u, refl)
-  unchanged (badDocument g v z' u) z = (u, no-rows v z)
-  unchanged (noRoom g v h u) z = (u, refl)
-  unchanged (filled g v h y u) z = absurd (z refl)
+    go : Dec (r .code ≡ 0) → r ≡ r'
+    go (yes z) =
+        let w = the a z in
+        let f = a .found z (w .P) (w .Q) (w .poses .rest .pattern) in
+        let h = b .found (sym code ∙ z) (w .P) (w .Q) (w .poses .rest .pattern) in
+        whole (f .0 ∙ sym (h .0)) (f .1 ∙ sym (h .1))
+    go (no z) =
+        let f = a .refused z in
+        let h = b .refused (λ e. z (code ∙ e)) in
+        whole (f .0 ∙ sym (h .0)) (f .1 ∙ sym (h .1))
 
 -- equal in each number is equal
 pub one-answer-listed : {r s : Listed} {v w : List ℕ} → Same r s v w → (r ≡ s) × (v ≡ w)
@@ -62,15 +70,22 @@ one-answer-listed o = (λ i. record { code = o .code i; ending = o .ending i; re
 
 pub refusals : Refusals
 refusals = record {
-  reader = record { dictionary = dictionary; document = document; room = room; unchanged = unchanged };
+  reader = record { read = read; unchanged = unchanged; check = check; check-is-read = check-is-read };
   matcher = record { list = λ s. s .code; test = λ s. s .code; instance = λ s. s .coded };
   one =
       record {
-        read = one-answer;
-        check = one-check;
+        read = λ x y. one-answer _ _ _ _ _ _ _ _ _ _ _ _ _ _ _ _ _ _ _ _ x y;
+        check = λ x y. one-check _ _ _ _ x y;
+        judge = one-verdict;
+        dictionary = λ x y. checked-unique _ _ _ _ _ x y;
+        part = λ x y. part-unique _ _ _ _ _ _ _ _ _ _ _ _ x y;
+        spelling = λ x y. spelling-unique _ _ _ _ _ _ _ _ _ _ _ _ x y;
+        pattern = one-pattern-answer;
+        problem = one-problem;
         test = λ {l} {list} {r} {s} a b. one-tested r s a b;
         list = λ a b. one-answer-listed (one-listed a b);
-        instance = one-making;
+        instance = λ x y. one-making _ _ _ _ _ _ _ _ _ x y;
+        yes-or-no = λ {a} {b} h k. one-yes a b h k;
       };
   nothing-written = record { list = λ s z. let f = s .refused z in (f .3, f .0, f .1, f .2); instance = λ s z. let f = s .refused z in (f .labelled, f .sized, f .answered) };
 }

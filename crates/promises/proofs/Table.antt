@@ -1,5 +1,5 @@
 -- The table of examples holds: the run of events, computed, is what the rows say.
-use Prim.Native.Nat.{ℕ, zero, suc, _+_}
+use Prim.Native.Nat.{ℕ, zero, suc, _+_, _/_}
 use mathlib.Core.Path.{_≡_, refl, ap, _∙_, sym}
 use mathlib.Core.Logic.{_↔_, inl, inr}
 use mathlib.Core.List.{List, [], _∷_, _++_}
@@ -15,6 +15,7 @@ use Rattle.meaning.proofs.Tame.{count}
 use Rattle.expression.specs.Expression.{Expression}
 use Rattle.constraint.specs.Word.{heads, path}
 use Rattle.constraint.specs.Obeys.{Constraint, Allowed}
+use Rattle.constraint.proofs.Constraints.{numbers-many}
 use Rattle.constraint.proofs.Decide.{when?, by?, either?}
 use Rattle.constraint.proofs.Language.{parts?, again?, repeated?, word?, in?}
 use Rattle.constraint.proofs.Allowed.{flagged?, obeys?, allowed?}
@@ -31,7 +32,7 @@ use Rattle.listing.proofs.Stays.{run-stays, fitting-more}
 use Rattle.lister.specs.Listed.{Settled}
 use Rattle.lister.specs.declared.Listed.{Listed}
 use Rattle.lister.proofs.Unique.{one-listed}
-use Rattle.promises.specs.Table.{Row, Serves, answerOf, outOf, Answers, table, TableHolds}
+use Rattle.promises.specs.Table.{Row, Serves, answerOf, outOf, RowHolds, table, TableHolds}
 use Rattle.promises.proofs.Refusals.{one-answer-listed}
 use Rattle.promises.proofs.Lists.{ran, ran-meant}
 use Rattle.promises.proofs.Examples.{query-on-tree, two-sequences, in-choice, same-sequence, in-repetition, same-context, no-term-left, function-over-individual, is-ground}
@@ -63,16 +64,23 @@ module _ {l : Lists} {T : Term} {P : Pattern} {Q : List Kind} {es : List Express
         refused = λ z. absurd (z refl);
       }
 
+-- the same room
+fitting-same : (m n width : ℕ) → m / width ≡ n / width → fitting m width ≡ fitting n width
+fitting-same m n zero h = refl
+fitting-same m n (suc w) h = h
+
 -- what a row says of one budget and one lent list holds wherever the row serves
 pub answers : {T : Term} {P : Pattern} {Q : List Kind} {es : List Expression} {cs : List Constraint} (row : Row) (p : Poses (row .lists) T P Q es cs)
-    → run-of p (row .budget) (row .lent) ≡ record { records = row .records; ending = row .ending; tries = row .tries } → Answers row
-answers {T} {P} {Q} {es} {cs} row p e = record { exactly = λ budget before h k. exact budget before (serves (row .ending) refl budget (length before) h k) }
+    → run-of p (row .budget) (row .lent) ≡ record { records = row .records; ending = row .ending; tries = row .tries } → RowHolds row
+answers {T} {P} {Q} {es} {cs} row p e = record { exactly = λ budget before h. exact budget before (serves (row .ending) refl budget (length before) h) }
   where
-    serves : (ending : ℕ) → ending ≡ row .ending → (budget lent : ℕ) → Serves ending (row .budget) budget → Serves ending (row .lent) lent
-        → run-of p budget lent ≡ record { records = row .records; ending = row .ending; tries = row .tries }
-    serves zero z budget lent h k =
-        run-stays (events (walked (Allowed cs) (allowed? cs) (p .rest .pattern .numbered) T) (count Q) []) (row .budget) budget (fitting (row .lent) (length Q + length Q)) (fitting lent (length Q + length Q)) h (fitting-more (row .lent) lent (length Q + length Q) k) (ap (λ (x : Result). x .ending) e ∙ sym z) ∙ e
-    serves (suc n) z budget lent h k = rw (h, k) e
+    serves : (ending : ℕ) → ending ≡ row .ending → (budget lent : ℕ) → Serves ending row budget lent → run-of p budget lent ≡ record { records = row .records; ending = row .ending; tries = row .tries }
+    serves zero z budget lent h =
+        run-stays (events (walked (Allowed cs) (allowed? cs) (p .rest .pattern .numbered) T) (count Q) []) (row .budget) budget (fitting (row .lent) (length Q + length Q)) (fitting lent (length Q + length Q)) (h .0) (fitting-more (row .lent) lent (length Q + length Q) (h .1)) (ap (λ (x : Result). x .ending) e ∙ sym z) ∙ e
+    serves (suc n) z budget lent h =
+        let w = numbers-many (p .rest .constraints) in
+        let f = fitting-same lent (row .lent) (length Q + length Q) (rw w at (h .1)) in
+        rw (h .0, f) e
 
     exact : (budget : ℕ) (before : List ℕ) → run-of p budget (length before) ≡ record { records = row .records; ending = row .ending; tries = row .tries }
         → (r : Listed) (after : List ℕ) → Settled (row .lists) budget before r after ↔ ((r ≡ answerOf row) × (after ≡ outOf row before))
@@ -97,7 +105,7 @@ of-all C [] h a m = absurd m
 of-all C (b ∷ l) h a (inl e) = rw e (h .0)
 of-all C (b ∷ l) h a (inr m) = of-all C l (h .1) a m
 
-each-row : All Answers table
+each-row : All RowHolds table
 unfolding walkT walkF rows terms takeT dropT cut cutF holeRow decLe ℕ-discrete decLt heads path when? by? either? parts? again? repeated? word? in? flagged? obeys? allowed?
 each-row = (
   answers _ query-on-tree refl,
@@ -141,4 +149,4 @@ each-row = (
 )
 
 pub table-holds : TableHolds
-table-holds = of-all Answers table each-row
+table-holds = of-all RowHolds table each-row

@@ -1,47 +1,70 @@
 -- Demand 2: "A tree read from a document is the one that XML 1.0 gives within our subset. A record is called a matcher exactly when its
 -- substitution turns the pattern into the tree, obeys every constraint, and is recorded at the places that the rules name."
-use Prim.Native.Nat.{ℕ}
+use Prim.Native.Nat.{ℕ, _≤_}
 use mathlib.Core.Path.{_≡_}
 use mathlib.Core.Logic.{_↔_}
 use mathlib.Core.Bool.{true}
-use mathlib.Core.List.{List}
-use lib.ListN.{take}
-use Rattle.meaning.specs.Forest.{Term}
+use mathlib.Core.List.{List, _++_}
+use lib.ListN.{length, drop}
+use Rattle.meaning.specs.Forest.{none, Term, _◂_, size}
 use Rattle.meaning.specs.Pattern.{Pattern, Kind}
-use Rattle.meaning.specs.Value.{Value}
-use Rattle.meaning.specs.Solves.{Solves}
-use Rattle.meaning.specs.Record.{recordOf}
+use Rattle.meaning.specs.Matcher.{IsRecord}
 use Rattle.tree.specs.Rows.{labels, sizes}
+use Rattle.tree.specs.Good.{GoodTree}
+use Rattle.pattern.specs.Good.{GoodPattern}
 use Rattle.grammar.specs.Grammar.{Bytes, Content, Document}
-use Rattle.dictionary.specs.Names.{GoodDictionary}
-use Rattle.document.specs.Reading.{Read}
-use Rattle.document.specs.Labels.{treeOf}
-use Rattle.document.specs.Promises.{TreeIsGood, LookupIsRead}
+use Rattle.dictionary.specs.Names.{GoodDictionary, NamesOf}
+use Rattle.dictionary.specs.Spelling.{spellingOf, bytesOf, IsPart, PartAnswered, standsAt, SpellingAnswered}
+use Rattle.document.specs.Reading.{Read, Written}
+use Rattle.document.specs.Promises.{TreeIsGood, SpellingsInside, LookupIsRead}
 use Rattle.expression.specs.Expression.{Expression}
 use Rattle.constraint.specs.Obeys.{Constraint, Allowed}
 use Rattle.problem.specs.Problem.{Lists, Poses}
-use Rattle.test.specs.Tested.{codeOf, yesOf, Settled}
+use Rattle.test.specs.Tested.{yesOf, Settled}
 use Rattle.test.specs.declared.Tested.{Tested}
-use Rattle.instance.specs.Promises.{MatcherMade}
+use Rattle.instance.specs.Instance as Maker
+use Rattle.instance.specs.declared.Made.{Made}
+use Rattle.instance.specs.declared.Made.the-variants.{Rows}
 
--- what is read: there is one content of which the grammar prints the document, and the lists begin with the rows of its tree
+-- what is read: there is one content of which the grammar prints the document, and the four lists begin with the labels and sizes of
+-- its tree and with the starts and lengths of its rows' spellings
 pub record TreeRead : Type 0 where
   pub tree : {d w l s b n l' s' b' n' : List ℕ} {code place rows : ℕ} {names : List (List ℕ)} {f : Content} {t : Bytes} → Read d w l s b n l' s' b' n' code place rows → code ≡ 0
-      → GoodDictionary d names → Document w f t → (take rows l' ≡ labels (treeOf names f)) × (take rows s' ≡ sizes (treeOf names f))
-  pub some : {d w l s b n l' s' b' n' : List ℕ} {code place rows : ℕ} → Read d w l s b n l' s' b' n' code place rows → code ≡ 0
-      → (names : List (List ℕ)) × (f : Content) × (t : Bytes) × GoodDictionary d names × Document w f t
+      → GoodDictionary d names → Document w f t → Written names f l s b n l' s' b' n'
   pub one : {w : List ℕ} {f g : Content} {t u : Bytes} → Document w f t → Document w g u → f ≡ g
   pub taken : TreeIsGood
-  pub spelt : LookupIsRead
+  pub spelt : SpellingsInside
+  pub looked-up : LookupIsRead
+
+-- the spelling lookup gives the part that 01 names, of the slice that it names, for any row and any lists: by its numbers, and as a slice
+pub record LooksUp : Type 0 where
+  pub part : {d w l b n : List ℕ} {row s t u : ℕ} {names : List (List ℕ)} → PartAnswered d w l b n row s t u → NamesOf d names → IsPart s t u (spellingOf names w l b n row)
+  pub slice : {dAt wAt at : ℕ × ℕ} {d w l b n v : List ℕ} {row : ℕ} {names : List (List ℕ)} → SpellingAnswered dAt wAt d w l b n row at v → NamesOf d names
+      → (at ≡ standsAt dAt wAt (spellingOf names w l b n row)) × (v ≡ bytesOf d w (spellingOf names w l b n row))
 
 -- the test says yes exactly to the records of matchers
 abbrev pub Tests : Type 0
 Tests =
-    (l : Lists) (list : List ℕ) (r : Tested) (T : Term) (P : Pattern) (Q : List Kind) (es : List Expression) (cs : List Constraint) → Settled l list r → codeOf r ≡ 0 → Poses l T P Q es cs
-    → (yesOf r ≡ true) ↔ ((σ : List Value) × Solves (Allowed cs) Q σ P T × (recordOf P σ ≡ list))
+    (l : Lists) (list : List ℕ) (r : Tested) (T : Term) (P : Pattern) (Q : List Kind) (es : List Expression) (cs : List Constraint) → Settled l list r → Poses l T P Q es cs
+    → (yesOf r ≡ true) ↔ IsRecord (Allowed cs) Q P T list
 
-pub record Answers : Type 1 where
+-- the instance maker writes the pattern under the record's substitution, where it fits
+abbrev pub InstanceMade : Type 0
+InstanceMade =
+    (l : Maker.Lists) (L S L' S' : List ℕ) (r : Made) (U : Term) → Maker.Settled l L S r L' S' → Maker.Instance l U → size U ≤ 2048 → size U ≤ length L → size U ≤ length S
+    → (r ≡ Rows (size U)) × (L' ≡ labels (U ◂ none) ++ drop (size U) L) × (S' ≡ sizes (U ◂ none) ++ drop (size U) S)
+
+-- and for the record of a matcher, whatever the constraints, that is the tree
+abbrev pub MatcherMade : Type 0
+MatcherMade =
+    (l : Maker.Lists) (L S L' S' : List ℕ) (r : Made) (T : Term) (P : Pattern) (Q : List Kind) (cs : List Constraint) → Maker.Settled l L S r L' S'
+    → GoodTree (l .label) (l .size) T → GoodPattern (l .kind) (l .name) (l .patternSize) P Q → IsRecord (Allowed cs) Q P T (l .numbers)
+    → length (l .label) ≤ length L → length (l .label) ≤ length S
+    → (r ≡ Rows (length (l .label))) × (L' ≡ l .label ++ drop (length (l .label)) L) × (S' ≡ l .size ++ drop (length (l .label)) S)
+
+pub record Answers : Type 0 where
   pub reader : TreeRead
+  pub lookup : LooksUp
   pub test : Tests
-  -- and the instance of a matcher's record is the tree
-  pub instance : MatcherMade
+  pub instance : InstanceMade
+  pub of-matcher : MatcherMade

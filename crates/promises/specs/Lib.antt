@@ -1,4 +1,5 @@
 pub mod Demands
+pub mod Reader
 pub mod Refusals
 pub mod Answers
 pub mod Lists

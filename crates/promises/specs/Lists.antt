@@ -4,67 +4,68 @@
 use Prim.Native.Nat.{ℕ, _+_, _≤_, _<_}
 use mathlib.Core.Path.{_≡_}
 use mathlib.Core.Logic.{_↔_}
-use mathlib.Core.List.{List, [], _++_}
-use lib.ListN.{length, drop, getD}
+use mathlib.Core.List.{List, []}
+use lib.ListN.{length, getD}
 use Rattle.meaning.specs.Forest.{none, Term, _◂_}
 use Rattle.meaning.specs.Pattern.{Pattern, Kind}
-use Rattle.meaning.specs.Value.{Value}
+use Rattle.meaning.specs.Value.{Value, kinds}
 use Rattle.meaning.specs.Solves.{Solves}
 use Rattle.meaning.specs.Record.{recordOf}
+use Rattle.meaning.specs.Matcher.{IsRecord}
+use Rattle.meaning.specs.Order.{choices}
 use Rattle.meaning.specs.Read.{readOff}
-use Rattle.meaning.specs.Reached.{Begins}
+use Rattle.meaning.specs.Reached.{Begins, Reached}
 use Rattle.expression.specs.Expression.{Expression}
 use Rattle.constraint.specs.Obeys.{Constraint, Allowed}
 use Rattle.problem.specs.Problem.{Lists, Poses}
 use Rattle.listing.specs.Order.{Mem}
-use Rattle.listing.specs.Solutions.{Solutions}
-use Rattle.listing.specs.Tries.{Tries}
-use Rattle.listing.specs.Answer.{answer, roomOf}
-use Rattle.listing.specs.Listing.{joined}
+use Rattle.listing.specs.Listing.{Listing}
 use Rattle.lister.specs.Listed.{Settled}
 use Rattle.lister.specs.declared.Listed.{Listed}
 
--- what an answer of the lister is, for the problem that the lists pose: `listed` are the records in the lent list, `all` those of all
--- solutions in order, `tries` all tries in order
+-- what an answer of the lister is, for the problem that the lists pose
 pub record ListIs (Q : List Kind) (P : Pattern) (T : Term) (cs : List Constraint) (budget : ℕ) (before : List ℕ) (r : Listed) (after : List ℕ) : Type 0 where
-  pub listed : List (List ℕ)
-  pub all : List (List ℕ)
-  pub tries : List (List ℕ)
-  -- the lent list: the records, and behind them what it held
-  pub counted : r .records ≡ length listed
-  pub written : after ≡ joined listed ++ drop (length (joined listed)) before
-  -- all solutions, once each and in order, and nothing else; all tries
-  pub solutions : Solutions (Allowed cs) Q P T all
-  pub tried : Tries (Allowed cs) Q P T tries
-  -- which ending, how many records and how many tries
-  pub cut : record { records = listed; ending = r .ending; tries = r .tries } ≡ answer Q all tries budget (roomOf (length before) (length Q))
-  pub leading : Begins listed all
+  pub accepted : r .code ≡ 0
+  -- all solutions in order and all tries; how far room and budget go, and with which ending; the records in the lent list, and behind
+  -- them what it held
+  pub listing : Listing (Allowed cs) Q P T budget before (r .ending) (r .records) (r .tries) after
+  pub leading : Begins (listing .result .records) (listing .meant .solutions)
   pub within : r .tries ≤ budget
   -- a list that ends complete
-  pub every : r .ending ≡ 0 → (σ : List Value) → Solves (Allowed cs) Q σ P T → Mem (recordOf P σ) listed
-  pub only : (x : List ℕ) → Mem x listed → (σ : List Value) × Solves (Allowed cs) Q σ P T × (recordOf P σ ≡ x)
-  -- no two of its records mean one substitution
-  pub once : (i j : ℕ) → i < j → j < length listed → readOff Q (T ◂ none) (getD listed i []) ≡ readOff Q (T ◂ none) (getD listed j []) → ⊥
+  pub every : r .ending ≡ 0 → (σ : List Value) → Solves (Allowed cs) Q σ P T → Mem (recordOf P σ) (listing .result .records)
+  pub only : (x : List ℕ) → Mem x (listing .result .records) → IsRecord (Allowed cs) Q P T x
+  -- a record means its substitution, so that each that solves has one; and no two that are listed mean the same
+  pub means : (σ : List Value) → Solves (Allowed cs) Q σ P T → readOff Q (T ◂ none) (recordOf P σ) ≡ σ
+  pub once : (i j : ℕ) → i < j → j < length (listing .result .records) → readOff Q (T ◂ none) (getD (listing .result .records) i []) ≡ readOff Q (T ◂ none) (getD (listing .result .records) j []) → ⊥
 
 -- of every answer that keeps the lister's promise, for every problem that is well formed
 abbrev pub ListsAll : Type 0
 ListsAll =
     (l : Lists) (budget : ℕ) (before after : List ℕ) (r : Listed) (T : Term) (P : Pattern) (Q : List Kind) (es : List Expression) (cs : List Constraint)
-    → Settled l budget before r after → r .code ≡ 0 → Poses l T P Q es cs → ListIs Q P T cs budget before r after
+    → Settled l budget before r after → Poses l T P Q es cs → ListIs Q P T cs budget before r after
 
 -- a complete list is empty if and only if nothing solves
 abbrev pub EmptyIsNone : Type 0
 EmptyIsNone =
     (l : Lists) (budget : ℕ) (before after : List ℕ) (r : Listed) (T : Term) (P : Pattern) (Q : List Kind) (es : List Expression) (cs : List Constraint)
-    → Settled l budget before r after → r .code ≡ 0 → r .ending ≡ 0 → Poses l T P Q es cs → (r .records ≡ 0) ↔ ((σ : List Value) → Solves (Allowed cs) Q σ P T → ⊥)
+    → Settled l budget before r after → r .ending ≡ 0 → Poses l T P Q es cs → (r .records ≡ 0) ↔ ((σ : List Value) → Solves (Allowed cs) Q σ P T → ⊥)
 
 -- more room or budget only lengthens the list
 abbrev pub MoreLengthens : Type 0
 MoreLengthens =
     (l : Lists) (b c : ℕ) (before after before' after' : List ℕ) (r s : Listed) (T : Term) (P : Pattern) (Q : List Kind) (es : List Expression) (cs : List Constraint)
-    → b ≤ c → length before ≤ length before' → Poses l T P Q es cs → (x : ListIs Q P T cs b before r after) (y : ListIs Q P T cs c before' s after') → Begins (x .listed) (y .listed)
+    → b ≤ c → length before ≤ length before' → Poses l T P Q es cs → (x : ListIs Q P T cs b before r after) (y : ListIs Q P T cs c before' s after') → Begins (x .listing .result .records) (y .listing .result .records)
+
+-- the choices up to a try tell which it is: where two places are reached by the same choices, the values so far are the same, and so are
+-- those to be tried. So each vector in the list of tries is one try.
+abbrev pub OnePlace : Type 0
+OnePlace =
+    (l : Lists) (T : Term) (P : Pattern) (Q : List Kind) (es : List Expression) (cs : List Constraint) (σ τ : List Value) (a b c d : ℕ)
+    → Poses l T P Q es cs → Reached (Allowed cs) Q σ P T a b → Reached (Allowed cs) Q τ P T c d
+    → choices (kinds σ) (recordOf P σ) ≡ choices (kinds τ) (recordOf P τ) → (σ ≡ τ) × (a ≡ c) × (b ≡ d)
 
 pub record Listings : Type 0 where
   pub lists-all : ListsAll
+  pub one-place : OnePlace
   pub empty-is-none : EmptyIsNone
   pub more-lengthens : MoreLengthens

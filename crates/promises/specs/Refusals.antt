@@ -1,32 +1,38 @@
--- Demand 1: "A refusal has the number and place that the rules give, is made exactly then, and changes no buffer." The rules are the
--- contracts `Read`, `Tested.Settled`, `Listed.Settled` and `Instance.Settled`, which hold for any lists; here is what follows.
-use Prim.Native.Nat.{ℕ, _<_}
+-- Demand 1: "A refusal has the number and place that the rules give, is made exactly then, and changes no buffer." The contracts of the
+-- public functions hold for any lists; here is what follows of every answer that keeps them.
+use Prim.Native.Nat.{ℕ, _+_, _*_}
 use mathlib.Core.Path.{_≡_}
-use mathlib.Core.Logic.{_↔_}
+use mathlib.Core.Bool.{Bool}
 use mathlib.Core.List.{List}
 use lib.ListN.{length}
 use Rattle.meaning.specs.Lowest.{accept}
+use Rattle.meaning.specs.Says.{Says}
+use Rattle.pattern.specs.Answer as Pattern
+use Rattle.pattern.specs.declared.Checked.{Checked as PatternChecked}
 use Rattle.judge.specs.Verdict.{Verdict}
-use Rattle.dictionary.specs.Names.{GoodDictionary}
+use Rattle.dictionary.specs.Names.{DictionaryChecked}
+use Rattle.dictionary.specs.Spelling.{PartAnswered, SpellingAnswered}
 use Rattle.document.specs.Reading.{Read, Unchanged, shortest}
-use Rattle.document.specs.Promises.{OneAnswer, OneCheck}
+use Rattle.document.specs.Checked.{Checked}
+use Rattle.document.specs.Promises.{CheckIsRead}
 use Rattle.problem.specs.Problem as Problem
+use Rattle.problem.specs.Answer as Posed
+use Rattle.problem.specs.declared.Problem.{Problem as ProblemChecked}
 use Rattle.test.specs.Tested as Test
 use Rattle.test.specs.declared.Tested.{Tested}
 use Rattle.lister.specs.Listed as Lister
 use Rattle.lister.specs.declared.Listed.{Listed}
 use Rattle.instance.specs.Instance as Maker
-use Rattle.instance.specs.Promises.{OneMaking}
 use Rattle.instance.specs.declared.Made.{Made}
+use Rattle.promises.specs.Reader.{ReaderAnswer}
 
--- the reader refuses exactly where its rules say, with their number and place, and then no list is changed and there are no rows
+-- the reader and the C server's check give the lowest code whose rule is broken, and 0 where none is, with 01's place and rows; a
+-- tree of 2,048 rows has room in the check, so that it never gives 6
 pub record ReaderRefuses : Type 0 where
-  pub dictionary : {d w l s b n l' s' b' n' : List ℕ} {code place rows : ℕ} → Read d w l s b n l' s' b' n' code place rows → (code ≡ 1) ↔ ((names : List (List ℕ)) → GoodDictionary d names → ⊥)
-  pub document : {d w l s b n l' s' b' n' : List ℕ} {code place rows code' place' rows' : ℕ} {names : List (List ℕ)} → Read d w l s b n l' s' b' n' code place rows → GoodDictionary d names
-      → Verdict w code' place' rows' → (code' ≡ 0 → ⊥) → (code ≡ code') × (place ≡ place')
-  pub room : {d w l s b n l' s' b' n' : List ℕ} {code place rows fit : ℕ} {names : List (List ℕ)} → Read d w l s b n l' s' b' n' code place rows → GoodDictionary d names
-      → Verdict w 0 0 fit → (code ≡ 6) ↔ (shortest l s b n < fit)
-  pub unchanged : {d w l s b n l' s' b' n' : List ℕ} {code place rows : ℕ} → Read d w l s b n l' s' b' n' code place rows → (code ≡ 0 → ⊥) → Unchanged l s b n l' s' b' n' × (rows ≡ 0)
+  pub read : {d w l s b n l' s' b' n' : List ℕ} {code place rows : ℕ} → Read d w l s b n l' s' b' n' code place rows → ReaderAnswer d w (shortest l s b n) code place rows
+  pub unchanged : {d w l s b n l' s' b' n' : List ℕ} {code place rows : ℕ} → Read d w l s b n l' s' b' n' code place rows → (code ≡ 0 → ⊥) → Unchanged l s b n l' s' b' n'
+  pub check : {d w : List ℕ} {r : ℕ} → Checked d w r → (code : ℕ) × (place : ℕ) × (rows : ℕ) × ReaderAnswer d w 2048 code place rows × (r ≡ code * 4294967296 + (place + rows))
+  pub check-is-read : CheckIsRead
 
 -- the lister, the test and the instance maker give the lowest code whose rule is broken, and 0 where none is
 pub record MatcherRefuses : Type 0 where
@@ -35,13 +41,22 @@ pub record MatcherRefuses : Type 0 where
   pub instance : {l : Maker.Lists} {L S L' S' : List ℕ} {r : Made} → Maker.Settled l L S r L' S' → Maker.Codes l (length L) (length S) (Maker.codeGiven r)
 
 -- every answer, refusals among them, is settled, with each lent list afterwards
-pub record OnlyOne : Type 0 where
-  pub read : OneAnswer
-  pub check : OneCheck
+pub record OnlyOne : Type 1 where
+  pub read : {d w l s b n l₁ s₁ b₁ n₁ l₂ s₂ b₂ n₂ : List ℕ} {code place rows code' place' rows' : ℕ} → Read d w l s b n l₁ s₁ b₁ n₁ code place rows → Read d w l s b n l₂ s₂ b₂ n₂ code' place' rows'
+      → (code ≡ code') × (place ≡ place') × (rows ≡ rows') × (l₁ ≡ l₂) × (s₁ ≡ s₂) × (b₁ ≡ b₂) × (n₁ ≡ n₂)
+  pub check : {d w : List ℕ} {r s : ℕ} → Checked d w r → Checked d w s → r ≡ s
+  pub judge : {w : List ℕ} {c p n c' p' n' : ℕ} → Verdict w c p n → Verdict w c' p' n' → (c ≡ c') × (p ≡ p') × (n ≡ n')
+  pub dictionary : {d : List ℕ} {a b : Bool} {j k : ℕ} → DictionaryChecked d a j → DictionaryChecked d b k → (a ≡ b) × (j ≡ k)
+  pub part : {d w l b n : List ℕ} {row s t u s' t' u' : ℕ} → PartAnswered d w l b n row s t u → PartAnswered d w l b n row s' t' u' → (s ≡ s') × (t ≡ t') × (u ≡ u')
+  pub spelling : {dAt wAt at at' : ℕ × ℕ} {d w l b n : List ℕ} {row : ℕ} {v v' : List ℕ} → SpellingAnswered dAt wAt d w l b n row at v → SpellingAnswered dAt wAt d w l b n row at' v' → (at ≡ at') × (v ≡ v')
+  pub pattern : {k n s : List ℕ} {r r' : PatternChecked} → Pattern.Settled k n s r → Pattern.Settled k n s r' → r ≡ r'
+  pub problem : {l : Problem.Lists} {r r' : ProblemChecked} → Posed.Answered l r → Posed.Answered l r' → r ≡ r'
   pub test : {l : Problem.Lists} {list : List ℕ} {r s : Tested} → Test.Settled l list r → Test.Settled l list s → r ≡ s
   pub list : {l : Problem.Lists} {budget : ℕ} {before after after' : List ℕ} {r s : Listed} → Lister.Settled l budget before r after → Lister.Settled l budget before s after'
       → (r ≡ s) × (after ≡ after')
-  pub instance : OneMaking
+  pub instance : {l : Maker.Lists} {L S L₁ S₁ L₂ S₂ : List ℕ} {r s : Made} → Maker.Settled l L S r L₁ S₁ → Maker.Settled l L S s L₂ S₂ → (r ≡ s) × (L₁ ≡ L₂) × (S₁ ≡ S₂)
+  -- the other checks answer yes or no
+  pub yes-or-no : {a b : Bool} {P : Type 0} → Says a P → Says b P → a ≡ b
 
 -- a refusal by the lister or the instance maker changes no lent list, and its other numbers are 0
 pub record NothingWritten : Type 0 where
@@ -49,7 +64,7 @@ pub record NothingWritten : Type 0 where
       → (after ≡ before) × (r .ending ≡ 0) × (r .records ≡ 0) × (r .tries ≡ 0)
   pub instance : {l : Maker.Lists} {L S L' S' : List ℕ} {r : Made} → Maker.Settled l L S r L' S' → (Maker.codeGiven r ≡ 0 → ⊥) → (L' ≡ L) × (S' ≡ S) × (Maker.rowsGiven r ≡ 0)
 
-pub record Refusals : Type 0 where
+pub record Refusals : Type 1 where
   pub reader : ReaderRefuses
   pub matcher : MatcherRefuses
   pub one : OnlyOne

@@ -1,5 +1,5 @@
 -- 01, "Examples": "Those marked P are proved, all in a single table under one statement." The statement is `TableHolds`.
-use Prim.Native.Nat.{ℕ, zero, suc, _≤_}
+use Prim.Native.Nat.{ℕ, zero, suc, _≤_, _/_}
 use mathlib.Core.Path.{_≡_}
 use mathlib.Core.Logic.{_↔_}
 use mathlib.Core.List.{List, [], _∷_, _++_}
@@ -19,11 +19,11 @@ pub record Row : Type 0 where
   pub records : List (List ℕ)
   pub tries : ℕ
 
--- a list that ends complete is the same with any budget and lent list that are at least so large; one that is cut short is given
--- for these alone
-abbrev pub Serves : (ending row given : ℕ) → Type 0
-Serves zero row given = row ≤ given
-Serves (suc ending) row given = given ≡ row
+-- a list that ends complete is the same with any budget and lent list that are at least so large; one that is cut short is given for
+-- this budget, and for every lent list with that room: its length divided by twice the variables, which the constraint list is long
+abbrev pub Serves : (ending : ℕ) (row : Row) (budget lent : ℕ) → Type 0
+Serves zero row budget lent = (row .budget ≤ budget) × (row .lent ≤ lent)
+Serves (suc ending) row budget lent = (budget ≡ row .budget) × (lent / length (row .lists .constraint) ≡ row .lent / length (row .lists .constraint))
 
 abbrev pub answerOf : Row → Listed
 answerOf row = record { code = 0; ending = row .ending; records = length (row .records); tries = row .tries }
@@ -32,8 +32,8 @@ abbrev pub outOf : Row → List ℕ → List ℕ
 outOf row before = joined (row .records) ++ drop (length (joined (row .records))) before
 
 -- the lister's promise holds of this answer and this list, and of no other
-pub record Answers (row : Row) : Type 0 where
-  pub exactly : (budget : ℕ) (before : List ℕ) → Serves (row .ending) (row .budget) budget → Serves (row .ending) (row .lent) (length before)
+pub record RowHolds (row : Row) : Type 0 where
+  pub exactly : (budget : ℕ) (before : List ℕ) → Serves (row .ending) row budget (length before)
       → (r : Listed) (after : List ℕ) → Settled (row .lists) budget before r after ↔ ((r ≡ answerOf row) × (after ≡ outOf row before))
 
 -- tree, pattern, expressions and constraints of an example
@@ -110,4 +110,4 @@ table =
     ∷ []
 
 abbrev pub TableHolds : Type 0
-TableHolds = (r : Row) → Mem r table → Answers r
+TableHolds = (r : Row) → Mem r table → RowHolds r

@@ -33,7 +33,7 @@ part-result-end : tie.Need-part-result-end
 part-result-end c = inside-dictionary (found (c .before .before)) (omega arith)
 
 returns : tie.Need-returns
-returns c = spelled-dictionary (found (c .before .before .before)) (omega arith)
+returns c = spelled-dictionary (found (c .before .before .before)) _ _ (omega arith)
 
 sub-result-2 : tie.Need-sub-result-2
 sub-result-2 c = search needs
@@ -45,7 +45,7 @@ part-result-end-2 : tie.Need-part-result-end-2
 part-result-end-2 c = inside-document (found (c .before .before)) (c .if1 .left)
 
 returns-2 : tie.Need-returns-2
-returns-2 c = spelled-document (found (c .before .before .before)) (c .before .if1 .left)
+returns-2 c = spelled-document (found (c .before .before .before)) _ _ (c .before .if1 .left)
 
 pub spelling-spec : {M : Type 1} → statement M
 spelling-spec =
