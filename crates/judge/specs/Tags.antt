@@ -12,6 +12,8 @@ use Rattle.grammar.specs.Rows.{#}
 use Rattle.grammar.specs.Machine.{Open, inRun, afterLess, inEndName, At}
 use Rattle.judge.specs.declared.tags.Tag.{Tag}
 use Rattle.judge.specs.declared.tags.Tag.the-variants.{Refused, Opens, Empty, Closes}
+use Rattle.judge.specs.declared.tags.Kind.{Kind}
+use Rattle.judge.specs.declared.tags.Kind.the-variants.{Nothing, Start, End}
 use Rattle.judge.specs.Tokens.{Span, bytes, nameAt, levelOf, runAt}
 
 -- the run that starts at a ends at r, and makes so many rows
@@ -86,6 +88,13 @@ pub record Tagging (w : List ℕ) (name depth rows a : ℕ) (o : List Open) (f :
   pub depth-is : depth ≡ length o
   pub top : Top w name o
   pub none-yet : depth ≡ 0 → eqb rows 0 ≡ noElement f
+
+-- what may stand at the < at a
+pub data KindOf (w : List ℕ) (depth rows a : ℕ) : Kind → Type 0 where
+  second-root : depth ≡ 0 → 0 < rows → KindOf w depth rows a Nothing
+  root : depth ≡ 0 → rows ≡ 0 → KindOf w depth rows a Start
+  inner-start : (depth ≡ 0 → ⊥) → (getD w (a + 1) 0 ≡ 47 → ⊥) → KindOf w depth rows a Start
+  inner-end : (depth ≡ 0 → ⊥) → getD w (a + 1) 0 ≡ 47 → KindOf w depth rows a End
 
 abbrev pub Tagged : List ℕ → ℕ → ℕ → ℕ → ℕ → Tag → Type 0
 Tagged w name depth rows a r =

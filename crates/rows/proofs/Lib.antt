@@ -4,3 +4,4 @@ pub mod Sizes
 pub mod Large
 pub mod Names
 pub mod Noting
+pub mod Turning

@@ -127,6 +127,14 @@ shallow-close a l b c r h k =
     inner : l + b ≤ 64 → suc l + c ≤ 64 → l + max b (suc (max c r)) ≤ 64
     inner p q = omega arith
 
+pub few-open : {w S L Z H : List ℕ} {i x depth n : ℕ} → Noting w S L Z H i x depth n → depth ≤ 64
+unfolding deepO
+few-open {w} {S} {L} {Z} {H} {i} {x} {depth} k = go (k .walked .o) (k .walked .depth-is) (k .shallow)
+  where
+    go : (o : List Open) → depth ≡ length o → max (deepO o) (length o + contentDepth (k .walked .f)) ≤ 64 → depth ≤ 64
+    go [] d s = omega (arith, d)
+    go (p ∷ o) d s = omega (arith, d, s)
+
 -- A TURN: the run that starts at i ends at a, and makes m rows
 module _ {w S L Z H : List ℕ} {i x depth n : ℕ} (k : Noting w S L Z H i x depth n) (few : n ≤ 2048) {a m : ℕ} (run : RunTo w depth i a m) where
   abbrev O : List Open
@@ -356,14 +364,6 @@ module _ {w S L Z H : List ℕ} {i x depth n : ℕ} (k : Noting w S L Z H i x de
     ends b r (early h) = refused (k .walked) run b h
 
     -- BEYOND THE LIMITS
-    pub few-open : depth ≤ 64
-    unfolding deepO
-    few-open = go O (k .walked .depth-is) (k .shallow)
-      where
-        go : (o : List Open) → depth ≡ length o → max (deepO o) (length o + contentDepth F) ≤ 64 → depth ≤ 64
-        go [] d s = omega (arith, d)
-        go (p ∷ o) d s = omega (arith, d, s)
-
     pub deep-text : getD w a 0 ≡ 60 → 64 < depth + m → TooLarge w
     unfolding rowsS leafOn
     deep-text b h = go (inked T) (run .makes) refl
@@ -373,7 +373,7 @@ module _ {w S L Z H : List ℕ} {i x depth n : ℕ} (k : Noting w S L Z H i x de
 
         go : (y : Bool) → m ≡ cond y 1 0 → inked T ≡ y → TooLarge w
         go true e q = too-deep there (atRun O F) (row (suc (length O)) (offO O + width F) T) (simp q) (omega (arith, h, few-made, k .walked .depth-is))
-        go false e q = absurd (omega (arith, h, e, few-open))
+        go false e q = absurd (omega (arith, h, e, few-open k))
 
     pub deep-open : {e r : ℕ} → OpenedTo w (a + 1) e r O F T → 63 < depth → TooLarge w
     unfolding rowsS rowsOn rowsO namedOn
