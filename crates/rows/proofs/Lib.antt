@@ -1,5 +1,3 @@
-pub mod Upto
-pub mod Holding
 pub mod Sizes
 pub mod Large
 pub mod Names

@@ -1,7 +1,7 @@
 -- What the pass that notes the rows keeps, and what it ends with.
 use mathlib.Core.Path.{_≡_, refl, sym, ap, _∙_}
 use mathlib.Core.Bool.{Bool, true, false, cond}
-use mathlib.Core.List.{List, [], _∷_, _++_, map}
+use mathlib.Core.List.{List, [], _∷_, _++_, map, map-append}
 use Prim.Native.Nat.{ℕ, suc, _+_, _-_, _≤_, _<_, max}
 use native.Mathlib.Omega.{arith}
 use lib.ListN.{length, getD, set, length-set, length-map, length-append}
@@ -17,9 +17,10 @@ use Rattle.judge.specs.Tokens.{Span, bytes, nameAt}
 use Rattle.judge.specs.Tags.{RunTo, Named, opened, Closed, closed, OpenedTo, EmptyTo, Top, Tagging}
 use Rattle.judge.proofs.Turns.{count, less}
 use Rattle.judge.proofs.Judging.{rowsO as countO, deepO, Walked, Finished, made, to-tag, refused, finished}
-use Rattle.rows.specs.Notes.{Holds, Long, Put, RowsNoted, TooLarge, Notes, LastOf, ended, early}
+use Rattle.labels.specs.Lists.{Holds, Long, Put}
+use Rattle.rows.specs.Notes.{RowsNoted, TooLarge, Notes, LastOf, ended, early}
 use Rattle.rows.specs.declared.note.Noted.{Noted}
-use Rattle.rows.proofs.Holding.{holds-beside, holds-more, holds-again, row-more}
+use Rattle.labels.proofs.Holding.{holds-beside, holds-more, holds-again}
 use Rattle.rows.proofs.Sizes.{leafSizes, sizesOn, sizesO, beforeO, sizes-long, open-long, before-long, own-size, sizes-tree}
 use Rattle.rows.proofs.Large.{leaf-count, run-count, too-many, too-deep}
 
@@ -90,6 +91,10 @@ begins w S L Z H long h = record {
   sizes-are = record { rest = Z; is = refl };
   held = omega arith;
 }
+
+row-more : (g : Row → ℕ) (R : List Row) (x : Row) (l : List ℕ) (n : ℕ) → length (map g R) ≡ n → n < length l → Holds (map g R) l →
+    Holds (map g (R ++ (x ∷ []))) (set l n (g x))
+row-more g R x l n e h k = rw (map-append g R (x ∷ [])) (holds-more (map g R) l n (g x) e h k)
 
 -- a row is put behind those that are noted, and may count
 row-put : (g : Row → ℕ) (y : Bool) (R : List Row) (x : Row) (l l' : List ℕ) (n v : ℕ) → length R ≡ n → n < length l → Holds (map g R) l → g x ≡ v → l' ≡ set l n v →

@@ -8,7 +8,8 @@ use Rattle.grammar.specs.Place.{OutsideAt}
 use Rattle.grammar.specs.Machine.{Open}
 use Rattle.judge.specs.Tokens.{Span, bytes, nameAt}
 use Rattle.judge.specs.Tags.{RunTo, OpenedTo, EmptyTo, Closed, Tagging}
-use Rattle.rows.specs.Notes.{Put, LastOf}
+use Rattle.labels.specs.Lists.{Put}
+use Rattle.rows.specs.Notes.{LastOf}
 use Rattle.rows.specs.declared.note.Noted.{Noted}
 use Rattle.rows.specs.declared.note.Noted.the-variants.{Outside, Beyond}
 use Rattle.rows.specs.declared.note.Turn.{Turn}

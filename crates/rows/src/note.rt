@@ -1,13 +1,13 @@
 // One pass over a document, which notes the start, the length and the size of each row in lists of its own.
-ghost use mathlib.Core.Path.{_≡_};
 ghost use mathlib.Core.List.{List};
-ghost use Prim.Native.Nat.{_-_, _≤_, _<_};
-ghost use lib.ListN.{length, getD, set};
+ghost use Prim.Native.Nat.{_≤_};
+ghost use lib.ListN.{length};
 ghost use Rattle.grammar.specs.Grammar.{Bytes, Content};
 ghost use Rattle.grammar.specs.Machine.{Open};
 ghost use Rattle.judge.specs.Tokens.{Classed};
 ghost use Rattle.judge.specs.Tags.{RunTo};
-ghost use Rattle.rows.specs.Notes.{Long, Put, LastOf, Notes};
+ghost use Rattle.labels.specs.Lists.{Long};
+ghost use Rattle.rows.specs.Notes.{LastOf, Notes};
 ghost use Rattle.rows.specs.Turns.{MayTag, TagDone, MayTurn, TurnDone};
 use super::tags::next_tag;
 use judge::Run;
@@ -18,25 +18,15 @@ use judge::stack::push;
 use judge::tags::Tag;
 use judge::tokens::long_text_end;
 use judge::tokens::long_white_end;
+use labels::note::close;
+use labels::note::number;
+use labels::note::put;
 
 // So many rows are noted; or the place of code 3; or a document, if it is one, that is too deep or has too many rows.
 pub enum Noted {
     Rows(usize),
     Outside(usize),
     Beyond,
-}
-
-fn wide(x: u16) -> usize
-    ensures { λ r. ⌜ (r ≡ x) × (r < 65536) ⌝ }
-{
-    x as usize
-}
-
-fn number(list: &[u16; 2052], i: usize) -> usize
-    requires { ⌜ i < 2052 ⌝ }
-    ensures { λ r. ⌜ (r ≡ getD (now (list .entry)) i 0) × (r < 65536) ⌝ }
-{
-    wide(list[i])
 }
 
 // The run that starts at `start`: most are empty or white space only.
@@ -68,30 +58,6 @@ fn run(document: &[u8], class: &[u8; 512], depth: usize, start: usize) -> Run
         return Run { end: end, rows: 1 };
     }
     Run { end: end, rows: 0 }
-}
-
-fn put(
-    starts: &mut [u16; 2052],
-    lengths: &mut [u16; 2052],
-    sizes: &mut [u16; 2052],
-    row: usize,
-    start: usize,
-    length: usize,
-)
-    requires { ⌜ (row < 2052) × (start < 65536) × (length < 65536) ⌝ }
-    ensures { λ _. ⌜ Put row start length (now (starts .entry)) (now (lengths .entry)) (now (sizes .entry)) (now (starts .exit)) (now (lengths .exit)) (now (sizes .exit)) ⌝ }
-{
-    starts[row] = start as u16;
-    lengths[row] = length as u16;
-    sizes[row] = 1;
-}
-
-// The element at `top` ends behind `rows` rows.
-fn close(sizes: &mut [u16; 2052], top: usize, rows: usize)
-    requires { ⌜ (top < 2052) × (top ≤ rows) × (rows < 65536) ⌝ }
-    ensures { λ _. ⌜ now (sizes .exit) ≡ set (now (sizes .entry)) top (rows - top) ⌝ }
-{
-    sizes[top] = (rows - top) as u16;
 }
 
 // The answer where no tag follows: the last run ends at `at`.

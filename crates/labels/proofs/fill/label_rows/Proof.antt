@@ -6,10 +6,10 @@ use mathlib.Core.Path.{ap}
 use mathlib.Core.List.{List}
 use native.Mathlib.Omega.{arith}
 use lib.ListN.{take}
-use Rattle.document.specs.Labelling.{MayLabelRows}
-use Rattle.document.proofs.Labelling.{LabelledTo, labels-begin, labels-end, from-short, may-label, found-few, count-few, label-room, labels-next}
-use Rattle.document.proofs.fill.label_rows.Statement.{statement}
-use Rattle.document.proofs.fill.label_rows.Tie as tie
+use Rattle.labels.specs.Labelling.{MayLabelRows}
+use Rattle.labels.proofs.Labelling.{LabelledTo, labels-begin, labels-end, from-short, may-label, found-few, count-few, label-room, labels-next}
+use Rattle.labels.proofs.fill.label_rows.Statement.{statement}
+use Rattle.labels.proofs.fill.label_rows.Tie as tie
 
 abbrev Inv-loop : tie.InvT-loop
 Inv-loop dictionary document names index₀ label₀ start width rows count₀ row₀ index label count row = (known spellings : List (List ℕ)) → MayLabelRows dictionary document names index₀ label₀ start width rows known spellings → LabelledTo dictionary document names index₀ label₀ index label known spellings rows count row
