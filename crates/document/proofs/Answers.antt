@@ -183,8 +183,8 @@ pub beyond-refused : {w : List ℕ} {c p n : ℕ} → TooLarge w → Verdict w c
 beyond-refused h v e = let d = whole v e in h (d .f) (d .t) (d .document) (d .shallow) (omega (arith, d .few, d .rows-are, rows-count (d .f), shape-rows (d .f)))
 
 -- THE ANSWERS OF `check`
-pub checks-bad : {d w : List ℕ} {good : Bool} {k : ℕ} → DictionaryChecked d good k → good ≡ false → Checked d w 4294967296
-checks-bad c e = bad (not-good c e)
+pub checks-bad : {d w : List ℕ} {good : Bool} {k x : ℕ} → DictionaryChecked d good k → good ≡ false → (x ≡ 1) × (x < 4294967296) → Checked d w (x * 4294967296)
+checks-bad c e is-x = rw (is-x .0) (bad (not-good c e))
 
 pub checks-judged : {d w : List ℕ} {good : Bool} {k c p n x y z : ℕ} → DictionaryChecked d good k → good ≡ true → Verdict w c p n →
     (x ≡ c) × (x < 4294967296) → (y ≡ p) × (y < 4294967296) → (z ≡ n) × (z < 4294967296) → Checked d w (x * 4294967296 + (y + z))

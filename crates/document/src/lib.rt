@@ -8,6 +8,11 @@ ghost use Rattle.document.specs.Learnt.{MayRead};
 ghost use Rattle.document.specs.Reading.{Read};
 ghost use Rattle.document.specs.Checked.{Checked};
 use judge::Judged;
+use judge::codes::BAD_DICTIONARY;
+use judge::codes::MOST_BYTES;
+use judge::codes::NO_ROOM;
+use judge::codes::READ;
+use judge::codes::TOO_LONG;
 use judge::judge;
 use judge::outside;
 use labels::fill::copy_rows;
@@ -52,7 +57,7 @@ fn accepted(rows: usize) -> Judged
     ensures { λ r. ⌜ (r .code ≡ 0) × (r .place ≡ 0) × (r .rows ≡ rows) ⌝ }
 {
     Judged {
-        code: 0,
+        code: READ,
         place: 0,
         rows: rows as u32,
     }
@@ -80,7 +85,7 @@ fn read_rows(
         Noted::Beyond => judge(document),
         Noted::Rows(rows) => {
             if !fits(rows, label.len(), size.len(), start.len(), length.len()) {
-                return refusal(6);
+                return refusal(NO_ROOM);
             }
             copy_rows(&starts, &lengths, &sizes, start, length, size, rows);
             label_rows(
@@ -113,10 +118,10 @@ pub fn read(
     let good = checked.good;
     let names = checked.names;
     if !good {
-        return refusal(1);
+        return refusal(BAD_DICTIONARY);
     }
-    if 32768 < document.len() {
-        return refusal(2);
+    if MOST_BYTES < document.len() {
+        return refusal(TOO_LONG);
     }
     read_rows(
         dictionary,
@@ -134,8 +139,8 @@ pub fn read(
 fn verdict(document: &[u8]) -> Judged
     ensures { λ r. ⌜ Verdict (now (document .entry)) (r .code) (r .place) (r .rows) ⌝ }
 {
-    if 32768 < document.len() {
-        return refusal(2);
+    if MOST_BYTES < document.len() {
+        return refusal(TOO_LONG);
     }
     let mut starts = [0u16; 2052];
     let mut lengths = [0u16; 2052];
@@ -148,14 +153,16 @@ fn verdict(document: &[u8]) -> Judged
 }
 
 // What the site's server asks: code times 4,294,967,296 plus the place or the rows.
+const CODE: u64 = 4294967296;
+
 pub fn check(dictionary: &[u8], document: &[u8]) -> u64
     ensures { λ r. ⌜ Checked (now (dictionary .entry)) (now (document .entry)) r ⌝ }
 {
     let checked = dictionary::check(dictionary);
     let good = checked.good;
     if !good {
-        return 4294967296;
+        return wider(BAD_DICTIONARY) * CODE;
     }
     let judged = verdict(document);
-    wider(judged.code) * 4294967296 + (wider(judged.place) + wider(judged.rows))
+    wider(judged.code) * CODE + (wider(judged.place) + wider(judged.rows))
 }

@@ -7,12 +7,21 @@ ghost use Rattle.judge.specs.Tags.{RunTo, Done, Last};
 ghost use Rattle.judge.specs.Verdict.{Verdict};
 
 pub mod class;
+pub mod codes;
 pub mod stack;
 pub mod tags;
 pub mod tokens;
 
 use class::byte_at;
 use class::table;
+use codes::DEEPEST;
+use codes::MOST_BYTES;
+use codes::MOST_ROWS;
+use codes::OUTSIDE;
+use codes::READ;
+use codes::TOO_DEEP;
+use codes::TOO_LONG;
+use codes::TOO_MANY;
 use stack::pop;
 use stack::push;
 use tags::Tag;
@@ -80,7 +89,7 @@ pub fn outside(place: usize) -> Judged
     ensures { λ r. ⌜ (r .code ≡ 3) × (r .place ≡ place) × (r .rows ≡ 0) ⌝ }
 {
     Judged {
-        code: 3,
+        code: OUTSIDE,
         place: place as u32,
         rows: 0,
     }
@@ -90,22 +99,22 @@ pub fn outside(place: usize) -> Judged
 fn whole(rows: usize, deep: usize) -> Judged
     ensures { λ r. ⌜ Done rows deep (r .code) (r .place) (r .rows) ⌝ }
 {
-    if 64 < deep {
+    if DEEPEST < deep {
         return Judged {
-            code: 4,
+            code: TOO_DEEP,
             place: 0,
             rows: 0,
         };
     }
-    if 2048 < rows {
+    if MOST_ROWS < rows {
         return Judged {
-            code: 5,
+            code: TOO_MANY,
             place: 0,
             rows: 0,
         };
     }
     Judged {
-        code: 0,
+        code: READ,
         place: 0,
         rows: rows as u32,
     }
@@ -143,7 +152,7 @@ fn pass(document: &[u8], class: &[u8; 512]) -> Judged
         let text = run_end(document, class, depth, i);
         let at = text.end;
         seen = more(seen, text.rows, depth + text.rows);
-        if byte_at(document, at) != 60 {
+        if byte_at(document, at) != b'<' {
             return last(document.len(), at, depth, seen.rows, seen.deep);
         }
         match next_tag(document, class, name, depth, seen.rows, at) {
@@ -171,9 +180,9 @@ fn pass(document: &[u8], class: &[u8; 512]) -> Judged
 pub fn judge(document: &[u8]) -> Judged
     ensures { λ r. ⌜ Verdict (now (document .entry)) (r .code) (r .place) (r .rows) ⌝ }
 {
-    if 32768 < document.len() {
+    if MOST_BYTES < document.len() {
         return Judged {
-            code: 2,
+            code: TOO_LONG,
             place: 0,
             rows: 0,
         };

@@ -13,6 +13,8 @@ use super::tags::next_tag;
 use judge::Run;
 use judge::class::byte_at;
 use judge::class::table;
+use judge::codes::DEEPEST;
+use judge::codes::MOST_ROWS;
 use judge::stack::pop;
 use judge::stack::push;
 use judge::tags::Tag;
@@ -34,14 +36,14 @@ fn run(document: &[u8], class: &[u8; 512], depth: usize, start: usize) -> Run
     requires { ⌜ Classed (now class) × (start ≤ length (now document)) ⌝ }
     ensures { λ r. ⌜ RunTo (now (document .entry)) depth start (r .end) (r .rows) ⌝ }
 {
-    if byte_at(document, start) == 60 {
+    if byte_at(document, start) == b'<' {
         return Run {
             end: start,
             rows: 0,
         };
     }
     let white = long_white_end(document, class, start);
-    if byte_at(document, white) == 60 {
+    if byte_at(document, white) == b'<' {
         return Run {
             end: white,
             rows: 0,
@@ -105,14 +107,14 @@ fn read_tag(
     match next_tag(document, class, name, length, depth, row, at) {
         Tag::Refused(place) => Turn::Ends(Noted::Outside(place)),
         Tag::Opens(end, next) => {
-            if 63 < depth {
+            if DEEPEST <= depth {
                 return Turn::Ends(Noted::Beyond);
             }
             put(starts, lengths, sizes, row, at + 1, end - (at + 1));
             Turn::Opens(row, next)
         }
         Tag::Empty(end, next) => {
-            if 63 < depth {
+            if DEEPEST <= depth {
                 return Turn::Ends(Noted::Beyond);
             }
             put(starts, lengths, sizes, row, at + 1, end - (at + 1));
@@ -137,7 +139,7 @@ fn read_turn(
     requires { ⌜ Classed (now class) × ((o : List Open) × (f : Content) × MayTurn (now document) (now starts) (now lengths) (now sizes) top depth row i o f) ⌝ }
     ensures { λ r. ⌜ ((o : List Open) (f : Content) → MayTurn (now (document .entry)) (now (starts .entry)) (now (lengths .entry)) (now (sizes .entry)) top depth row i o f → TurnDone (now (document .entry)) (now (starts .entry)) (now (lengths .entry)) (now (sizes .entry)) depth row i o f (now (starts .exit)) (now (lengths .exit)) (now (sizes .exit)) r) ⌝ }
 {
-    if 2048 < row {
+    if MOST_ROWS < row {
         return Turn::Ends(Noted::Beyond);
     }
     let text = run(document, class, depth, i);
@@ -145,10 +147,10 @@ fn read_turn(
     let leaves = text.rows;
     put(starts, lengths, sizes, row, i, at - i);
     let row = row + leaves;
-    if byte_at(document, at) != 60 {
+    if byte_at(document, at) != b'<' {
         return Turn::Ends(last(document.len(), at, depth, row));
     }
-    if 64 < depth + leaves {
+    if DEEPEST < depth + leaves {
         return Turn::Ends(Noted::Beyond);
     }
     read_tag(document, class, starts, lengths, sizes, top, depth, row, at)

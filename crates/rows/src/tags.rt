@@ -21,11 +21,11 @@ fn end_tag(document: &[u8], class: &[u8; 512], name: usize, length: usize, at: u
         return judge::tags::end_tag(document, class, name, at);
     }
     let end = at + length;
-    if byte_at(document, end) == 62 {
+    if byte_at(document, end) == b'>' {
         return Tag::Closes(end + 1);
     }
     let shut = white_end(document, class, end);
-    if byte_at(document, shut) == 62 {
+    if byte_at(document, shut) == b'>' {
         return Tag::Closes(shut + 1);
     }
     Tag::Refused(shut)

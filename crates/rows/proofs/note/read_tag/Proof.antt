@@ -69,7 +69,7 @@ enum-known-end : tie.Need-enum-known-end
 enum-known-end c = search needs
 
 returns : tie.Need-returns
-returns c = λ o f u h. deep-open (opened-to (c .before) h .1) (c .if1 .taken)
+returns c = λ o f u h. deep-open (opened-to (c .before) h .1) (omega (arith, c .if1 .taken))
 
 add-put : tie.Need-add-put
 add-put c = search needs
@@ -91,7 +91,7 @@ enum-known-end-2 : tie.Need-enum-known-end-2
 enum-known-end-2 c = search needs
 
 returns-2 : tie.Need-returns-2
-returns-2 c = λ o f u h. deep-empty (emptied-to (c .before) h .1) (c .if2 .taken)
+returns-2 c = λ o f u h. deep-empty (emptied-to (c .before) h .1) (omega (arith, c .if2 .taken))
 
 add-put-3 : tie.Need-add-put-3
 add-put-3 c = search needs
