@@ -4,3 +4,4 @@ pub mod Trees
 pub mod Positions
 pub mod Rows
 pub mod Emitted
+pub mod Told

@@ -8,7 +8,7 @@ use lib.ListN.{length, getD, set, length-set, length-map, length-append}
 use lib.Seq.{getD-set-same, getD-set-other}
 use Rattle.grammar.specs.Grammar.{Bytes, Content, nothing, emptyElement, element}
 use Rattle.grammar.specs.Tree.{inked}
-use Rattle.grammar.specs.Rows.{#, width, Row, row}
+use Rattle.grammar.specs.Rows.{#, width, Row, row, ofText}
 use Rattle.grammar.specs.Machine.{Open, afterLess, At}
 use Rattle.grammar.proofs.Trees.{leafRows, contentRows, contentDepth, shape-depth}
 use Rattle.grammar.proofs.Positions.{offO, posS, at-place}
@@ -377,7 +377,7 @@ module _ {w S L Z H : List ℕ} {i x depth n : ℕ} (k : Noting w S L Z H i x de
         there = less (tagging refl refl b) (λ d. absurd (omega (arith, d, h, few-made)))
 
         go : (y : Bool) → m ≡ cond y 1 0 → inked T ≡ y → TooLarge w
-        go true e q = too-deep there (atRun O F) (row (suc (length O)) (offO O + width F) T) (simp q) (omega (arith, h, few-made, k .walked .depth-is))
+        go true e q = too-deep there (atRun O F) (row ofText (suc (length O)) (offO O + width F) T) (simp q) (omega (arith, h, few-made, k .walked .depth-is))
         go false e q = absurd (omega (arith, h, e, few-open k))
 
     pub deep-open : {e r : ℕ} → OpenedTo w (a + 1) e r O F T → 63 < depth → TooLarge w
