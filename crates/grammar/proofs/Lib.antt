@@ -5,3 +5,4 @@ pub mod Positions
 pub mod Rows
 pub mod Emitted
 pub mod Told
+pub mod InWords

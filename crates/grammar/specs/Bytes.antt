@@ -1,0 +1,15 @@
+-- Bytes as the grammar's parts are made of them.
+use mathlib.Core.List.{List, _∷_}
+use Prim.Native.Nat.{ℕ}
+
+infixl 60 _▸_
+-- bytes in the order in which they stand, grown at the right
+pub data Bytes : Type 0 where
+  ε : Bytes
+  _▸_ : Bytes → ℕ → Bytes
+
+infixr 50 _⊲_
+-- the bytes, and what follows them
+abbrev pub _⊲_ : Bytes → List ℕ → List ℕ
+ε ⊲ v = v
+(s ▸ b) ⊲ v = s ⊲ (b ∷ v)
