@@ -1,4 +1,4 @@
--- Bytes as the grammar's parts are made of them.
+-- Bytes, of which the grammar's parts are made.
 use mathlib.Core.List.{List, _∷_}
 use Prim.Native.Nat.{ℕ}
 
@@ -13,3 +13,16 @@ infixr 50 _⊲_
 abbrev pub _⊲_ : Bytes → List ℕ → List ℕ
 ε ⊲ v = v
 (s ▸ b) ⊲ v = s ⊲ (b ∷ v)
+
+-- the bytes that markup is made of, and the one that may not stand twice before its >
+abbrev pub less : ℕ
+less = 60
+
+abbrev pub greater : ℕ
+greater = 62
+
+abbrev pub slash : ℕ
+slash = 47
+
+abbrev pub bracket : ℕ
+bracket = 93

@@ -10,7 +10,7 @@ use Prim.Native.Nat.{ℕ}
 use lib.Dec.{eqb}
 use Rattle.grammar.specs.Classes.{white, nameStart, nameByte, text}
 use Rattle.grammar.specs.Tokens.{Automaton, after, Reads, Token, spaces, names, texts}
-pub use Rattle.grammar.specs.Bytes.{Bytes, ε, _▸_, _⊲_}
+pub use Rattle.grammar.specs.Bytes.{Bytes, ε, _▸_, _⊲_, less, greater, slash}
 
 -- runs and elements in turn, up to the last element; the run behind it stands beside
 pub data Content : Type 0 where
@@ -20,11 +20,10 @@ pub data Content : Type 0 where
   -- before run <name space> inner last </name space₂>
   element : (before : Content) (run name space : Bytes) (inner : Content) (last space₂ : Bytes) → Content
 
--- 60 is <, 62 is >, 47 is /
 abbrev pub print : Content → List ℕ → List ℕ
 print nothing v = v
-print (emptyElement f t n g) v = print f (t ⊲ 60 ∷ (n ⊲ g ⊲ 47 ∷ 62 ∷ v))
-print (element f t n g i l h) v = print f (t ⊲ 60 ∷ (n ⊲ g ⊲ 62 ∷ print i (l ⊲ 60 ∷ 47 ∷ (n ⊲ h ⊲ 62 ∷ v))))
+print (emptyElement f t n g) v = print f (t ⊲ less ∷ (n ⊲ g ⊲ slash ∷ greater ∷ v))
+print (element f t n g i l h) v = print f (t ⊲ less ∷ (n ⊲ g ⊲ greater ∷ print i (l ⊲ less ∷ slash ∷ (n ⊲ h ⊲ greater ∷ v))))
 
 -- the subset's tokens, by 01's classes
 abbrev pub spaceToken : Automaton

@@ -5,7 +5,7 @@ use mathlib.Core.Bool.{cond}
 use mathlib.Core.List.{List, [], _∷_}
 use Prim.Native.Nat.{ℕ, suc, _+_, _-_, _<_}
 use lib.ListN.{getD}
-use Rattle.grammar.specs.Grammar.{Bytes, ε, _▸_, Content, nothing, emptyElement, element}
+use Rattle.grammar.specs.Grammar.{Bytes, ε, _▸_, less, greater, Content, nothing, emptyElement, element}
 use Rattle.grammar.specs.Tree.{inked}
 
 -- how many bytes
@@ -52,8 +52,8 @@ rowsOf f = rowsFrom 1 0 f []
 
 -- the byte before a row's spelling tells what the row is of: it is the < of an element's tag, or the > of the tag before a text
 abbrev pub before : Kind → ℕ
-before ofElement = 60
-before ofText = 62
+before ofElement = less
+before ofText = greater
 
 pub record Preceded (w : List ℕ) (x : Row) : Type 0 where
   pub some : 0 < x .start

@@ -4,7 +4,7 @@ use mathlib.Core.Path.{_≡_}
 use mathlib.Core.Bool.{Bool, true, false, cond, _&&_}
 use Prim.Native.Nat.{ℕ}
 use lib.Dec.{eqb}
-use Rattle.grammar.specs.Bytes.{Bytes, ε, _▸_}
+use Rattle.grammar.specs.Bytes.{Bytes, ε, _▸_, greater, bracket}
 
 pub record Automaton : Type 0 where
   -- the state before the first byte, and that behind a byte
@@ -42,7 +42,7 @@ names first further =
 abbrev pub texts : (ℕ → Bool) → Automaton
 texts class = record {
   start = 0;
-  step = λ q b. cond (eqb b 93) (cond (eqb q 0) 1 2) 0;
-  goes = λ q b. cond (eqb b 62 && eqb q 2) false (class b);
+  step = λ q b. cond (eqb b bracket) (cond (eqb q 0) 1 2) 0;
+  goes = λ q b. cond (eqb b greater && eqb q 2) false (class b);
   accepting = λ q. true;
 }

@@ -3,3 +3,4 @@ pub mod Large
 pub mod Names
 pub mod Noting
 pub mod Turning
+pub mod Depths

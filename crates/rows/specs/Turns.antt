@@ -3,7 +3,7 @@ use mathlib.Core.Path.{_≡_}
 use mathlib.Core.List.{List}
 use Prim.Native.Nat.{ℕ, _+_, _-_, _≤_, _<_}
 use lib.ListN.{length, getD}
-use Rattle.grammar.specs.Grammar.{Bytes, Content}
+use Rattle.grammar.specs.Grammar.{Bytes, less, Content}
 use Rattle.grammar.specs.Place.{OutsideAt}
 use Rattle.grammar.specs.Machine.{Open}
 use Rattle.judge.specs.Tokens.{Span, bytes, nameAt}
@@ -39,15 +39,15 @@ pub record MayTurn (w S L Z : List ℕ) (x depth row i : ℕ) (o : List Open) (f
   pub short : length w ≤ 32768
   pub here : i ≤ length w
   pub shallow : depth ≤ 64
-  pub tag : {a m : ℕ} {S' L' Z' : List ℕ} → row ≤ 2048 → RunTo w depth i a m → Put row i (a - i) S L Z S' L' Z' → getD w a 0 ≡ 60 →
+  pub tag : {a m : ℕ} {S' L' Z' : List ℕ} → row ≤ 2048 → RunTo w depth i a m → Put row i (a - i) S L Z S' L' Z' → getD w a 0 ≡ less →
       MayTag w S' L' x depth (row + m) a o f (bytes w i (a - i))
 
 -- what it does
 pub data TurnDone (w S L Z : List ℕ) (depth row i : ℕ) (o : List Open) (f : Content) : List ℕ → List ℕ → List ℕ → Turn → Type 0 where
   many : 2048 < row → TurnDone w S L Z depth row i o f S L Z (Ends Beyond)
-  last-run : {a m : ℕ} {S' L' Z' : List ℕ} {r : Noted} → row ≤ 2048 → RunTo w depth i a m → Put row i (a - i) S L Z S' L' Z' → (getD w a 0 ≡ 60 → ⊥) →
+  last-run : {a m : ℕ} {S' L' Z' : List ℕ} {r : Noted} → row ≤ 2048 → RunTo w depth i a m → Put row i (a - i) S L Z S' L' Z' → (getD w a 0 ≡ less → ⊥) →
       LastOf (length w) a depth (row + m) r → TurnDone w S L Z depth row i o f S' L' Z' (Ends r)
-  deep-text : {a m : ℕ} {S' L' Z' : List ℕ} → row ≤ 2048 → RunTo w depth i a m → Put row i (a - i) S L Z S' L' Z' → getD w a 0 ≡ 60 →
+  deep-text : {a m : ℕ} {S' L' Z' : List ℕ} → row ≤ 2048 → RunTo w depth i a m → Put row i (a - i) S L Z S' L' Z' → getD w a 0 ≡ less →
       64 < depth + m → TurnDone w S L Z depth row i o f S' L' Z' (Ends Beyond)
-  tagged : {a m : ℕ} {S' L' Z' S₂ L₂ Z₂ : List ℕ} {u : Turn} → row ≤ 2048 → RunTo w depth i a m → Put row i (a - i) S L Z S' L' Z' → getD w a 0 ≡ 60 →
+  tagged : {a m : ℕ} {S' L' Z' S₂ L₂ Z₂ : List ℕ} {u : Turn} → row ≤ 2048 → RunTo w depth i a m → Put row i (a - i) S L Z S' L' Z' → getD w a 0 ≡ less →
       depth + m ≤ 64 → TagDone w S' L' Z' depth (row + m) a o f (bytes w i (a - i)) S₂ L₂ Z₂ u → TurnDone w S L Z depth row i o f S₂ L₂ Z₂ u

@@ -27,7 +27,7 @@ run-requires : tie.Need-run-requires
 run-requires c κs = (begun c .pre .0, begun c .pre .1 .2 .here)
 
 sub-put : tie.Need-sub-put
-sub-put c = c .before .before .before .run .ensures .span .passed .from
+sub-put c = omega (arith, c .before .before .before .run .ensures .span .passed .from)
 
 put-requires : tie.Need-put-requires
 put-requires c κs =
