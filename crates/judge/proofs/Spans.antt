@@ -227,6 +227,11 @@ module _ (w : List ℕ) (a k c : ℕ) (is : c ≡ classOf (getD w k 0)) where
   unfolding runAt
   text-at-bracket h = text-bracket c (getD w k 0) is (bytes w a (k - a)) h
 
+-- a tag ends a text
+pub less-stops : (w : List ℕ) (a k : ℕ) → getD w k 0 ≡ 60 → textAt w a k ≡ false
+unfolding classOf
+less-stops w a k e = text-at-not w a k (classOf (getD w k 0)) refl (ap classOf e)
+
 -- plain text is text
 pub plain-text : (w : List ℕ) (a k : ℕ) → plainAt w k ≡ true → textAt w a k ≡ true
 unfolding plainAt

@@ -18,7 +18,7 @@ use Rattle.judge.specs.declared.tags.Tag.the-variants.{Refused, Opens, E
 use Rattle.judge.specs.declared.tags.Kind.the-variants.{Nothing, Start, End}
 use Rattle.judge.specs.Tokens.{Passed, Span, bytes, whiteAt, nameAt, levelOf, runAt, textAt, sameAt}
 use Rattle.judge.specs.Tags.{RunTo, Named, closed, Does, Ends, Started, Ended, Top, Tagging, Tagged, KindOf, second-root, root, inner-start, inner-end}
-use Rattle.judge.proofs.Spans.{text-yes, name-yes, text-at-not}
+use Rattle.judge.proofs.Spans.{text-yes, name-yes, less-stops}
 use Rattle.judge.proofs.Machine.{at-byte, at-same, there, refuse, start-refused, opens, empties, slash-refused, space-refused, end-refused, closes, close-refused}
 
 -- A RUN
@@ -87,11 +87,10 @@ module _ {w : List ℕ} {depth a m r : ℕ} (d : depth ≡ 0 → ⊥) (h : Span 
 
 -- white space up to a tag
 pub white-only : {w : List ℕ} (depth a : ℕ) {m : ℕ} → Span (whiteAt w) w a m → getD w m 0 ≡ 60 → RunTo w depth a m 0
-unfolding classOf
 white-only zero a h e = outer-run refl h
 white-only {w} (suc n) a {m} h e =
     inner-space (λ q. omega (arith, q)) h
-    (record { passed = white-text (h .passed); stop = λ p. text-at-not w a m (classOf (getD w m 0)) refl (ap classOf e) }) (omega arith)
+    (record { passed = white-text (h .passed); stop = λ p. less-stops w a m e }) (omega arith)
 
 -- A START TAG
 pub name-there : (w : List ℕ) (a : ℕ) → nameStart (getD w a 0) ≡ true → a < length w

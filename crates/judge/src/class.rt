@@ -5,8 +5,8 @@ ghost use Rattle.grammar.specs.Classes.{classOf};
 ghost use Prim.Native.Nat.{_≤_};
 ghost use Rattle.judge.specs.Tokens.{Coded, Spread, Classed, stopOf};
 
-// The classes by name, each of which may stand where those below it may not: in no document but as markup; `>`, which is text but behind `]]`;
-// white space; in a name; first in a name. 2 is any other text.
+// The classes by name: in no name and no text; `>`, which is text, but not behind `]]`; white space; in a name, not first; in a name. Of
+// class 2 is other text.
 pub const NONE: u8 = 0;
 
 pub const GREATER: u8 = 1;

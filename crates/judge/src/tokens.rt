@@ -194,13 +194,17 @@ pub fn text_end(document: &[u8], class: &[u8; 512], start: usize, from: usize) -
     text_to(document, class, start, from, document.len())
 }
 
-// The same where a text is likely to follow. Behind a byte that stops plain text another one is likely: so a few go one by one.
+// The same where a text is likely to follow. What stops plain text is mostly the `<` of a tag; behind another byte that does, one more is
+// likely: so a few go one by one.
 pub fn long_text_end(document: &[u8], class: &[u8; 512], start: usize, from: usize) -> usize
     requires { ⌜ Classed (now class) × Passed (textAt (now document) start) (now document) start from ⌝ }
     ensures { λ r. ⌜ Span (textAt (now (document .entry)) start) (now (document .entry)) start r ⌝ }
 {
     let mut i = plain_end(document, class, from);
     while i < document.len() {
+        if document[i] == b'<' {
+            return i;
+        }
         let near = least(i + 16, document.len());
         let end = text_to(document, class, start, i, near);
         if end < near {
