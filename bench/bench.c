@@ -47,7 +47,8 @@ struct doc {
     double best[SIDES];         // seconds of the best round so far
 };
 
-// A fixed generator and fixed seeds: every machine measures the same documents.
+// A fixed generator and fixed seeds: every machine measures the same documents. So no call draws twice, since C leaves open which of its
+// arguments is worked out first.
 static unsigned any(struct doc *d, unsigned below) {
     d->random ^= d->random << 13;
     d->random ^= d->random >> 17;
@@ -147,7 +148,10 @@ static void text_in_lines(struct doc *d) {
 // Brackets and `>` in text: both sides have to watch for `]]>`.
 static void brackets(struct doc *d) {
     open_tag(d, "code");
-    while (more(d)) put(d, "<line>a[b[%u]] > c[%u] ] ></line>", any(d, 1000), any(d, 10));
+    while (more(d)) {
+        unsigned second = any(d, 10), first = any(d, 1000);
+        put(d, "<line>a[b[%u]] > c[%u] ] ></line>", first, second);
+    }
     close_all(d);
 }
 
@@ -155,7 +159,10 @@ static void numbers(struct doc *d) {
     open_tag(d, "table");
     while (more(d)) {
         open_tag(d, "row");
-        for (int k = 0; k < 6; k++) put(d, "<quantity>%u.%02u</quantity>", any(d, 1000000), any(d, 100));
+        for (int k = 0; k < 6; k++) {
+            unsigned part = any(d, 100), whole = any(d, 1000000);
+            put(d, "<quantity>%u.%02u</quantity>", whole, part);
+        }
         close_tag(d);
     }
     close_all(d);
@@ -232,7 +239,10 @@ static void very_long_names(struct doc *d) { named_by_size(d, 800, 400); }
 
 static void names_with_marks(struct doc *d) {
     open_tag(d, "x:names");
-    while (more(d)) put(d, "<x:_%u.a-%u/>", any(d, 100000), any(d, 100000));
+    while (more(d)) {
+        unsigned second = any(d, 100000), first = any(d, 100000);
+        put(d, "<x:_%u.a-%u/>", first, second);
+    }
     close_all(d);
 }
 
@@ -312,7 +322,8 @@ static void block(struct doc *d, int lines, int levels) {
     if (lines) indent(d);
     leaf(d, "type", TYPE[any(d, 5)]);
     if (lines) indent(d);
-    put(d, "<field><name>NUMBER_OF_STEPS_%u</name><value>%u</value></field>", any(d, 9), any(d, 10000));
+    unsigned value = any(d, 10000), name = any(d, 9);
+    put(d, "<field><name>NUMBER_OF_STEPS_%u</name><value>%u</value></field>", name, value);
     if (levels > 0 && more(d)) {
         if (lines) indent(d);
         open_tag(d, any(d, 2) ? "statement" : "next");

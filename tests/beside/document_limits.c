@@ -42,6 +42,18 @@ static void compare_rows(chance *chance, const bytes *dictionary, bytes *documen
         }
 }
 
+/* Too many rows, and white space in as many open elements as may be: it is no row, so that the document is not too deep. */
+static void compare_blank(chance *chance, const bytes *dictionary, bytes *document) {
+    document->n = 0;
+    append(document, "<b>");
+    repeat(document, "<a/>", TREE_ROWS);
+    repeat(document, "<a>", DEPTH - 1);
+    append(document, " ");
+    repeat(document, "</a>", DEPTH - 1);
+    append(document, "</b>");
+    compare_both(chance, dictionary, document);
+}
+
 static void compare_lengths(chance *chance, const bytes *dictionary, bytes *document) {
     for (size_t length = DOCUMENT_BYTES - 1; length <= DOCUMENT_BYTES + 2; length++)
         for (size_t last = 0; last < 3; last++) {
@@ -117,6 +129,7 @@ void compare_document_limits(chance *chance) {
     compare_examples(chance, &dictionary, &document);
     compare_depths(chance, &dictionary, &document);
     compare_rows(chance, &dictionary, &document);
+    compare_blank(chance, &dictionary, &document);
     compare_lengths(chance, &dictionary, &document);
     compare_dictionaries(chance, &dictionary, &document);
     compare_many_names(chance, 0, TREE_ROWS, TREE_ROWS / 2);

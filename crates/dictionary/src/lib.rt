@@ -15,6 +15,10 @@ pub struct Checked {
     pub names: usize,
 }
 
+const MOST_BYTES: usize = 16384;
+
+const MOST_NAMES: usize = 1024;
+
 const BAD: Checked = Checked {
     good: false,
     names: 0,
@@ -27,7 +31,7 @@ fn name_end(dictionary: &[u8], start: usize) -> usize
 {
     let mut end = start;
     while end < dictionary.len() {
-        if dictionary[end] == 10 {
+        if dictionary[end] == b'\n' {
             return end;
         }
         end += 1;
@@ -41,7 +45,7 @@ pub fn learn_names(dictionary: &[u8], index: &mut [u16]) -> Checked
     requires { ⌜ Fresh (now index) ⌝ }
     ensures { λ r. ⌜ NamesLearnt (now (dictionary .entry)) (r .good) (r .names) (now (index .entry)) (now (index .exit)) ⌝ }
 {
-    if 16384 < dictionary.len() {
+    if MOST_BYTES < dictionary.len() {
         return BAD;
     }
     let mut start = 0;
@@ -54,7 +58,7 @@ pub fn learn_names(dictionary: &[u8], index: &mut [u16]) -> Checked
         if end <= start {
             return BAD;
         }
-        if 1023 < names {
+        if MOST_NAMES <= names {
             return BAD;
         }
         let label = index::learn(dictionary, index, names, start, end);

@@ -7,7 +7,12 @@ ghost use denote.Ref.{ptr};
 ghost use Rattle.dictionary.specs.Names.{GoodDictionary};
 ghost use Rattle.dictionary.specs.Spelling.{IsPart, partOfDictionary, partOfDocument, PartAnswered, SpellingAnswered};
 
-// `length` bytes from `start` of the dictionary (source 0) or of the document (source 1).
+// Where a spelling's bytes stand.
+const DICTIONARY: u32 = 0;
+
+const DOCUMENT: u32 = 1;
+
+// `length` bytes from `start` of one of the two.
 pub struct Part {
     pub source: u32,
     pub start: u32,
@@ -16,7 +21,7 @@ pub struct Part {
 
 // An empty part of the document.
 const EMPTY: Part = Part {
-    source: 1,
+    source: DOCUMENT,
     start: 0,
     length: 0,
 };
@@ -42,7 +47,7 @@ fn name_part(dictionary: &[u8], place: usize) -> Part
     let first = start as u32;
     let count = (end - start) as u32;
     Part {
-        source: 0,
+        source: DICTIONARY,
         start: first,
         length: count,
     }
@@ -58,7 +63,7 @@ fn document_part(document: &[u8], start: u32, length: u32) -> Part
         return EMPTY;
     }
     Part {
-        source: 1,
+        source: DOCUMENT,
         start: start,
         length: length,
     }
@@ -107,7 +112,7 @@ pub fn spelling<'a>(
     let found = part_of(dictionary, document, label, start, length, row);
     let at = wide(found.start);
     let to = at + wide(found.length);
-    if found.source == 0 {
+    if found.source == DICTIONARY {
         return &dictionary[at..to];
     }
     &document[at..to]

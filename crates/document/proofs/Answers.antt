@@ -1,11 +1,11 @@
 -- The answers of `read` and `check`.
 use mathlib.Core.Path.{_≡_, refl, sym, ap, _∙_, subst}
 use mathlib.Core.Bool.{Bool, true, false, true≢false}
-use mathlib.Core.List.{List, [], _++_, map}
+use mathlib.Core.List.{List, [], map}
 use Prim.Native.Nat.{ℕ, _+_, _*_, _≤_, _<_, min}
 use native.Mathlib.Omega.{arith}
 use lib.Dec.{ltb}
-use lib.ListN.{length, take, drop, length-map}
+use lib.ListN.{length, length-map}
 use borrow.Author.Tests.{ltb-true, ltb-false}
 use Rattle.tree.specs.Rows.{depth}
 use Rattle.tree.proofs.Lists.{sizes-rows}
@@ -18,13 +18,17 @@ use Rattle.judge.specs.Verdict.{Verdict, long as long-document, outside, deep, 
 use Rattle.dictionary.specs.Names.{GoodDictionary, DictionaryChecked}
 use Rattle.dictionary.specs.Index.{Indexed, NamesLearnt}
 use Rattle.document.specs.Reading.{Unchanged, shortest, Read, badDictionary, badDocument, noRoom, filled}
+use Rattle.document.specs.Learnt.{MayRead}
 use Rattle.document.specs.Checked.{Checked, bad, judged}
 use Rattle.document.specs.Labels.{spellingsOf}
-use Rattle.document.specs.Labelling.{MayLabelRows, LabelsRows}
-use Rattle.rows.specs.Filled.{Filled, starts, lengths}
+use Rattle.labels.specs.Filled.{Filled}
+use Rattle.labels.specs.Lists.{Copied}
+use Rattle.labels.specs.Labelling.{MayLabelRows, LabelsRows}
+use Rattle.labels.proofs.Copies.{copied, copied-long}
+use Rattle.rows.specs.Places.{starts, lengths}
 use Rattle.rows.specs.Notes.{RowsNoted, TooLarge}
 use Rattle.rows.proofs.Large.{rows-count}
-use Rattle.document.proofs.Filling.{tree-labels, rows-spell, copied, copied-long, tree-sizes}
+use Rattle.document.proofs.Filling.{tree-labels, rows-spell, tree-sizes}
 
 -- THE DICTIONARY
 pub not-good : {d : List ℕ} {good : Bool} {k : ℕ} → DictionaryChecked d good k → good ≡ false → (names : List (List ℕ)) → GoodDictionary d names → ⊥
@@ -106,19 +110,26 @@ noted-verdict {w} {S} {L} {Z} {n} short h =
 pub accepted-verdict : {w S L Z : List ℕ} {n c p m : ℕ} → length w ≤ 32768 → RowsNoted w S L Z n → (c ≡ 0) × (p ≡ 0) × (m ≡ n) → Verdict w c p m
 accepted-verdict short h e = rw (e .0, e .1, e .2) (noted-verdict short h)
 
-module _ {d w old index : List ℕ} (label size start width : List ℕ) {good : Bool} {k : ℕ} (learnt : NamesLearnt d good k old index) (is-true : good ≡ true)
-    (large : 11264 ≤ length old) (short : length w ≤ 32768) {S L Z : List ℕ} {n : ℕ} (noted : RowsNoted w S L Z n)
+pub may-read : {d w clear index : List ℕ} {good : Bool} {k : ℕ} → NamesLearnt d good k clear index → good ≡ true → 11264 ≤ length clear → length w ≤ 32768 →
+    MayRead d w k clear index
+may-read {d} {w} {clear} {index} {good} {k} h e large short = record {
+  learnt = subst (λ (y : Bool). NamesLearnt d y k clear index) e h;
+  large = large;
+  short = short;
+}
+
+module _ {d w clear index : List ℕ} (label size start width : List ℕ) {k : ℕ} (may : MayRead d w k clear index) {S L Z : List ℕ} {n : ℕ} (noted : RowsNoted w S L Z n)
     (room : (n ≤ length label) × (n ≤ length size) × (n ≤ length start) × (n ≤ length width)) where
   names : List (List ℕ)
-  names = is-good (learnt .checked) is-true .0
+  names = is-good (may .learnt .checked) refl .0
 
   good-names : GoodDictionary d names
   unfolding names
-  good-names = is-good (learnt .checked) is-true .1
+  good-names = is-good (may .learnt .checked) refl .1
 
   names-are : k ≡ length names
   unfolding names
-  names-are = is-good (learnt .checked) is-true .2
+  names-are = is-good (may .learnt .checked) refl .2
 
   rows-n : length (rowsOf (noted .f)) ≡ n
   rows-n = rows-count (noted .f) ∙ sym (shape-rows (noted .f)) ∙ noted .rows-are
@@ -126,20 +137,20 @@ module _ {d w old index : List ℕ} (label size start width : List ℕ) {good : 
   long : (g : Row → ℕ) → length (map g (rowsOf (noted .f))) ≡ n
   long g = length-map (rowsOf (noted .f)) g ∙ rows-n
 
-  module _ {start' width' : List ℕ} (start-copy : start' ≡ take n S ++ drop n start) (width-copy : width' ≡ take n L ++ drop n width) where
+  module _ {start' width' size' : List ℕ} (copies : Copied n S L Z start width size start' width' size') where
     start-is : Filled (starts (noted .f)) start start'
-    start-is = copied start (noted .starts-are) (long (λ (x : Row). x .start)) start-copy
+    start-is = copied start (noted .starts-are) (long (λ (x : Row). x .start)) (copies .start-copy)
 
     width-is : Filled (lengths (noted .f)) width width'
-    width-is = copied width (noted .lengths-are) (long (λ (x : Row). # (x .spelling))) width-copy
+    width-is = copied width (noted .lengths-are) (long (λ (x : Row). # (x .spelling))) (copies .width-copy)
 
     labelling : MayLabelRows d w k index label start' width' n names (spellingsOf (noted .f))
     labelling = record {
-      indexed = subst (λ (x : ℕ). Indexed d w x index names) (sym names-are) (learnt .indexed names good-names w);
+      indexed = subst (λ (x : ℕ). Indexed d w x index names) (sym names-are) (may .learnt .indexed names good-names w);
       counted = sym names-are;
       few-names = omega (arith, names-are, good-names .few);
-      large = omega (arith, learnt .kept);
-      short = short;
+      large = omega (arith, may .learnt .kept, may .large);
+      short = may .short;
       few-rows = noted .few;
       room-label = room .0;
       room-start = omega (arith, copied-long (starts (noted .f)) start start-is (long (λ (x : Row). x .start)) (room .2), room .2);
@@ -151,12 +162,12 @@ module _ {d w old index : List ℕ} (label size start width : List ℕ) {good : 
     pub may-label-rows : (ns ws : List (List ℕ)) × MayLabelRows d w k index label start' width' n ns ws
     may-label-rows = (names, spellingsOf (noted .f), labelling)
 
-    pub answers-read : {label' size' : List ℕ} {c p m : ℕ} → size' ≡ take n Z ++ drop n size → LabelsRows d w k index label start' width' n label' →
+    pub answers-read : {label' : List ℕ} {c p m : ℕ} → LabelsRows d w k index label start' width' n label' →
         (c ≡ 0) × (p ≡ 0) × (m ≡ n) → Read d w label size start width label' size' start' width' c p m
-    answers-read size-copy h e =
-        rw (e .0, e .1, e .2) (filled good-names (noted-verdict short noted) (omega (arith, room)) (noted .document) (record {
+    answers-read h e =
+        rw (e .0, e .1, e .2) (filled good-names (noted-verdict (may .short) noted) (omega (arith, room)) (noted .document) (record {
           label-is = rw (tree-labels names (noted .f)) (h names (spellingsOf (noted .f)) labelling);
-          size-is = rw (← (tree-sizes names (noted .f))) (copied size (noted .sizes-are) (sizes-rows (shape (noted .f)) ∙ noted .rows-are) size-copy);
+          size-is = rw (← (tree-sizes names (noted .f))) (copied size (noted .sizes-are) (sizes-rows (shape (noted .f)) ∙ noted .rows-are) (copies .size-copy));
           start-is = start-is;
           width-is = width-is;
         }))
@@ -172,8 +183,8 @@ pub beyond-refused : {w : List ℕ} {c p n : ℕ} → TooLarge w → Verdict w c
 beyond-refused h v e = let d = whole v e in h (d .f) (d .t) (d .document) (d .shallow) (omega (arith, d .few, d .rows-are, rows-count (d .f), shape-rows (d .f)))
 
 -- THE ANSWERS OF `check`
-pub checks-bad : {d w : List ℕ} {good : Bool} {k : ℕ} → DictionaryChecked d good k → good ≡ false → Checked d w 4294967296
-checks-bad c e = bad (not-good c e)
+pub checks-bad : {d w : List ℕ} {good : Bool} {k x : ℕ} → DictionaryChecked d good k → good ≡ false → (x ≡ 1) × (x < 4294967296) → Checked d w (x * 4294967296)
+checks-bad c e is-x = rw (is-x .0) (bad (not-good c e))
 
 pub checks-judged : {d w : List ℕ} {good : Bool} {k c p n x y z : ℕ} → DictionaryChecked d good k → good ≡ true → Verdict w c p n →
     (x ≡ c) × (x < 4294967296) → (y ≡ p) × (y < 4294967296) → (z ≡ n) × (z < 4294967296) → Checked d w (x * 4294967296 + (y + z))

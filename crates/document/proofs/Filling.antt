@@ -1,24 +1,23 @@
 -- The four lists of a document.
 use mathlib.Core.Path.{_≡_, refl, sym, ap, _∙_}
-use mathlib.Core.List.{List, [], _∷_, _++_, map}
-use Prim.Native.Nat.{ℕ, zero, suc, _+_, _-_, _≤_, _<_}
+use mathlib.Core.List.{List, [], _∷_, map}
+use Prim.Native.Nat.{ℕ, zero, suc, _+_, _-_, _<_}
 use native.Mathlib.Omega.{arith}
-use lib.ListN.{length, getD, take, drop, length-append, length-map, length-drop, List·getD-map, List·getD-append}
-use lib.Seq.{take-at, ext-getD}
+use lib.ListN.{length, getD, drop, length-map, List·getD-map, List·getD-append}
+use lib.Seq.{ext-getD}
 use Rattle.tree.specs.Rows.{labels, sizes}
 use Rattle.grammar.specs.Grammar.{Bytes, _⊲_, Content, Document}
 use Rattle.grammar.specs.Tree.{shape}
 use Rattle.grammar.specs.Rows.{#, Row, rowsOf}
 use Rattle.grammar.proofs.Rows.{labels-are, Spelled, rows-spelled, all-at}
-use Rattle.rows.specs.Filled.{Filled, starts, lengths}
-use Rattle.rows.specs.Notes.{Holds}
-use Rattle.rows.proofs.Upto.{Upto}
+use Rattle.labels.specs.Filled.{Filled}
+use Rattle.labels.specs.Labelling.{Spells}
+use Rattle.rows.specs.Places.{starts, lengths}
 use Rattle.rows.proofs.Large.{no-row}
 use Rattle.rows.proofs.Sizes.{sizes-tree}
 use Rattle.dictionary.specs.Labels.{placeOf, knownAfter, labelsOf}
 use Rattle.dictionary.proofs.Labels.{label-place, length-labels}
 use Rattle.document.specs.Labels.{spellingsOf, labelOf, treeOf}
-use Rattle.document.specs.Labelling.{Spells}
 
 -- THE LABELS, in 01's words and as the tree's
 map-twice : (g : List ℕ → ℕ) (h : Row → List ℕ) (R : List Row) → map g (map h R) ≡ map (λ (x : Row). g (h x)) R
@@ -62,20 +61,6 @@ rows-spell {w} {f} {t} s s' l l' d es el r h =
       inside = omega (arith, a, b, p .inside);
       is = rw (a, b, n) (p .is ∙ sym c);
     }
-
--- FILLING
--- A COPY
-pub copied-so : {xs before after : List ℕ} {i : ℕ} (n : ℕ) → Upto xs before i after → i ≡ n → after ≡ take n xs ++ drop n before
-copied-so {xs} {before} n h e = h .is ∙ ap (λ (m : ℕ). take m xs ++ drop m before) e
-
--- the rows that are noted, copied into a lent list
-pub copied : {xs l after : List ℕ} (before : List ℕ) {n : ℕ} → Holds xs l → length xs ≡ n → after ≡ take n l ++ drop n before → Filled xs before after
-copied {xs} {l} {after} before {n} h e q =
-    q ∙ rw (ap (take n) (h .is) ∙ take-at xs (h .rest) n e, e) refl
-
--- .. which keeps its length
-pub copied-long : (xs before : List ℕ) {after : List ℕ} {n : ℕ} → Filled xs before after → length xs ≡ n → n ≤ length before → length after ≡ length before
-copied-long xs before {after} e h l = ap length e ∙ length-append xs (drop (length xs) before) ∙ omega (arith, length-drop (length xs) before, h)
 
 pub tree-sizes : (names : List (List ℕ)) (f : Content) → sizes (shape f) ≡ sizes (treeOf names f)
 tree-sizes names f = sym (sizes-tree (λ s. 0) f) ∙ sizes-tree (labelOf names f) f

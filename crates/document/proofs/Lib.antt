@@ -1,4 +1,3 @@
-pub mod Labelling
 pub mod Filling
 pub mod Answers
 pub mod Promises

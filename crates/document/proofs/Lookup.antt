@@ -11,7 +11,7 @@ use borrow.Author.Tests.{ltb-true, lt-ltb, le-leb}
 use Rattle.tree.specs.Rows.{labels}
 use Rattle.grammar.specs.Grammar.{_⊲_, Content}
 use Rattle.grammar.specs.Rows.{#, Row, rowsOf}
-use Rattle.rows.specs.Filled.{starts, lengths}
+use Rattle.rows.specs.Places.{starts, lengths}
 use Rattle.dictionary.specs.Names.{GoodDictionary}
 use Rattle.dictionary.specs.Labels.{labelsOf, knownAfter}
 use Rattle.dictionary.specs.Spelling.{partOfDictionary, partOfDocument, spellingOf, bytesOf, SpellingAnswered}

@@ -1,5 +1,5 @@
 pub mod Labels
 pub mod Reading
+pub mod Learnt
 pub mod Checked
-pub mod Labelling
 pub mod Promises

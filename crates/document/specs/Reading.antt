@@ -9,7 +9,8 @@ use Rattle.tree.specs.Rows.{labels, sizes}
 use Rattle.grammar.specs.Grammar.{Bytes, Content, Document}
 use Rattle.judge.specs.Verdict.{Verdict}
 use Rattle.document.specs.Labels.{treeOf}
-use Rattle.rows.specs.Filled.{Filled, starts, lengths}
+use Rattle.labels.specs.Filled.{Filled}
+use Rattle.rows.specs.Places.{starts, lengths}
 use Rattle.dictionary.specs.Names.{GoodDictionary}
 
 -- the four lists before and after; `width` is 01's length list, since `length` is that of a list

@@ -1,18 +1,22 @@
 // The document reader: notes the rows in lists of its own, so that a refusal writes nothing, and then fills the four lists.
 ghost use mathlib.Core.Path.{_≡_};
-ghost use Prim.Native.Nat.{_≤_, _<_};
+ghost use mathlib.Core.List.{List};
+ghost use Prim.Native.Nat.{ℕ, _≤_, _<_};
 ghost use Rattle.meaning.specs.Says.{Says};
 ghost use Rattle.judge.specs.Verdict.{Verdict};
+ghost use Rattle.document.specs.Learnt.{MayRead};
 ghost use Rattle.document.specs.Reading.{Read};
 ghost use Rattle.document.specs.Checked.{Checked};
-
-pub mod fill;
-
-use fill::copy;
-use fill::label_rows;
 use judge::Judged;
+use judge::codes::BAD_DICTIONARY;
+use judge::codes::MOST_BYTES;
+use judge::codes::NO_ROOM;
+use judge::codes::READ;
+use judge::codes::TOO_LONG;
 use judge::judge;
 use judge::outside;
+use labels::fill::copy_rows;
+use labels::fill::label_rows;
 use rows::note::Noted;
 use rows::note::note;
 
@@ -53,9 +57,49 @@ fn accepted(rows: usize) -> Judged
     ensures { λ r. ⌜ (r .code ≡ 0) × (r .place ≡ 0) × (r .rows ≡ rows) ⌝ }
 {
     Judged {
-        code: 0,
+        code: READ,
         place: 0,
         rows: rows as u32,
+    }
+}
+
+// What is left of `read` once the dictionary's names are learnt and the document is known to be short enough.
+fn read_rows(
+    dictionary: &[u8],
+    document: &[u8],
+    names: usize,
+    index: &mut [u16],
+    label: &mut [u32],
+    size: &mut [u32],
+    start: &mut [u32],
+    length: &mut [u32],
+) -> Judged
+    requires { ⌜ ((clear : List ℕ) × MayRead (now dictionary) (now document) names clear (now index)) ⌝ }
+    ensures { λ r. ⌜ Read (now (dictionary .entry)) (now (document .entry)) (now (label .entry)) (now (size .entry)) (now (start .entry)) (now (length .entry)) (now (label .exit)) (now (size .exit)) (now (start .exit)) (now (length .exit)) (r .code) (r .place) (r .rows) ⌝ }
+{
+    let mut starts = [0u16; 2052];
+    let mut lengths = [0u16; 2052];
+    let mut sizes = [0u16; 2052];
+    match note(document, &mut starts, &mut lengths, &mut sizes) {
+        Noted::Outside(place) => outside(place),
+        Noted::Beyond => judge(document),
+        Noted::Rows(rows) => {
+            if !fits(rows, label.len(), size.len(), start.len(), length.len()) {
+                return refusal(NO_ROOM);
+            }
+            copy_rows(&starts, &lengths, &sizes, start, length, size, rows);
+            label_rows(
+                dictionary,
+                document,
+                names,
+                index,
+                label,
+                start,
+                length,
+                rows,
+            );
+            accepted(rows)
+        }
     }
 }
 
@@ -74,45 +118,29 @@ pub fn read(
     let good = checked.good;
     let names = checked.names;
     if !good {
-        return refusal(1);
+        return refusal(BAD_DICTIONARY);
     }
-    if 32768 < document.len() {
-        return refusal(2);
+    if MOST_BYTES < document.len() {
+        return refusal(TOO_LONG);
     }
-    let mut starts = [0u16; 2052];
-    let mut lengths = [0u16; 2052];
-    let mut sizes = [0u16; 2052];
-    match note(document, &mut starts, &mut lengths, &mut sizes) {
-        Noted::Outside(place) => outside(place),
-        Noted::Beyond => judge(document),
-        Noted::Rows(rows) => {
-            if !fits(rows, label.len(), size.len(), start.len(), length.len()) {
-                return refusal(6);
-            }
-            copy(&starts, start, rows);
-            copy(&lengths, length, rows);
-            copy(&sizes, size, rows);
-            label_rows(
-                dictionary,
-                document,
-                names,
-                &mut index,
-                label,
-                start,
-                length,
-                rows,
-            );
-            accepted(rows)
-        }
-    }
+    read_rows(
+        dictionary,
+        document,
+        names,
+        &mut index,
+        label,
+        size,
+        start,
+        length,
+    )
 }
 
 // Codes 2 to 5: what is noted on the way is not looked at.
 fn verdict(document: &[u8]) -> Judged
     ensures { λ r. ⌜ Verdict (now (document .entry)) (r .code) (r .place) (r .rows) ⌝ }
 {
-    if 32768 < document.len() {
-        return refusal(2);
+    if MOST_BYTES < document.len() {
+        return refusal(TOO_LONG);
     }
     let mut starts = [0u16; 2052];
     let mut lengths = [0u16; 2052];
@@ -125,14 +153,16 @@ fn verdict(document: &[u8]) -> Judged
 }
 
 // What the site's server asks: code times 4,294,967,296 plus the place or the rows.
+const CODE: u64 = 4294967296;
+
 pub fn check(dictionary: &[u8], document: &[u8]) -> u64
     ensures { λ r. ⌜ Checked (now (dictionary .entry)) (now (document .entry)) r ⌝ }
 {
     let checked = dictionary::check(dictionary);
     let good = checked.good;
     if !good {
-        return 4294967296;
+        return wider(BAD_DICTIONARY) * CODE;
     }
     let judged = verdict(document);
-    wider(judged.code) * 4294967296 + (wider(judged.place) + wider(judged.rows))
+    wider(judged.code) * CODE + (wider(judged.place) + wider(judged.rows))
 }

@@ -10,18 +10,18 @@ use lib.Seq.{getD-append-seam}
 use Rattle.grammar.specs.Classes.{white, nameStart, nameByte}
 use Rattle.grammar.specs.Grammar.{Bytes, ε, Content, nothing, emptyElement, element, mayFollow, mayOpen, Document}
 use Rattle.grammar.specs.Tree.{inked}
-use Rattle.grammar.specs.Rows.{#, width, Row, row, leafRow, rowsFrom, rowsOf}
+use Rattle.grammar.specs.Rows.{#, width, Row, row, leafRow, rowsFrom, rowsOf, ofElement, ofText}
 use Rattle.grammar.specs.Machine.{Open, State, dead, inRun, afterLess, inName, inSpace, afterSlash, inEndName, inEndSpace, level, endTag, tag, tail, step, runs, initial, At}
 use Rattle.grammar.proofs.Theory.{Live, by-cond, accepts, live-step, runs-append}
 use Rattle.grammar.proofs.Positions.{offO}
 
 -- the rows R, and then that of the run t at a
 unfoldable pub leafOn : List Row → ℕ → ℕ → Bytes → List Row
-leafOn R k a t = cond (inked t) (R ++ (row k a t ∷ [])) R
+leafOn R k a t = cond (inked t) (R ++ (row ofText k a t ∷ [])) R
 
 -- .. and then that of an element behind it
 unfoldable pub namedOn : List Row → ℕ → ℕ → Bytes → Bytes → List Row
-namedOn R k a t n = leafOn R k a t ++ (row k (a + # t + 1) n ∷ [])
+namedOn R k a t n = leafOn R k a t ++ (row ofElement k (a + # t + 1) n ∷ [])
 
 -- the rows R, and then those of the content at a
 unfoldable pub rowsOn : List Row → ℕ → ℕ → Content → List Row
@@ -35,13 +35,13 @@ leaf-pre : (R : List Row) (k a : ℕ) (t : Bytes) (r : List Row) → leafOn R k 
 unfolding leafOn
 leaf-pre R k a t r = go (inked t)
   where
-    go : (y : Bool) → cond y (R ++ (row k a t ∷ [])) R ++ r ≡ R ++ cond y (row k a t ∷ r) r
-    go true = append-assoc R (row k a t ∷ []) r
+    go : (y : Bool) → cond y (R ++ (row ofText k a t ∷ [])) R ++ r ≡ R ++ cond y (row ofText k a t ∷ r) r
+    go true = append-assoc R (row ofText k a t ∷ []) r
     go false = refl
 
-named-pre : (R : List Row) (k a : ℕ) (t n : Bytes) (r : List Row) → namedOn R k a t n ++ r ≡ R ++ leafRow k a t (row k (a + # t + 1) n ∷ r)
+named-pre : (R : List Row) (k a : ℕ) (t n : Bytes) (r : List Row) → namedOn R k a t n ++ r ≡ R ++ leafRow k a t (row ofElement k (a + # t + 1) n ∷ r)
 unfolding namedOn
-named-pre R k a t n r = append-assoc (leafOn R k a t) (row k (a + # t + 1) n ∷ []) r ∙ leaf-pre R k a t (row k (a + # t + 1) n ∷ r)
+named-pre R k a t n r = append-assoc (leafOn R k a t) (row ofElement k (a + # t + 1) n ∷ []) r ∙ leaf-pre R k a t (row ofElement k (a + # t + 1) n ∷ r)
 
 rows-pre : (R : List Row) (k a : ℕ) (f : Content) (r : List Row) → rowsOn R k a f ++ r ≡ R ++ rowsFrom k a f r
 unfolding rowsOn rowsFrom
@@ -94,13 +94,13 @@ prefix-leaf : (R : List Row) (k a : ℕ) (t : Bytes) → Prefix R (leafOn R k a 
 unfolding leafOn
 prefix-leaf R k a t = go (inked t)
   where
-    go : (y : Bool) → Prefix R (cond y (R ++ (row k a t ∷ [])) R)
-    go true = record { rest = row k a t ∷ []; is = refl }
+    go : (y : Bool) → Prefix R (cond y (R ++ (row ofText k a t ∷ [])) R)
+    go true = record { rest = row ofText k a t ∷ []; is = refl }
     go false = prefix-same refl
 
 prefix-named : (R : List Row) (k a : ℕ) (t n : Bytes) → Prefix (leafOn R k a t) (namedOn R k a t n)
 unfolding namedOn
-prefix-named R k a t n = record { rest = row k (a + # t + 1) n ∷ []; is = refl }
+prefix-named R k a t n = record { rest = row ofElement k (a + # t + 1) n ∷ []; is = refl }
 
 abbrev Grows : State → State → Type 0
 Grows z z' = Live z' → Prefix (rowsS z) (rowsS z')

@@ -4,3 +4,5 @@ pub mod Trees
 pub mod Positions
 pub mod Rows
 pub mod Emitted
+pub mod Told
+pub mod InWords

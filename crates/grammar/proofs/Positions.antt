@@ -1,5 +1,6 @@
 -- How many bytes the machine has read, and the room that open elements take.
-use mathlib.Core.Path.{_≡_, ap, _∙_}
+use mathlib.Core.Path.{_≡_, sym, ap, _∙_}
+use mathlib.Core.Bool.{true≢false}
 use mathlib.Core.List.{List, [], _∷_, _++_, append-nil}
 use Prim.Native.Nat.{ℕ, _+_, _*_, _≤_}
 use native.Mathlib.Omega.{arith}
@@ -63,7 +64,7 @@ pos-is (inEndSpace p o f t h) l =
 
 -- each open element took three bytes or more: so a stack for n bytes has n / 3 places
 name-some : (n : Bytes) → Name n → 1 ≤ # n
-name-some ε h = absurd h
+name-some ε h = absurd (true≢false (sym (h .1)))
 name-some (s ▸ b) h = omega arith
 
 pub three : (o : List Open) → GoodO o → 3 * length o ≤ offO o

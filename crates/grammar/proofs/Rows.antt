@@ -10,7 +10,7 @@ use Rattle.meaning.specs.Forest.{Forest, none, some}
 use Rattle.tree.specs.Rows.{labels}
 use Rattle.grammar.specs.Grammar.{Bytes, _⊲_, Content, nothing, emptyElement, element, print, Document}
 use Rattle.grammar.specs.Tree.{inked, leaf, forest}
-use Rattle.grammar.specs.Rows.{#, width, Row, row, leafRow, rowsFrom, rowsOf}
+use Rattle.grammar.specs.Rows.{#, width, Kind, ofElement, ofText, Row, row, leafRow, rowsFrom, rowsOf}
 use Rattle.grammar.proofs.Theory.{⊲-append}
 use Rattle.grammar.proofs.Positions.{len-⊲, len-print}
 
@@ -27,11 +27,11 @@ module _ (label : Bytes → ℕ) where
   unfolding labels labelled
   leaf-labels k a t r d R h = go (inked t)
     where
-      go : (y : Bool) → labels (cond y (some (label t) none r) r) ++ d ≡ labelled (cond y (row k a t ∷ R) R)
+      go : (y : Bool) → labels (cond y (some (label t) none r) r) ++ d ≡ labelled (cond y (row ofText k a t ∷ R) R)
       go true = ap (λ (l : List ℕ). label t ∷ l) h
       go false = h
 
-  term-labels : (us r : Forest) (d : List ℕ) (k a : ℕ) (n : Bytes) (R : List Row) → Labels us (labels r ++ d) R → Labels (some (label n) us r) d (row k a n ∷ R)
+  term-labels : (us r : Forest) (d : List ℕ) (k a : ℕ) (n : Bytes) (R : List Row) → Labels us (labels r ++ d) R → Labels (some (label n) us r) d (row ofElement k a n ∷ R)
   unfolding labels labelled
   term-labels us r d k a n R h = ap (λ (l : List ℕ). label n ∷ l) (append-assoc (labels us) (labels r) d ∙ h)
 
@@ -78,10 +78,10 @@ print-append f v = go f [] v
         ∙ go f (t ⊲ 60 ∷ (n ⊲ g ⊲ 62 ∷ print i (l ⊲ 60 ∷ 47 ∷ (n ⊲ h ⊲ 62 ∷ u)))) v
 
 -- behind a bytes of w stands v
-record Stands (w : List ℕ) (a : ℕ) (v : List ℕ) : Type 0 where
-  before : List ℕ
-  is : w ≡ before ++ v
-  long : length before ≡ a
+pub record Stands (w : List ℕ) (a : ℕ) (v : List ℕ) : Type 0 where
+  pub before : List ℕ
+  pub is : w ≡ before ++ v
+  pub long : length before ≡ a
 
 module _ {w : List ℕ} {a : ℕ} where
   behind : (s v : List ℕ) (n : ℕ) → length s ≡ n → Stands w a (s ++ v) → Stands w (a + n) v
@@ -91,17 +91,17 @@ module _ {w : List ℕ} {a : ℕ} where
     long = length-append (h .before) s ∙ omega (arith, h .long, p);
   }
 
-  behind-byte : (b : ℕ) (v : List ℕ) → Stands w a (b ∷ v) → Stands w (a + 1) v
+  pub behind-byte : (b : ℕ) (v : List ℕ) → Stands w a (b ∷ v) → Stands w (a + 1) v
   behind-byte b v h = behind (b ∷ []) v 1 refl h
 
-  behind-bytes : (s : Bytes) (v : List ℕ) → Stands w a (s ⊲ v) → Stands w (a + # s) v
+  pub behind-bytes : (s : Bytes) (v : List ℕ) → Stands w a (s ⊲ v) → Stands w (a + # s) v
   behind-bytes s v h = behind (s ⊲ []) v (# s) (len-⊲ s [] ∙ omega arith) (rw (⊲-append s [] v) h)
 
-  behind-content : (f : Content) (v : List ℕ) → Stands w a (print f v) → Stands w (a + width f) v
+  pub behind-content : (f : Content) (v : List ℕ) → Stands w a (print f v) → Stands w (a + width f) v
   behind-content f v h = behind (print f []) v (width f) (len-print f [] ∙ omega arith) (rw (← (print-append f v)) h)
 
-  spelled-at : (k : ℕ) (s : Bytes) (v : List ℕ) → Stands w a (s ⊲ v) → Spelled w (row k a s)
-  spelled-at k s v h = record {
+  spelled-at : (q : Kind) (k : ℕ) (s : Bytes) (v : List ℕ) → Stands w a (s ⊲ v) → Spelled w (row q k a s)
+  spelled-at q k s v h = record {
     inside = omega (arith, ap length (h .is), length-append (h .before) (s ⊲ v), len-⊲ s v, h .long);
     is = ap (λ (x : List ℕ). take (# s) (drop a x)) (h .is ∙ ap (λ (y : List ℕ). h .before ++ y) (sym (⊲-append s [] v)))
         ∙ rw (drop-at (h .before) ((s ⊲ []) ++ v) a (h .long)) (take-at (s ⊲ []) v (# s) (len-⊲ s [] ∙ omega arith));
@@ -111,8 +111,8 @@ module _ (w : List ℕ) where
   leaf-all : (k a : ℕ) (t : Bytes) (v : List ℕ) (R : List Row) → Stands w a (t ⊲ v) → All (Spelled w) R → All (Spelled w) (leafRow k a t R)
   leaf-all k a t v R s h = go (inked t)
     where
-      go : (y : Bool) → All (Spelled w) (cond y (row k a t ∷ R) R)
-      go true = (spelled-at k t v s, h)
+      go : (y : Bool) → All (Spelled w) (cond y (row ofText k a t ∷ R) R)
+      go true = (spelled-at ofText k t v s, h)
       go false = h
 
   spelled-on : (k a : ℕ) (f : Content) (v : List ℕ) (R : List Row) → Stands w a (print f v) → All (Spelled w) R → All (Spelled w) (rowsFrom k a f R)
@@ -121,14 +121,14 @@ module _ (w : List ℕ) where
   spelled-on k a (emptyElement f t n g) v R s h =
       let s₁ : Stands w (a + width f) (t ⊲ 60 ∷ (n ⊲ g ⊲ 47 ∷ 62 ∷ v)) = behind-content f _ s in
       let s₂ : Stands w (a + width f + # t + 1) (n ⊲ g ⊲ 47 ∷ 62 ∷ v) = behind-byte 60 _ (behind-bytes t _ s₁) in
-      spelled-on k a f _ _ s (leaf-all k (a + width f) t _ _ s₁ (spelled-at k n _ s₂, h))
+      spelled-on k a f _ _ s (leaf-all k (a + width f) t _ _ s₁ (spelled-at ofElement k n _ s₂, h))
   spelled-on k a (element f t n g i l j) v R s h =
       let w₂ : List ℕ = l ⊲ 60 ∷ 47 ∷ (n ⊲ j ⊲ 62 ∷ v) in
       let s₁ : Stands w (a + width f) (t ⊲ 60 ∷ (n ⊲ g ⊲ 62 ∷ print i w₂)) = behind-content f _ s in
       let s₂ : Stands w (a + width f + # t + 1) (n ⊲ g ⊲ 62 ∷ print i w₂) = behind-byte 60 _ (behind-bytes t _ s₁) in
       let s₃ : Stands w (a + width f + # t + 1 + # n + # g + 1) (print i w₂) = behind-byte 62 _ (behind-bytes g _ (behind-bytes n _ s₂)) in
       let s₄ : Stands w (a + width f + # t + 1 + # n + # g + 1 + width i) w₂ = behind-content i _ s₃ in
-      spelled-on k a f _ _ s (leaf-all k (a + width f) t _ _ s₁ (spelled-at k n _ s₂, spelled-on (suc k) _ i _ _ s₃ (leaf-all (suc k) _ l _ R s₄ h)))
+      spelled-on k a f _ _ s (leaf-all k (a + width f) t _ _ s₁ (spelled-at ofElement k n _ s₂, spelled-on (suc k) _ i _ _ s₃ (leaf-all (suc k) _ l _ R s₄ h)))
 
 -- each row's spelling stands in the document, where the row says
 pub rows-spelled : {w : List ℕ} {f : Content} {t : Bytes} → Document w f t → All (Spelled w) (rowsOf f)

@@ -73,8 +73,8 @@ pub ⊲-append : (s : Bytes) (v w : List ℕ) → (s ⊲ v) ++ w ≡ s ⊲ (v ++
 ⊲-same s t v e = sym (⊲-append s [] v) ∙ ap (λ (l : List ℕ). l ++ v) e ∙ ⊲-append t [] v
 
 name-more : (n : Bytes) (b : ℕ) → Name n → nameByte b ≡ true → Name (n ▸ b)
-name-more ε b h e = absurd h
-name-more (s ▸ a) b h e = (h, e)
+name-more ε b h e = absurd (true≢false (sym (h .1)))
+name-more (s ▸ a) b h e = ((h .0, e), refl)
 
 tag-next : (s : State) (o : List Open) (f : Content) (t n g : Bytes) (b : ℕ) → GoodO o × GoodTag (level o) f t n g →
     ((v : List ℕ) → printO o (print f (t ⊲ 60 ∷ (n ⊲ g ⊲ v))) ≡ printS s v) → Next s b (tag o f t n g b)
@@ -117,7 +117,7 @@ keeps (inRun o f t) b h =
     (λ m l. absurd l))
 keeps (afterLess o f t) b h =
     by-cond (Next (afterLess o f t) b) (nameStart b)
-    (λ m l. ((h .0, (h .1, h .2, h .3, m, tt)), λ v. refl))
+    (λ m l. ((h .0, (h .1, h .2, h .3, ((tt, m), refl), tt)), λ v. refl))
     (λ m. by-cond (Next (afterLess o f t) b) (eqb b 47)
     (λ q. end-next (afterLess o f t) o f t b h (λ v. refl) (eqb-true b 47 q))
     (λ q l. absurd l))
@@ -180,9 +180,9 @@ run-read o f ε v h = refl
 run-read o f (t ▸ b) v h = run-read o f t (b ∷ v) (h .0) ∙ simp (not-less (level o) t b (h .1), h .1)
 
 name-read : (o : List Open) (f : Content) (t n : Bytes) (v : List ℕ) → Name n → runs (afterLess o f t) (n ⊲ v) ≡ runs (inName o f t n) v
-name-read o f t ε v h = absurd h
-name-read o f t (ε ▸ b) v h = then (afterLess o f t) (inName o f t (ε ▸ b)) b v (simp h)
-name-read o f t (s ▸ a ▸ b) v h = name-read o f t (s ▸ a) (b ∷ v) (h .0) ∙ simp (h .1)
+name-read o f t ε v h = absurd (true≢false (sym (h .1)))
+name-read o f t (ε ▸ b) v h = then (afterLess o f t) (inName o f t (ε ▸ b)) b v (simp (h .0 .1))
+name-read o f t (s ▸ a ▸ b) v h = name-read o f t (s ▸ a) (b ∷ v) (h .0 .0, refl) ∙ simp (h .0 .1)
 
 gap-read : (o : List Open) (f : Content) (t n s : Bytes) (b : ℕ) (v : List ℕ) → White (s ▸ b) →
     runs (inName o f t n) ((s ▸ b) ⊲ v) ≡ runs (inSpace o f t n (s ▸ b)) v

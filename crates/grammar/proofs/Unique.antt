@@ -13,6 +13,7 @@ use Rattle.grammar.specs.Grammar.{Bytes, ε, _▸_, Content, inner, Run,
 use Rattle.grammar.specs.Place.{Begins, OutsideAt}
 use Rattle.grammar.specs.Machine.{inRun, runs, initial}
 use Rattle.grammar.proofs.Theory.{accepts, lives, begins, live-step, runs-append}
+use Rattle.grammar.proofs.InWords.{brackets-one, brackets-last}
 
 pub one-reading : {w : List ℕ} {f g : Content} {t u : Bytes} → Document w f t → Document w g u → (f ≡ g) × (t ≡ u)
 one-reading {w} {f} {g} {t} {u} d e =
@@ -61,7 +62,7 @@ run-text ε h = tt
 run-text (t ▸ b) h = (run-text t (h .0), follows-text t b (h .1))
 
 run-at : (s u : Bytes) → Run inner (cat (s ▸ 93 ▸ 93 ▸ 62) u) → ⊥
-run-at s ε h = true≢false (sym (h .1))
+run-at s ε h = true≢false (sym (rw (brackets-last s 93 93) at (h .1)))
 run-at s (u ▸ b) h = run-at s u (h .0)
 
 pub run-free : (t : Bytes) → Run inner t → Free t
@@ -73,12 +74,12 @@ mark ε b h = absurd (go (eqb b 62) h)
     go : (x : Bool) → x && false ≡ true → ⊥
     go true h = true≢false (sym h)
     go false h = true≢false (sym h)
-mark (ε ▸ a) b h = absurd (go (eqb b 62) h)
+mark (ε ▸ a) b h = absurd (go (eqb b 62) (rw (brackets-one a) at h))
   where
     go : (x : Bool) → x && false ≡ true → ⊥
     go true h = true≢false (sym h)
     go false h = true≢false (sym h)
-mark (s ▸ c ▸ a) b h = go (eqb b 62) (eqb c 93) (eqb a 93) refl refl refl h
+mark (s ▸ c ▸ a) b h = go (eqb b 62) (eqb c 93) (eqb a 93) refl refl refl (rw (brackets-last s c a) at h)
   where
     go : (x y z : Bool) → eqb b 62 ≡ x → eqb c 93 ≡ y → eqb a 93 ≡ z → x && (y && z) ≡ true → (r : Bytes) × (s ▸ c ▸ a ▸ b ≡ r ▸ 93 ▸ 93 ▸ 62)
     go true true true p q r h = (s, cc (eqb-true b 62 p, eqb-true c 93 q, eqb-true a 93 r))

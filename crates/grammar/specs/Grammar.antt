@@ -4,23 +4,13 @@
 --   document ::= S? element S?        element ::= '<' Name S? '/>' | '<' Name S? '>' content '</' Name S? '>'
 --   content ::= CharData? (element CharData?)*
 use mathlib.Core.Path.{_≡_}
-use mathlib.Core.Bool.{Bool, true, false, cond, _&&_}
+use mathlib.Core.Bool.{Bool, true, false}
 use mathlib.Core.List.{List, [], _∷_}
 use Prim.Native.Nat.{ℕ}
 use lib.Dec.{eqb}
 use Rattle.grammar.specs.Classes.{white, nameStart, nameByte, text}
-
-infixl 60 _▸_
--- bytes in the order in which they stand, grown at the right
-pub data Bytes : Type 0 where
-  ε : Bytes
-  _▸_ : Bytes → ℕ → Bytes
-
-infixr 50 _⊲_
--- the bytes, and what follows them
-abbrev pub _⊲_ : Bytes → List ℕ → List ℕ
-ε ⊲ v = v
-(s ▸ b) ⊲ v = s ⊲ (b ∷ v)
+use Rattle.grammar.specs.Tokens.{Automaton, after, Reads, Token, spaces, names, texts}
+pub use Rattle.grammar.specs.Bytes.{Bytes, ε, _▸_, _⊲_, less, greater, slash}
 
 -- runs and elements in turn, up to the last element; the run behind it stands beside
 pub data Content : Type 0 where
@@ -30,38 +20,42 @@ pub data Content : Type 0 where
   -- before run <name space> inner last </name space₂>
   element : (before : Content) (run name space : Bytes) (inner : Content) (last space₂ : Bytes) → Content
 
--- 60 is <, 62 is >, 47 is /
 abbrev pub print : Content → List ℕ → List ℕ
 print nothing v = v
-print (emptyElement f t n g) v = print f (t ⊲ 60 ∷ (n ⊲ g ⊲ 47 ∷ 62 ∷ v))
-print (element f t n g i l h) v = print f (t ⊲ 60 ∷ (n ⊲ g ⊲ 62 ∷ print i (l ⊲ 60 ∷ 47 ∷ (n ⊲ h ⊲ 62 ∷ v))))
+print (emptyElement f t n g) v = print f (t ⊲ less ∷ (n ⊲ g ⊲ slash ∷ greater ∷ v))
+print (element f t n g i l h) v = print f (t ⊲ less ∷ (n ⊲ g ⊲ greater ∷ print i (l ⊲ less ∷ slash ∷ (n ⊲ h ⊲ greater ∷ v))))
+
+-- the subset's tokens, by 01's classes
+abbrev pub spaceToken : Automaton
+spaceToken = spaces white
+
+abbrev pub nameToken : Automaton
+nameToken = names nameStart nameByte
 
 abbrev pub White : Bytes → Type 0
-White ε = Unit {0}
-White (s ▸ b) = White s × (white b ≡ true)
+White s = Reads spaceToken s
 
 abbrev pub Name : Bytes → Type 0
-Name ε = ⊥
-Name (ε ▸ b) = nameStart b ≡ true
-Name (s ▸ a ▸ b) = Name (s ▸ a) × (nameByte b ≡ true)
-
--- the bytes end with "]]"
-abbrev pub brackets : Bytes → Bool
-brackets ε = false
-brackets (ε ▸ b) = false
-brackets (s ▸ a ▸ b) = eqb a 93 && eqb b 93
+Name s = Token nameToken s
 
 -- outside the root element only white space may stand; inside, text without "]]>"
 pub data Level : Type 0 where
   outer inner : Level
 
+abbrev pub runToken : Level → Automaton
+runToken outer = spaceToken
+runToken inner = texts text
+
+-- behind the bytes s of a run
 abbrev pub mayFollow : Level → Bytes → ℕ → Bool
-mayFollow outer s b = white b
-mayFollow inner s b = cond (eqb b 62 && brackets s) false (text b)
+mayFollow k s b = runToken k .goes (after (runToken k) s) b
 
 abbrev pub Run : Level → Bytes → Type 0
-Run k ε = Unit {0}
-Run k (s ▸ b) = Run k s × (mayFollow k s b ≡ true)
+Run k s = Reads (runToken k) s
+
+-- the bytes of a text end with "]]"
+abbrev pub brackets : Bytes → Bool
+brackets s = eqb (after (runToken inner) s) 2
 
 abbrev pub noElement : Content → Bool
 noElement nothing = true

@@ -1,4 +1,6 @@
 pub mod Classes
+pub mod Bytes
+pub mod Tokens
 pub mod Grammar
 pub mod Place
 pub mod Tree

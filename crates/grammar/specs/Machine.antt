@@ -5,8 +5,7 @@ use mathlib.Core.List.{List, [], _∷_}
 use Prim.Native.Nat.{ℕ, _≤_}
 use lib.Dec.{eqb}
 use lib.ListN.{length, take}
-use Rattle.grammar.specs.Classes.{white, nameStart, nameByte}
-use Rattle.grammar.specs.Grammar.{Bytes, ε, _▸_, _⊲_, Content, nothing, emptyElement, element, mayFollow, Level, outer, inner, noElement, mayOpen}
+use Rattle.grammar.specs.Grammar.{Bytes, ε, _▸_, _⊲_, less, greater, slash, Content, nothing, emptyElement, element, spaceToken, nameToken, mayFollow, Level, outer, inner, noElement, mayOpen}
 
 -- an open element: what stands before it at its level, and its start tag
 pub record Open : Type 0 where
@@ -39,24 +38,24 @@ endTag (p ∷ o) f t = inEndName p o f t ε (p .name ⊲ [])
 
 abbrev pub tag : List Open → Content → Bytes → Bytes → Bytes → ℕ → State
 tag o f t n g b =
-    cond (white b) (inSpace o f t n (g ▸ b))
-    (cond (eqb b 62) (inRun (record { before = f; run = t; name = n; space = g } ∷ o) nothing ε)
-    (cond (eqb b 47) (afterSlash o f t n g) dead))
+    cond (spaceToken .goes 0 b) (inSpace o f t n (g ▸ b))
+    (cond (eqb b greater) (inRun (record { before = f; run = t; name = n; space = g } ∷ o) nothing ε)
+    (cond (eqb b slash) (afterSlash o f t n g) dead))
 
 abbrev pub tail : Open → List Open → Content → Bytes → Bytes → ℕ → State
 tail p o f t h b =
-    cond (white b) (inEndSpace p o f t (h ▸ b))
-    (cond (eqb b 62) (inRun o (element (p .before) (p .run) (p .name) (p .space) f t h) ε) dead)
+    cond (spaceToken .goes 0 b) (inEndSpace p o f t (h ▸ b))
+    (cond (eqb b greater) (inRun o (element (p .before) (p .run) (p .name) (p .space) f t h) ε) dead)
 
 abbrev pub step : State → ℕ → State
 step dead b = dead
 step (inRun o f t) b =
-    cond (eqb b 60) (cond (mayOpen (level o) f) (afterLess o f t) dead)
+    cond (eqb b less) (cond (mayOpen (level o) f) (afterLess o f t) dead)
     (cond (mayFollow (level o) t b) (inRun o f (t ▸ b)) dead)
-step (afterLess o f t) b = cond (nameStart b) (inName o f t (ε ▸ b)) (cond (eqb b 47) (endTag o f t) dead)
-step (inName o f t n) b = cond (nameByte b) (inName o f t (n ▸ b)) (tag o f t n ε b)
+step (afterLess o f t) b = cond (nameToken .goes 0 b) (inName o f t (ε ▸ b)) (cond (eqb b slash) (endTag o f t) dead)
+step (inName o f t n) b = cond (nameToken .goes 1 b) (inName o f t (n ▸ b)) (tag o f t n ε b)
 step (inSpace o f t n g) b = tag o f t n g b
-step (afterSlash o f t n g) b = cond (eqb b 62) (inRun o (emptyElement f t n g) ε) dead
+step (afterSlash o f t n g) b = cond (eqb b greater) (inRun o (emptyElement f t n g) ε) dead
 step (inEndName p o f t m []) b = tail p o f t ε b
 step (inEndName p o f t m (r ∷ rs)) b = cond (eqb b r) (inEndName p o f t (m ▸ b) rs) dead
 step (inEndSpace p o f t h) b = tail p o f t h b

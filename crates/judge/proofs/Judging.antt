@@ -202,25 +202,6 @@ module _ {w S : List ℕ} {i x depth rows deep : ℕ} (k : Scanned w S i x depth
   abbrev T : Bytes
   T = bytes w i (a - i)
 
-  from : i ≤ a
-  from = run .span .passed .from
-
-  abbrev walked : Walked w i depth rows
-  walked = record { o = k .o; f = k .f; here = k .here; depth-is = k .depth-is; rows-are = k .rows-are }
-
-  made-leaf : n ≡ leafRows T
-  made-leaf = made walked run
-
-  made-few : n ≤ 1
-  made-few = run .few
-
-  top : (o : List Open) → Held w S x o → Top w x o
-  top [] h = tt
-  top (p ∷ o) h = h .0
-
-  pub tagging : getD w a 0 ≡ 60 → Tagging w x depth (rows + n) a (k .o) (k .f) T
-  tagging h = to-tag walked run (top (k .o) (k .held)) h
-
   -- bounds, where the tag ends at e
   pub room-open : {n-end : ℕ} (e : ℕ) → OpenedTo w (a + 1) n-end e (k .o) (k .f) T → depth < 10922
   room-open e h = omega (arith, few-open (h .here) short, k .depth-is)
@@ -228,85 +209,112 @@ module _ {w S : List ℕ} {i x depth rows deep : ℕ} (k : Scanned w S i x depth
   pub room-close : depth ≤ 10922
   room-close = omega (arith, few-open (k .here) short, k .depth-is)
 
-  -- what is kept
-  pub opens : {n-end : ℕ} (e : ℕ) → a + 1 < e → OpenedTo w (a + 1) n-end e (k .o) (k .f) T → (d₁ d₂ : ℕ) → d₁ ≡ max deep (depth + n) → d₂ ≡ max d₁ (depth + 1) →
-      Scanned w (set S depth x) e (a + 1) (depth + 1) (rows + n + 1) d₂
-  unfolding rowsO deepO contentRows contentDepth
-  opens e l h d₁ d₂ is₁ is₂ = record {
-    o = opened (k .f) T (h .name) (h .space) ∷ k .o;
-    f = nothing;
-    here = h .here;
-    depth-is = omega (arith, k .depth-is);
-    held = (
-      h .named,
-      rw (← (k .depth-is), getD-set-same S depth x 0 (omega (arith, k .room, room-open e h)))
-          (held-set w S x depth x (k .o) (omega (arith, k .depth-is)) (k .held)),
-    );
-    room = length-set S depth x ∙ k .room;
-    small = omega (arith, h .here .within);
-    rows-are = rw made-leaf (omega (arith, k .rows-are));
-    deep-is = is₂ ∙ rw (is₁, k .deep-is, k .depth-is, made-leaf) (max-open (deepO (k .o)) (length (k .o)) (contentDepth (k .f)) (leafRows T) (one-leaf T));
-    few = omega (arith, k .few, from, made-few);
-  }
+  pub bound : rows ≤ 65536
+  bound = omega (arith, k .few, k .here .within, short)
 
-  pub empties : {n-end : ℕ} (e : ℕ) → a + 1 < e → EmptyTo w (a + 1) n-end e (k .o) (k .f) T → (d₁ d₂ : ℕ) → d₁ ≡ max deep (depth + n) → d₂ ≡ max d₁ (depth + 1) →
-      Scanned w S e x depth (rows + n + 1) d₂
-  unfolding contentRows contentDepth
-  empties e l h d₁ d₂ is₁ is₂ = record {
-    o = k .o;
-    f = emptyElement (k .f) T (h .name) (h .space);
-    here = h .here;
-    depth-is = k .depth-is;
-    held = k .held;
-    room = k .room;
-    small = k .small;
-    rows-are = rw made-leaf (omega (arith, k .rows-are));
-    deep-is = is₂ ∙ rw (is₁, k .deep-is, k .depth-is, made-leaf) (max-empty (deepO (k .o)) (length (k .o)) (contentDepth (k .f)) (leafRows T) (one-leaf T));
-    few = omega (arith, k .few, from, made-few);
-  }
-
-  pub some-open : (e : ℕ) → Closed w e (k .o) (k .f) T → 0 < depth
-  some-open e h = go (k .o) (k .depth-is) h
+  pub some-open : {e : ℕ} → Closed w e (k .o) (k .f) T → 0 < depth
+  some-open {e} h = go (k .o) (k .depth-is) h
     where
       go : (o : List Open) → depth ≡ length o → Closed w e o (k .f) T → 0 < depth
       go (p ∷ o) d (closed h q) = omega (arith, d)
 
-  pub closes : (e : ℕ) → a + 1 < e → Closed w e (k .o) (k .f) T → (d₁ y : ℕ) → d₁ ≡ max deep (depth + n) → (y ≡ getD S (depth - 1) 0) × (y < 65536) →
-      Scanned w S e y (depth - 1) (rows + n) d₁
-  unfolding rowsO deepO contentRows contentDepth
-  closes e l h d₁ y is₁ is-y = go (k .o) h (k .depth-is) (k .held) (k .rows-are) (k .deep-is)
-    where
-      go : (o : List Open) → Closed w e o (k .f) T → depth ≡ length o → Held w S x o → rows ≡ rowsO o + contentRows (k .f) →
-          deep ≡ max (deepO o) (length o + contentDepth (k .f)) → Scanned w S e y (depth - 1) (rows + n) d₁
-      go (p ∷ o) (closed h q) d held r m =
-          let z : length o ≡ depth - 1 = omega (arith, d) in
-          record {
-            o = o;
-            f = element (p .before) (p .run) (p .name) (p .space) (k .f) T h;
-            here = q;
-            depth-is = sym z;
-            held = rw (is-y .0, ← z) (held .1);
-            room = k .room;
-            small = is-y .1;
-            rows-are = rw made-leaf (omega (arith, r));
-            deep-is = is₁ ∙ rw (m, d, made-leaf) (max-close (deepO o) (length o) (contentDepth (p .before)) (contentDepth (k .f)) (leafRows T));
-            few = omega (arith, k .few, from, made-few);
-          }
+  -- .. and there are m₁ rows then, the deepest at d₁
+  module _ {m₁ d₁ : ℕ} (seen : (m₁ ≡ rows + n) × (d₁ ≡ max deep (depth + n))) where
+    from : i ≤ a
+    from = run .span .passed .from
 
-  -- WHAT IT ENDS WITH
-  whole : length w ≤ a → depth ≡ 0 → 0 < rows + n → {d₁ c p m : ℕ} → d₁ ≡ max deep (depth + n) → Done (rows + n) d₁ c p m → Verdict w c p m
-  unfolding deepO
-  whole q d r {d₁} {c} {p} {m} is₁ h =
-      let D : Finished w (k .f) (rows + n) = finished walked run q d r in
-      verdict short (D .document) (D .rows-are) (is₁ ∙ level (k .o) (k .depth-is) (run .outside d) (k .deep-is) ∙ sym (shape-depth (k .f))) h
-    where
-      level : (o : List Open) → depth ≡ length o → n ≡ 0 → deep ≡ max (deepO o) (length o + contentDepth (k .f)) → max deep (depth + n) ≡ contentDepth (k .f)
-      level [] e y z = omega (arith, y, z, d)
-      level (p ∷ o) e y z = absurd (omega (arith, d, e))
+    abbrev walked : Walked w i depth rows
+    walked = record { o = k .o; f = k .f; here = k .here; depth-is = k .depth-is; rows-are = k .rows-are }
 
-  pub ends : (getD w a 0 ≡ 60 → ⊥) → {d₁ c p m : ℕ} → d₁ ≡ max deep (depth + n) → Last (length w) a depth (rows + n) d₁ c p m → Verdict w c p m
-  ends b is₁ (ended q d r h) = whole q d r is₁ h
-  ends b is₁ (early h) = outside short (refused walked run b h)
+    made-leaf : n ≡ leafRows T
+    made-leaf = made walked run
+
+    made-few : n ≤ 1
+    made-few = run .few
+
+    top : (o : List Open) → Held w S x o → Top w x o
+    top [] h = tt
+    top (p ∷ o) h = h .0
+
+    pub tagging : getD w a 0 ≡ 60 → Tagging w x depth m₁ a (k .o) (k .f) T
+    tagging h = rw (seen .0) (to-tag walked run (top (k .o) (k .held)) h)
+
+    pub bound-now : m₁ ≤ 65537
+    bound-now = omega (arith, seen .0, k .few, from, run .span .passed .within, made-few, short)
+
+    -- what is kept
+    pub opens : {n-end : ℕ} (e : ℕ) → a + 1 < e → OpenedTo w (a + 1) n-end e (k .o) (k .f) T → {m₂ d₂ : ℕ} → (m₂ ≡ m₁ + 1) × (d₂ ≡ max d₁ (depth + 1)) →
+        {S' : List ℕ} → S' ≡ set S depth x → Scanned w S' e (a + 1) (depth + 1) m₂ d₂
+    unfolding rowsO deepO contentRows contentDepth
+    opens e l h more pushed = rw pushed (record {
+      o = opened (k .f) T (h .name) (h .space) ∷ k .o;
+      f = nothing;
+      here = h .here;
+      depth-is = omega (arith, k .depth-is);
+      held = (
+        h .named,
+        rw (← (k .depth-is), getD-set-same S depth x 0 (omega (arith, k .room, room-open e h)))
+            (held-set w S x depth x (k .o) (omega (arith, k .depth-is)) (k .held)),
+      );
+      room = length-set S depth x ∙ k .room;
+      small = omega (arith, h .here .within);
+      rows-are = omega (arith, more .0, seen .0, made-leaf, k .rows-are);
+      deep-is = more .1 ∙ rw (seen .1, k .deep-is, k .depth-is, made-leaf) (max-open (deepO (k .o)) (length (k .o)) (contentDepth (k .f)) (leafRows T) (one-leaf T));
+      few = omega (arith, more .0, seen .0, k .few, from, made-few);
+    })
+
+    pub empties : {n-end : ℕ} (e : ℕ) → a + 1 < e → EmptyTo w (a + 1) n-end e (k .o) (k .f) T → {m₂ d₂ : ℕ} → (m₂ ≡ m₁ + 1) × (d₂ ≡ max d₁ (depth + 1)) →
+        Scanned w S e x depth m₂ d₂
+    unfolding contentRows contentDepth
+    empties e l h more = record {
+      o = k .o;
+      f = emptyElement (k .f) T (h .name) (h .space);
+      here = h .here;
+      depth-is = k .depth-is;
+      held = k .held;
+      room = k .room;
+      small = k .small;
+      rows-are = omega (arith, more .0, seen .0, made-leaf, k .rows-are);
+      deep-is = more .1 ∙ rw (seen .1, k .deep-is, k .depth-is, made-leaf) (max-empty (deepO (k .o)) (length (k .o)) (contentDepth (k .f)) (leafRows T) (one-leaf T));
+      few = omega (arith, more .0, seen .0, k .few, from, made-few);
+    }
+
+    pub closes : (e : ℕ) → a + 1 < e → Closed w e (k .o) (k .f) T → {y : ℕ} → (y ≡ getD S (depth - 1) 0) × (y < 65536) →
+        Scanned w S e y (depth - 1) m₁ d₁
+    unfolding rowsO deepO contentRows contentDepth
+    closes e l h {y} is-y = go (k .o) h (k .depth-is) (k .held) (k .rows-are) (k .deep-is)
+      where
+        go : (o : List Open) → Closed w e o (k .f) T → depth ≡ length o → Held w S x o → rows ≡ rowsO o + contentRows (k .f) →
+            deep ≡ max (deepO o) (length o + contentDepth (k .f)) → Scanned w S e y (depth - 1) m₁ d₁
+        go (p ∷ o) (closed h q) d held r m =
+            let z : length o ≡ depth - 1 = omega (arith, d) in
+            record {
+              o = o;
+              f = element (p .before) (p .run) (p .name) (p .space) (k .f) T h;
+              here = q;
+              depth-is = sym z;
+              held = rw (is-y .0, ← z) (held .1);
+              room = k .room;
+              small = is-y .1;
+              rows-are = omega (arith, seen .0, made-leaf, r);
+              deep-is = seen .1 ∙ rw (m, d, made-leaf) (max-close (deepO o) (length o) (contentDepth (p .before)) (contentDepth (k .f)) (leafRows T));
+              few = omega (arith, seen .0, k .few, from, made-few);
+            }
+
+    -- WHAT IT ENDS WITH
+    whole : length w ≤ a → depth ≡ 0 → 0 < rows + n → {c p m : ℕ} → Done m₁ d₁ c p m → Verdict w c p m
+    unfolding deepO
+    whole q d r h =
+        let D : Finished w (k .f) (rows + n) = finished walked run q d r in
+        verdict short (D .document) (seen .0 ∙ D .rows-are) (seen .1 ∙ level (k .o) (k .depth-is) (run .outside d) (k .deep-is) ∙ sym (shape-depth (k .f))) h
+      where
+        level : (o : List Open) → depth ≡ length o → n ≡ 0 → deep ≡ max (deepO o) (length o + contentDepth (k .f)) → max deep (depth + n) ≡ contentDepth (k .f)
+        level [] e y z = omega (arith, y, z, d)
+        level (p ∷ o) e y z = absurd (omega (arith, d, e))
+
+    pub ends : (getD w a 0 ≡ 60 → ⊥) → {c p m : ℕ} → Last (length w) a depth m₁ d₁ c p m → Verdict w c p m
+    ends b (ended q d r h) = whole q d (omega (arith, r, seen .0)) h
+    ends b (early h) = outside short (refused walked run b (λ q d r. h q d (omega (arith, r, seen .0))))
 
 -- code 3
 pub outside-is : {w : List ℕ} {q c p n : ℕ} → length w ≤ 32768 → OutsideAt w q → (c ≡ 3) × (p ≡ q) × (n ≡ 0) → Verdict w c p n

@@ -10,6 +10,7 @@ use borrow.Author.Count.{below-more}
 use borrow.Author.Tests.{eqb-true, eq-eqb, ne-eqb, lt-ltb, le-ltb, ltb-true, ltb-false}
 use Rattle.grammar.specs.Classes.{classOf, within, white, nameStart, nameByte, text}
 use Rattle.grammar.specs.Grammar.{Bytes, inner, mayFollow, brackets}
+use Rattle.grammar.proofs.InWords.{brackets-one, brackets-last}
 use Rattle.judge.specs.Tokens.{Passed, Span, SpanTo, bytes, plainAt, runAt, textAt, sameAt}
 
 -- A CLASS c OF A BYTE b TELLS
@@ -199,7 +200,7 @@ same-differs w name a i k e is-k is-e n h =
 pub brackets-few : (w : List ℕ) (a n : ℕ) → n < 2 → brackets (bytes w a n) ≡ false
 unfolding bytes
 brackets-few w a zero h = refl
-brackets-few w a (suc zero) h = refl
+brackets-few w a (suc zero) h = brackets-one (getD w (a + 0) 0)
 brackets-few w a (suc (suc n)) h = absurd (omega arith)
 
 pub brackets-two : (w : List ℕ) (a k : ℕ) → a ≤ k → 2 ≤ k - a →
@@ -211,7 +212,7 @@ brackets-two w a k h p = rw (is-n) (go (k - a - 2) (omega arith) (omega arith))
     is-n = omega arith
 
     go : (n : ℕ) → a + n ≡ k - 2 → a + suc n ≡ k - 1 → brackets (bytes w a (suc (suc n))) ≡ eqb (getD w (k - 2) 0) 93 && eqb (getD w (k - 1) 0) 93
-    go n p q = rw (← p, ← q) refl
+    go n p q = rw (← p, ← q) (brackets-last (bytes w a n) (getD w (a + n) 0) (getD w (a + suc n) 0))
 
 module _ (w : List ℕ) (a k c : ℕ) (is : c ≡ classOf (getD w k 0)) where
   pub text-at-yes : 1 < c → textAt w a k ≡ true
@@ -225,6 +226,11 @@ module _ (w : List ℕ) (a k c : ℕ) (is : c ≡ classOf (getD w k 0)) where
   pub text-at-bracket : c ≡ 1 → textAt w a k ≡ not (brackets (bytes w a (k - a)))
   unfolding runAt
   text-at-bracket h = text-bracket c (getD w k 0) is (bytes w a (k - a)) h
+
+-- a tag ends a text
+pub less-stops : (w : List ℕ) (a k : ℕ) → getD w k 0 ≡ 60 → textAt w a k ≡ false
+unfolding classOf
+less-stops w a k e = text-at-not w a k (classOf (getD w k 0)) refl (ap classOf e)
 
 -- plain text is text
 pub plain-text : (w : List ℕ) (a k : ℕ) → plainAt w k ≡ true → textAt w a k ≡ true

@@ -15,9 +15,10 @@ use Rattle.grammar.specs.Rows.{#}
 use Rattle.grammar.specs.Machine.{Open, inRun, afterLess, inEndName, level, At}
 use Rattle.judge.specs.declared.tags.Tag.{Tag}
 use Rattle.judge.specs.declared.tags.Tag.the-variants.{Refused, Opens, Empty, Closes}
+use Rattle.judge.specs.declared.tags.Kind.the-variants.{Nothing, Start, End}
 use Rattle.judge.specs.Tokens.{Passed, Span, bytes, whiteAt, nameAt, levelOf, runAt, textAt, sameAt}
-use Rattle.judge.specs.Tags.{RunTo, Named, closed, Does, Ends, Started, Ended, Top, Tagging, Tagged}
-use Rattle.judge.proofs.Spans.{text-yes, name-yes, text-at-not}
+use Rattle.judge.specs.Tags.{RunTo, Named, closed, Does, Ends, Started, Ended, Top, Tagging, Tagged, KindOf, second-root, root, inner-start, inner-end}
+use Rattle.judge.proofs.Spans.{text-yes, name-yes, less-stops}
 use Rattle.judge.proofs.Machine.{at-byte, at-same, there, refuse, start-refused, opens, empties, slash-refused, space-refused, end-refused, closes, close-refused}
 
 -- A RUN
@@ -86,11 +87,10 @@ module _ {w : List ℕ} {depth a m r : ℕ} (d : depth ≡ 0 → ⊥) (h : Span 
 
 -- white space up to a tag
 pub white-only : {w : List ℕ} (depth a : ℕ) {m : ℕ} → Span (whiteAt w) w a m → getD w m 0 ≡ 60 → RunTo w depth a m 0
-unfolding classOf
 white-only zero a h e = outer-run refl h
 white-only {w} (suc n) a {m} h e =
     inner-space (λ q. omega (arith, q)) h
-    (record { passed = white-text (h .passed); stop = λ p. text-at-not w a m (classOf (getD w m 0)) refl (ap classOf e) }) (omega arith)
+    (record { passed = white-text (h .passed); stop = λ p. less-stops w a m e }) (omega arith)
 
 -- A START TAG
 pub name-there : (w : List ℕ) (a : ℕ) → nameStart (getD w a 0) ≡ true → a < length w
@@ -186,10 +186,17 @@ does w a b o f t h (Opens e r) k = absurd k
 does w a b o f t h (Empty e r) k = absurd k
 does w a b o f t h (Closes e) k = (omega (arith, k .0), k .1)
 
+pub end-within : {w : List ℕ} {depth rows a : ℕ} → KindOf w depth rows a End → (0 < depth) × (a + 2 ≤ length w)
+end-within {w} {depth} {rows} {a} (inner-end d e) = (positive depth d, omega (arith, there w (a + 1) 46 e))
+  where
+    positive : (n : ℕ) → (n ≡ 0 → ⊥) → 0 < n
+    positive zero h = absurd (h refl)
+    positive (suc n) h = omega arith
+
 module _ {w : List ℕ} {x depth rows a : ℕ} where
   -- a second root
-  pub second : depth ≡ 0 → 0 < rows → Tagged w x depth rows a (Refused a)
-  second d r o f t h = go o (h .depth-is) (h .here)
+  pub none-stands : KindOf w depth rows a Nothing → Tagged w x depth rows a (Refused a)
+  none-stands (second-root d r) o f t h = go o (h .depth-is) (h .here)
     where
       go : (o : List Open) → depth ≡ length o → At w a (inRun o f t) → OutsideAt w a
       go [] e k =
@@ -205,19 +212,17 @@ module _ {w : List ℕ} {x depth rows a : ℕ} where
         may [] e = sym (h .none-yet e) ∙ eq-eqb rows 0 (r e)
         may (p ∷ o) e = refl
 
-  pub first-start : (r : Tag) → depth ≡ 0 → rows ≡ 0 → Started w (a + 1) r → Tagged w x depth rows a r
-  first-start r d e s o f t h = s o f t (less h (λ q. e)) (λ q. go o (h .depth-is))
+  pub start-stands : (r : Tag) → KindOf w depth rows a Start → Started w (a + 1) r → Tagged w x depth rows a r
+  start-stands r (inner-start d e) s o f t h = s o f t (less h (λ q. absurd (d q))) (λ q. absurd (e q))
+  start-stands r (root d e) s o f t h = s o f t (less h (λ q. e)) (λ q. go o (h .depth-is))
     where
       go : (o : List Open) → depth ≡ length o → o ≡ []
       go [] y = refl
       go (p ∷ o) y = absurd (omega (arith, d, y))
 
-  pub inner-start : (r : Tag) → (depth ≡ 0 → ⊥) → (getD w (a + 1) 0 ≡ 47 → ⊥) → Started w (a + 1) r → Tagged w x depth rows a r
-  inner-start r d e s o f t h = s o f t (less h (λ q. absurd (d q))) (λ q. absurd (e q))
-
-  pub inner-end : (r : Tag) → (depth ≡ 0 → ⊥) → getD w (a + 1) 0 ≡ 47 → Ended w x (a + 2) r → Tagged w x depth rows a r
+  pub end-stands : (r : Tag) → KindOf w depth rows a End → Ended w x (a + 2) r → Tagged w x depth rows a r
   unfolding nameStart classOf
-  inner-end r d e s o f t h = go o (h .depth-is) (h .top) (less h (λ q. absurd (d q)))
+  end-stands r (inner-end d e) s o f t h = go o (h .depth-is) (h .top) (less h (λ q. absurd (d q)))
     where
       go : (o : List Open) → depth ≡ length o → Top w x o → At w (a + 1) (afterLess o f t) → Does w (a + 1) o f t r
       go [] y n k = absurd (d y)

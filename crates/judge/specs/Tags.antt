@@ -5,13 +5,15 @@ use mathlib.Core.List.{List, [], _∷_}
 use Prim.Native.Nat.{ℕ, _+_, _-_, _≤_, _<_}
 use lib.Dec.{eqb}
 use lib.ListN.{length, getD}
-use Rattle.grammar.specs.Grammar.{Bytes, ε, _⊲_, Content, nothing, emptyElement, element, noElement}
+use Rattle.grammar.specs.Grammar.{Bytes, ε, _⊲_, less, slash, Content, nothing, emptyElement, element, noElement}
 use Rattle.grammar.specs.Place.{OutsideAt}
 use Rattle.grammar.specs.Tree.{inked}
 use Rattle.grammar.specs.Rows.{#}
 use Rattle.grammar.specs.Machine.{Open, inRun, afterLess, inEndName, At}
 use Rattle.judge.specs.declared.tags.Tag.{Tag}
 use Rattle.judge.specs.declared.tags.Tag.the-variants.{Refused, Opens, Empty, Closes}
+use Rattle.judge.specs.declared.tags.Kind.{Kind}
+use Rattle.judge.specs.declared.tags.Kind.the-variants.{Nothing, Start, End}
 use Rattle.judge.specs.Tokens.{Span, bytes, nameAt, levelOf, runAt}
 
 -- the run that starts at a ends at r, and makes so many rows
@@ -68,7 +70,7 @@ Ends w a o f t (Closes e) = (a < e) × Closed w e o f t
 -- the byte at a may be a / only where no element is open
 abbrev pub Started : List ℕ → ℕ → Tag → Type 0
 Started w a r =
-    (o : List Open) (f : Content) (t : Bytes) → At w a (afterLess o f t) → (getD w a 0 ≡ 47 → o ≡ []) → Does w a o f t r
+    (o : List Open) (f : Content) (t : Bytes) → At w a (afterLess o f t) → (getD w a 0 ≡ slash → o ≡ []) → Does w a o f t r
 
 abbrev pub Ended : List ℕ → ℕ → ℕ → Tag → Type 0
 Ended w name a r =
@@ -82,10 +84,17 @@ Top w name (p ∷ o) = Named w name (p .name)
 
 pub record Tagging (w : List ℕ) (name depth rows a : ℕ) (o : List Open) (f : Content) (t : Bytes) : Type 0 where
   pub here : At w a (inRun o f t)
-  pub less : getD w a 0 ≡ 60
+  pub less : getD w a 0 ≡ less
   pub depth-is : depth ≡ length o
   pub top : Top w name o
   pub none-yet : depth ≡ 0 → eqb rows 0 ≡ noElement f
+
+-- what may stand at the < at a
+pub data KindOf (w : List ℕ) (depth rows a : ℕ) : Kind → Type 0 where
+  second-root : depth ≡ 0 → 0 < rows → KindOf w depth rows a Nothing
+  root : depth ≡ 0 → rows ≡ 0 → KindOf w depth rows a Start
+  inner-start : (depth ≡ 0 → ⊥) → (getD w (a + 1) 0 ≡ slash → ⊥) → KindOf w depth rows a Start
+  inner-end : (depth ≡ 0 → ⊥) → getD w (a + 1) 0 ≡ slash → KindOf w depth rows a End
 
 abbrev pub Tagged : List ℕ → ℕ → ℕ → ℕ → ℕ → Tag → Type 0
 Tagged w name depth rows a r =

@@ -6,7 +6,8 @@ use Prim.Native.Nat.{ℕ, zero, suc, _+_, _-_, _*_, _≤_, _<_}
 use lib.Dec.{eqb, ltb}
 use lib.ListN.{length, getD}
 use Rattle.grammar.specs.Classes.{classOf, white, nameByte}
-use Rattle.grammar.specs.Grammar.{Bytes, ε, _▸_, mayFollow, Level, outer, inner}
+use Rattle.grammar.specs.Tokens.{Automaton, after}
+use Rattle.grammar.specs.Grammar.{Bytes, ε, _▸_, spaceToken, nameToken, runToken, Level, outer, inner}
 
 -- a table that has the class of each ASCII code
 pub record Coded (table : List ℕ) : Type 0 where
@@ -48,20 +49,24 @@ pub record SpanTo (test : ℕ → Bool) (w : List ℕ) (a limit r : ℕ) : Type 
   pub below : r ≤ limit
   pub stop : r < limit → test r ≡ false
 
+-- the byte at k may stand in white space, or in a name behind its first byte
 abbrev pub whiteAt : List ℕ → ℕ → Bool
-whiteAt w k = white (getD w k 0)
+whiteAt w k = spaceToken .goes 0 (getD w k 0)
 
 abbrev pub nameAt : List ℕ → ℕ → Bool
-nameAt w k = nameByte (getD w k 0)
+nameAt w k = nameToken .goes 1 (getD w k 0)
 
 -- outside the root depth is 0
 abbrev pub levelOf : ℕ → Level
 levelOf zero = outer
 levelOf (suc n) = inner
 
--- the byte at k goes on with the run that starts at a
+-- the byte at k goes on with the token that starts at a
+abbrev pub goesAt : Automaton → List ℕ → ℕ → ℕ → Bool
+goesAt A w a k = A .goes (after A (bytes w a (k - a))) (getD w k 0)
+
 unfoldable pub runAt : Level → List ℕ → ℕ → ℕ → Bool
-runAt l w a k = mayFollow l (bytes w a (k - a)) (getD w k 0)
+runAt l w a k = goesAt (runToken l) w a k
 
 abbrev pub textAt : List ℕ → ℕ → ℕ → Bool
 textAt w a k = runAt inner w a k

@@ -5,7 +5,19 @@ ghost use Rattle.grammar.specs.Classes.{classOf};
 ghost use Prim.Native.Nat.{_≤_};
 ghost use Rattle.judge.specs.Tokens.{Coded, Spread, Classed, stopOf};
 
-// 0 none, 1 `>`, 2 other text, 3 white space, 4 in a name, 5 first in a name
+// The classes by name: in no name and no text; `>`, which is text, but not behind `]]`; white space; in a name, not first; in a name. Of
+// class 2 is other text.
+pub const NONE: u8 = 0;
+
+pub const GREATER: u8 = 1;
+
+pub const WHITE: u8 = 3;
+
+pub const IN_NAME: u8 = 4;
+
+pub const FIRST: u8 = 5;
+
+// The class of each of the 128 ASCII codes.
 pub const CLASS: [u8; 128] = [
     0,
     0,
@@ -148,7 +160,7 @@ fn codes() -> [u8; 128]
 fn stop_of(c: u8) -> u8
     ensures { λ r. ⌜ r ≡ stopOf c ⌝ }
 {
-    if 1 < c { 0 } else { 1 }
+    if GREATER < c { 0 } else { 1 }
 }
 
 // The class of each of the 256 bytes, which no byte over 127 has, and room for as many numbers more.

@@ -1,17 +1,29 @@
 // Judging a document, in one pass and with nothing written.
 ghost use mathlib.Core.Path.{_≡_};
-ghost use Prim.Native.Nat.{_≤_, _<_, max};
+ghost use Prim.Native.Nat.{_+_, _≤_, _<_, max};
 ghost use lib.ListN.{length};
 ghost use Rattle.judge.specs.Tokens.{Classed};
 ghost use Rattle.judge.specs.Tags.{RunTo, Done, Last};
 ghost use Rattle.judge.specs.Verdict.{Verdict};
 
 pub mod class;
+pub mod codes;
+pub mod stack;
 pub mod tags;
 pub mod tokens;
 
 use class::byte_at;
 use class::table;
+use codes::DEEPEST;
+use codes::MOST_BYTES;
+use codes::MOST_ROWS;
+use codes::OUTSIDE;
+use codes::READ;
+use codes::TOO_DEEP;
+use codes::TOO_LONG;
+use codes::TOO_MANY;
+use stack::pop;
+use stack::push;
 use tags::Tag;
 use tags::next_tag;
 use tokens::text_end;
@@ -48,10 +60,21 @@ fn larger(a: usize, b: usize) -> usize
     if a < b { b } else { a }
 }
 
-fn wide(x: u16) -> usize
-    ensures { λ r. ⌜ (r ≡ x) × (r < 65536) ⌝ }
+// How many rows there are so far, and how deep the deepest is.
+struct Seen {
+    rows: usize,
+    deep: usize,
+}
+
+// So many rows more, of this depth.
+fn more(seen: Seen, rows: usize, depth: usize) -> Seen
+    requires { ⌜ (seen .rows ≤ 65537) × (rows ≤ 1) ⌝ }
+    ensures { λ r. ⌜ (r .rows ≡ seen .rows + rows) × (r .deep ≡ max (seen .deep) depth) ⌝ }
 {
-    x as usize
+    Seen {
+        rows: seen.rows + rows,
+        deep: larger(seen.deep, depth),
+    }
 }
 
 // The code of the first rule that is broken, or 0; the place, 0 unless the code is 3; the rows, 0 unless it is 0.
@@ -66,7 +89,7 @@ pub fn outside(place: usize) -> Judged
     ensures { λ r. ⌜ (r .code ≡ 3) × (r .place ≡ place) × (r .rows ≡ 0) ⌝ }
 {
     Judged {
-        code: 3,
+        code: OUTSIDE,
         place: place as u32,
         rows: 0,
     }
@@ -76,22 +99,22 @@ pub fn outside(place: usize) -> Judged
 fn whole(rows: usize, deep: usize) -> Judged
     ensures { λ r. ⌜ Done rows deep (r .code) (r .place) (r .rows) ⌝ }
 {
-    if 64 < deep {
+    if DEEPEST < deep {
         return Judged {
-            code: 4,
+            code: TOO_DEEP,
             place: 0,
             rows: 0,
         };
     }
-    if 2048 < rows {
+    if MOST_ROWS < rows {
         return Judged {
-            code: 5,
+            code: TOO_MANY,
             place: 0,
             rows: 0,
         };
     }
     Judged {
-        code: 0,
+        code: READ,
         place: 0,
         rows: rows as u32,
     }
@@ -123,36 +146,31 @@ fn pass(document: &[u8], class: &[u8; 512]) -> Judged
     let mut names = [0u16; 10922];
     let mut name: usize = 0;
     let mut depth: usize = 0;
-    let mut rows: usize = 0;
-    let mut deep: usize = 0;
+    let mut seen = Seen { rows: 0, deep: 0 };
     let mut i: usize = 0;
     loop {
         let text = run_end(document, class, depth, i);
         let at = text.end;
-        let leaves = text.rows;
-        rows = rows + leaves;
-        deep = larger(deep, depth + leaves);
-        if byte_at(document, at) != 60 {
-            return last(document.len(), at, depth, rows, deep);
+        seen = more(seen, text.rows, depth + text.rows);
+        if byte_at(document, at) != b'<' {
+            return last(document.len(), at, depth, seen.rows, seen.deep);
         }
-        match next_tag(document, class, name, depth, rows, at) {
+        match next_tag(document, class, name, depth, seen.rows, at) {
             Tag::Refused(place) => return outside(place),
             Tag::Opens(_, next) => {
-                names[depth] = name as u16;
+                push(&mut names, depth, name);
                 name = at + 1;
                 depth = depth + 1;
-                rows = rows + 1;
-                deep = larger(deep, depth);
+                seen = more(seen, 1, depth);
                 i = next;
             }
             Tag::Empty(_, next) => {
-                rows = rows + 1;
-                deep = larger(deep, depth + 1);
+                seen = more(seen, 1, depth + 1);
                 i = next;
             }
             Tag::Closes(next) => {
                 depth = depth - 1;
-                name = wide(names[depth]);
+                name = pop(&names, depth);
                 i = next;
             }
         }
@@ -162,9 +180,9 @@ fn pass(document: &[u8], class: &[u8; 512]) -> Judged
 pub fn judge(document: &[u8]) -> Judged
     ensures { λ r. ⌜ Verdict (now (document .entry)) (r .code) (r .place) (r .rows) ⌝ }
 {
-    if 32768 < document.len() {
+    if MOST_BYTES < document.len() {
         return Judged {
-            code: 2,
+            code: TOO_LONG,
             place: 0,
             rows: 0,
         };

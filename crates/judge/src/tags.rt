@@ -2,7 +2,9 @@
 ghost use Prim.Native.Nat.{_≤_, _<_};
 ghost use lib.ListN.{length};
 ghost use Rattle.judge.specs.Tokens.{Classed};
-ghost use Rattle.judge.specs.Tags.{Started, Ended, Tagged};
+ghost use Rattle.judge.specs.Tags.{Started, Ended, Tagged, KindOf};
+use super::class::FIRST;
+use super::class::WHITE;
 use super::class::byte_at;
 use super::class::class_of;
 use super::tokens::name_end;
@@ -22,17 +24,17 @@ pub fn start_tag(document: &[u8], class: &[u8; 512], at: usize) -> Tag
     requires { ⌜ Classed (now class) × (at ≤ length (now document)) ⌝ }
     ensures { λ r. ⌜ Started (now (document .entry)) at r ⌝ }
 {
-    if class_of(class, byte_at(document, at)) < 5 {
+    if class_of(class, byte_at(document, at)) < FIRST {
         return Tag::Refused(at);
     }
     let end = name_end(document, class, at + 1);
     let shut = white_end(document, class, end);
     let b = byte_at(document, shut);
-    if b == 62 {
+    if b == b'>' {
         return Tag::Opens(end, shut + 1);
     }
-    if b == 47 {
-        if byte_at(document, shut + 1) == 62 {
+    if b == b'/' {
+        if byte_at(document, shut + 1) == b'>' {
             return Tag::Empty(end, shut + 2);
         }
         return Tag::Refused(shut + 1);
@@ -47,14 +49,38 @@ pub fn end_tag(document: &[u8], class: &[u8; 512], name: usize, at: usize) -> Ta
 {
     let end = same_end(document, class, name, at);
     let rest = name + (end - at);
-    if 3 < class_of(class, byte_at(document, rest)) {
+    if WHITE < class_of(class, byte_at(document, rest)) {
         return Tag::Refused(end);
     }
     let shut = white_end(document, class, end);
-    if byte_at(document, shut) == 62 {
+    if byte_at(document, shut) == b'>' {
         return Tag::Closes(shut + 1);
     }
     Tag::Refused(shut)
+}
+
+// What may stand at a `<`: nothing, behind the root; a start tag; or an end tag.
+pub enum Kind {
+    Nothing,
+    Start,
+    End,
+}
+
+// Which of them stands at `at`, in `depth` open elements and behind `rows` rows.
+pub fn stands(document: &[u8], depth: usize, rows: usize, at: usize) -> Kind
+    requires { ⌜ at < length (now document) ⌝ }
+    ensures { λ r. ⌜ KindOf (now (document .entry)) depth rows at r ⌝ }
+{
+    if depth == 0 {
+        if 0 < rows {
+            return Kind::Nothing;
+        }
+        return Kind::Start;
+    }
+    if byte_at(document, at + 1) == b'/' {
+        return Kind::End;
+    }
+    Kind::Start
 }
 
 // The tag whose `<` stands at `at`, in `depth` open elements and behind `rows` rows.
@@ -69,14 +95,9 @@ pub fn next_tag(
     requires { ⌜ Classed (now class) × (at < length (now document)) × (name < 65536) ⌝ }
     ensures { λ r. ⌜ Tagged (now (document .entry)) name depth rows at r ⌝ }
 {
-    if depth == 0 {
-        if 0 < rows {
-            return Tag::Refused(at);
-        }
-        return start_tag(document, class, at + 1);
+    match stands(document, depth, rows, at) {
+        Kind::Nothing => Tag::Refused(at),
+        Kind::Start => start_tag(document, class, at + 1),
+        Kind::End => end_tag(document, class, name, at + 2),
     }
-    if byte_at(document, at + 1) == 47 {
-        return end_tag(document, class, name, at + 2);
-    }
-    start_tag(document, class, at + 1)
 }

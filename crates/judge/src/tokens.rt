@@ -6,6 +6,10 @@ ghost use lib.ListN.{length};
 ghost use Rattle.grammar.specs.Classes.{white};
 ghost use Rattle.grammar.specs.Grammar.{brackets};
 ghost use Rattle.judge.specs.Tokens.{Classed, Passed, Span, SpanTo, bytes, digits, stopAt, whiteAt, nameAt, plainAt, textAt, sameAt};
+use super::class::GREATER;
+use super::class::IN_NAME;
+use super::class::NONE;
+use super::class::WHITE;
 use super::class::byte_at;
 use super::class::class_of;
 use super::class::stops;
@@ -17,7 +21,7 @@ fn white_to(document: &[u8], class: &[u8; 512], from: usize, limit: usize) -> us
 {
     let mut i = from;
     while i < limit {
-        if class_of(class, document[i]) != 3 {
+        if class_of(class, document[i]) != WHITE {
             return i;
         }
         i += 1;
@@ -35,7 +39,7 @@ pub fn white_end(document: &[u8], class: &[u8; 512], from: usize) -> usize
 fn is_white(b: u8) -> bool
     ensures { λ r. ⌜ r ≡ white b ⌝ }
 {
-    (b == 9) | (b == 10) | (b == 32)
+    (b == b'\t') | (b == b'\n') | (b == b' ')
 }
 
 // Are the 16 bytes from i on white? The compiler makes one comparison of vectors of the loop.
@@ -92,7 +96,7 @@ pub fn name_end(document: &[u8], class: &[u8; 512], from: usize) -> usize
 {
     let mut i = from;
     while i < document.len() {
-        if class_of(class, document[i]) < 4 {
+        if class_of(class, document[i]) < IN_NAME {
             return i;
         }
         i += 1;
@@ -108,8 +112,8 @@ fn bracketed(document: &[u8], start: usize, k: usize) -> bool
     if k - start < 2 {
         return false;
     }
-    if document[k - 2] == 93 {
-        return document[k - 1] == 93;
+    if document[k - 2] == b']' {
+        return document[k - 1] == b']';
     }
     false
 }
@@ -119,10 +123,10 @@ fn text_at(document: &[u8], class: &[u8; 512], start: usize, k: usize) -> bool
     ensures { λ r. ⌜ r ≡ textAt (now (document .entry)) start k ⌝ }
 {
     let c = class_of(class, document[k]);
-    if 1 < c {
+    if GREATER < c {
         return true;
     }
-    if c == 0 {
+    if c == NONE {
         return false;
     }
     !bracketed(document, start, k)
@@ -190,13 +194,17 @@ pub fn text_end(document: &[u8], class: &[u8; 512], start: usize, from: usize) -
     text_to(document, class, start, from, document.len())
 }
 
-// The same where a text is likely to follow. Behind a byte that stops plain text another one is likely: so a few go one by one.
+// The same where a text is likely to follow. What stops plain text is mostly the `<` of a tag; behind another byte that does, one more is
+// likely: so a few go one by one.
 pub fn long_text_end(document: &[u8], class: &[u8; 512], start: usize, from: usize) -> usize
     requires { ⌜ Classed (now class) × Passed (textAt (now document) start) (now document) start from ⌝ }
     ensures { λ r. ⌜ Span (textAt (now (document .entry)) start) (now (document .entry)) start r ⌝ }
 {
     let mut i = plain_end(document, class, from);
     while i < document.len() {
+        if document[i] == b'<' {
+            return i;
+        }
         let near = least(i + 16, document.len());
         let end = text_to(document, class, start, i, near);
         if end < near {
@@ -216,7 +224,7 @@ pub fn same_end(document: &[u8], class: &[u8; 512], name: usize, from: usize) ->
     let mut k = name;
     while i < document.len() {
         let e = byte_at(document, k);
-        if class_of(class, e) < 4 {
+        if class_of(class, e) < IN_NAME {
             return i;
         }
         if document[i] != e {

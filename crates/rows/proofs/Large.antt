@@ -7,7 +7,7 @@ use native.Mathlib.Omega.{arith}
 use lib.ListN.{length, getD, length-append}
 use Rattle.grammar.specs.Grammar.{Bytes, ε, Content, nothing, emptyElement, element}
 use Rattle.grammar.specs.Tree.{inked}
-use Rattle.grammar.specs.Rows.{#, width, Row, row, leafRow, rowsFrom, rowsOf}
+use Rattle.grammar.specs.Rows.{#, width, Row, row, leafRow, rowsFrom, rowsOf, ofElement, ofText}
 use Rattle.grammar.specs.Machine.{Open, State, At}
 use Rattle.grammar.proofs.Trees.{leafRows, contentRows, contentDepth, shape-rows, shape-depth}
 use Rattle.grammar.proofs.Rows.{All, all-at}
@@ -17,20 +17,20 @@ use Rattle.judge.proofs.Judging.{rowsO as countO}
 use Rattle.rows.specs.Notes.{TooLarge}
 
 abbrev pub no-row : Row
-no-row = row 0 0 ε
+no-row = row ofText 0 0 ε
 
 -- HOW MANY ROWS
 pub leaf-count : (R : List Row) (k a : ℕ) (t : Bytes) → length (leafOn R k a t) ≡ length R + leafRows t
 unfolding leafOn leafRows
 leaf-count R k a t = go (inked t)
   where
-    go : (y : Bool) → length (cond y (R ++ (row k a t ∷ [])) R) ≡ length R + cond y 1 0
-    go true = length-append R (row k a t ∷ [])
+    go : (y : Bool) → length (cond y (R ++ (row ofText k a t ∷ [])) R) ≡ length R + cond y 1 0
+    go true = length-append R (row ofText k a t ∷ [])
     go false = omega arith
 
 named-count : (R : List Row) (k a : ℕ) (t n : Bytes) → length (namedOn R k a t n) ≡ length R + leafRows t + 1
 unfolding namedOn
-named-count R k a t n = length-append (leafOn R k a t) (row k (a + # t + 1) n ∷ []) ∙ omega (arith, leaf-count R k a t)
+named-count R k a t n = length-append (leafOn R k a t) (row ofElement k (a + # t + 1) n ∷ []) ∙ omega (arith, leaf-count R k a t)
 
 on-count : (R : List Row) (k a : ℕ) (f : Content) → length (rowsOn R k a f) ≡ length R + contentRows f
 unfolding rowsOn contentRows
@@ -60,7 +60,7 @@ Within d x = x .depth ≤ d
 leaf-within : (d k a : ℕ) (t : Bytes) (R : List Row) → k ≤ d → All (Within d) R → All (Within d) (leafRow k a t R)
 leaf-within d k a t R p h = go (inked t)
   where
-    go : (y : Bool) → All (Within d) (cond y (row k a t ∷ R) R)
+    go : (y : Bool) → All (Within d) (cond y (row ofText k a t ∷ R) R)
     go true = (p, h)
     go false = h
 
@@ -68,7 +68,7 @@ last-within : (d k a c : ℕ) (t : Bytes) (R : List Row) → k + suc (max c (lea
 unfolding leafRows
 last-within d k a c t R p h = go (inked t) p
   where
-    go : (y : Bool) → k + suc (max c (cond y 1 0)) ≤ suc d → All (Within d) (cond y (row (suc k) a t ∷ R) R)
+    go : (y : Bool) → k + suc (max c (cond y 1 0)) ≤ suc d → All (Within d) (cond y (row ofText (suc k) a t ∷ R) R)
     go true q = (omega (arith, q), h)
     go false q = h
 

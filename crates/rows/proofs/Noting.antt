@@ -1,14 +1,14 @@
 -- What the pass that notes the rows keeps, and what it ends with.
 use mathlib.Core.Path.{_≡_, refl, sym, ap, _∙_}
 use mathlib.Core.Bool.{Bool, true, false, cond}
-use mathlib.Core.List.{List, [], _∷_, _++_, map}
+use mathlib.Core.List.{List, [], _∷_, _++_, map, map-append}
 use Prim.Native.Nat.{ℕ, suc, _+_, _-_, _≤_, _<_, max}
 use native.Mathlib.Omega.{arith}
 use lib.ListN.{length, getD, set, length-set, length-map, length-append}
 use lib.Seq.{getD-set-same, getD-set-other}
 use Rattle.grammar.specs.Grammar.{Bytes, Content, nothing, emptyElement, element}
 use Rattle.grammar.specs.Tree.{inked}
-use Rattle.grammar.specs.Rows.{#, width, Row, row}
+use Rattle.grammar.specs.Rows.{#, width, Row, row, ofText}
 use Rattle.grammar.specs.Machine.{Open, afterLess, At}
 use Rattle.grammar.proofs.Trees.{leafRows, contentRows, contentDepth, shape-depth}
 use Rattle.grammar.proofs.Positions.{offO, posS, at-place}
@@ -17,9 +17,10 @@ use Rattle.judge.specs.Tokens.{Span, bytes, nameAt}
 use Rattle.judge.specs.Tags.{RunTo, Named, opened, Closed, closed, OpenedTo, EmptyTo, Top, Tagging}
 use Rattle.judge.proofs.Turns.{count, less}
 use Rattle.judge.proofs.Judging.{rowsO as countO, deepO, Walked, Finished, made, to-tag, refused, finished}
-use Rattle.rows.specs.Notes.{Holds, Long, Put, RowsNoted, TooLarge, Notes, LastOf, ended, early}
+use Rattle.labels.specs.Lists.{Holds, Long, Put}
+use Rattle.rows.specs.Notes.{RowsNoted, TooLarge, Notes, LastOf, ended, early}
 use Rattle.rows.specs.declared.note.Noted.{Noted}
-use Rattle.rows.proofs.Holding.{holds-beside, holds-more, holds-again, row-more}
+use Rattle.labels.proofs.Holding.{holds-beside, holds-more, holds-again}
 use Rattle.rows.proofs.Sizes.{leafSizes, sizesOn, sizesO, beforeO, sizes-long, open-long, before-long, own-size, sizes-tree}
 use Rattle.rows.proofs.Large.{leaf-count, run-count, too-many, too-deep}
 
@@ -91,6 +92,10 @@ begins w S L Z H long h = record {
   held = omega arith;
 }
 
+row-more : (g : Row → ℕ) (R : List Row) (x : Row) (l : List ℕ) (n : ℕ) → length (map g R) ≡ n → n < length l → Holds (map g R) l →
+    Holds (map g (R ++ (x ∷ []))) (set l n (g x))
+row-more g R x l n e h k = rw (map-append g R (x ∷ [])) (holds-more (map g R) l n (g x) e h k)
+
 -- a row is put behind those that are noted, and may count
 row-put : (g : Row → ℕ) (y : Bool) (R : List Row) (x : Row) (l l' : List ℕ) (n v : ℕ) → length R ≡ n → n < length l → Holds (map g R) l → g x ≡ v → l' ≡ set l n v →
     Holds (map g (cond y (R ++ (x ∷ [])) R)) l'
@@ -126,6 +131,14 @@ shallow-close a l b c r h k =
 
     inner : l + b ≤ 64 → suc l + c ≤ 64 → l + max b (suc (max c r)) ≤ 64
     inner p q = omega arith
+
+pub few-open : {w S L Z H : List ℕ} {i x depth n : ℕ} → Noting w S L Z H i x depth n → depth ≤ 64
+unfolding deepO
+few-open {w} {S} {L} {Z} {H} {i} {x} {depth} k = go (k .walked .o) (k .walked .depth-is) (k .shallow)
+  where
+    go : (o : List Open) → depth ≡ length o → max (deepO o) (length o + contentDepth (k .walked .f)) ≤ 64 → depth ≤ 64
+    go [] d s = omega (arith, d)
+    go (p ∷ o) d s = omega (arith, d, s)
 
 -- A TURN: the run that starts at i ends at a, and makes m rows
 module _ {w S L Z H : List ℕ} {i x depth n : ℕ} (k : Noting w S L Z H i x depth n) (few : n ≤ 2048) {a m : ℕ} (run : RunTo w depth i a m) where
@@ -356,14 +369,6 @@ module _ {w S L Z H : List ℕ} {i x depth n : ℕ} (k : Noting w S L Z H i x de
     ends b r (early h) = refused (k .walked) run b h
 
     -- BEYOND THE LIMITS
-    pub few-open : depth ≤ 64
-    unfolding deepO
-    few-open = go O (k .walked .depth-is) (k .shallow)
-      where
-        go : (o : List Open) → depth ≡ length o → max (deepO o) (length o + contentDepth F) ≤ 64 → depth ≤ 64
-        go [] d s = omega (arith, d)
-        go (p ∷ o) d s = omega (arith, d, s)
-
     pub deep-text : getD w a 0 ≡ 60 → 64 < depth + m → TooLarge w
     unfolding rowsS leafOn
     deep-text b h = go (inked T) (run .makes) refl
@@ -372,8 +377,8 @@ module _ {w S L Z H : List ℕ} {i x depth n : ℕ} (k : Noting w S L Z H i x de
         there = less (tagging refl refl b) (λ d. absurd (omega (arith, d, h, few-made)))
 
         go : (y : Bool) → m ≡ cond y 1 0 → inked T ≡ y → TooLarge w
-        go true e q = too-deep there (atRun O F) (row (suc (length O)) (offO O + width F) T) (simp q) (omega (arith, h, few-made, k .walked .depth-is))
-        go false e q = absurd (omega (arith, h, e, few-open))
+        go true e q = too-deep there (atRun O F) (row ofText (suc (length O)) (offO O + width F) T) (simp q) (omega (arith, h, few-made, k .walked .depth-is))
+        go false e q = absurd (omega (arith, h, e, few-open k))
 
     pub deep-open : {e r : ℕ} → OpenedTo w (a + 1) e r O F T → 63 < depth → TooLarge w
     unfolding rowsS rowsOn rowsO namedOn

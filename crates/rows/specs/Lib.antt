@@ -1,2 +1,3 @@
-pub mod Filled
+pub mod Places
 pub mod Notes
+pub mod Turns

@@ -1,33 +1,16 @@
 -- Not needed to believe the promise: what the pass over a document notes of its rows.
 use mathlib.Core.Path.{_≡_}
-use mathlib.Core.List.{List, _++_}
+use mathlib.Core.List.{List}
 use Prim.Native.Nat.{ℕ, _≤_, _<_}
-use lib.ListN.{length, set}
 use Rattle.meaning.specs.Forest.{rows}
 use Rattle.tree.specs.Rows.{depth, sizes}
 use Rattle.grammar.specs.Grammar.{Bytes, Content, Document}
 use Rattle.grammar.specs.Place.{OutsideAt}
 use Rattle.grammar.specs.Tree.{shape}
-use Rattle.rows.specs.Filled.{starts, lengths}
+use Rattle.labels.specs.Lists.{Holds, Long}
+use Rattle.rows.specs.Places.{starts, lengths}
 use Rattle.rows.specs.declared.note.Noted.{Noted}
 use Rattle.rows.specs.declared.note.Noted.the-variants.{Rows, Outside, Beyond}
-
--- the list has these numbers first
-pub record Holds (xs l : List ℕ) : Type 0 where
-  pub rest : List ℕ
-  pub is : l ≡ xs ++ rest
-
--- the three lists have room for 2,052 rows
-pub record Long (s l z : List ℕ) : Type 0 where
-  pub starts-long : length s ≡ 2052
-  pub lengths-long : length l ≡ 2052
-  pub sizes-long : length z ≡ 2052
-
--- three lists, each with one entry stored
-pub record Put (row start size : ℕ) (s l z s' l' z' : List ℕ) : Type 0 where
-  pub start-put : s' ≡ set s row start
-  pub length-put : l' ≡ set l row size
-  pub size-put : z' ≡ set z row 1
 
 -- the n rows of a document within the limits
 pub record RowsNoted (w s l z : List ℕ) (n : ℕ) : Type 0 where

@@ -1,17 +1,28 @@
 // One pass over a document, which notes the start, the length and the size of each row in lists of its own.
-ghost use mathlib.Core.Path.{_≡_};
-ghost use Prim.Native.Nat.{_≤_, _<_};
-ghost use lib.ListN.{length, getD};
+ghost use mathlib.Core.List.{List};
+ghost use Prim.Native.Nat.{_≤_};
+ghost use lib.ListN.{length};
+ghost use Rattle.grammar.specs.Grammar.{Bytes, Content};
+ghost use Rattle.grammar.specs.Machine.{Open};
 ghost use Rattle.judge.specs.Tokens.{Classed};
 ghost use Rattle.judge.specs.Tags.{RunTo};
-ghost use Rattle.rows.specs.Notes.{Long, Put, LastOf, Notes};
+ghost use Rattle.labels.specs.Lists.{Long};
+ghost use Rattle.rows.specs.Notes.{LastOf, Notes};
+ghost use Rattle.rows.specs.Turns.{MayTag, TagDone, MayTurn, TurnDone};
 use super::tags::next_tag;
 use judge::Run;
 use judge::class::byte_at;
 use judge::class::table;
+use judge::codes::DEEPEST;
+use judge::codes::MOST_ROWS;
+use judge::stack::pop;
+use judge::stack::push;
 use judge::tags::Tag;
 use judge::tokens::long_text_end;
 use judge::tokens::long_white_end;
+use labels::note::close;
+use labels::note::number;
+use labels::note::put;
 
 // So many rows are noted; or the place of code 3; or a document, if it is one, that is too deep or has too many rows.
 pub enum Noted {
@@ -20,32 +31,19 @@ pub enum Noted {
     Beyond,
 }
 
-fn wide(x: u16) -> usize
-    ensures { λ r. ⌜ (r ≡ x) × (r < 65536) ⌝ }
-{
-    x as usize
-}
-
-fn number(list: &[u16; 2052], i: usize) -> usize
-    requires { ⌜ i < 2052 ⌝ }
-    ensures { λ r. ⌜ (r ≡ getD (now (list .entry)) i 0) × (r < 65536) ⌝ }
-{
-    wide(list[i])
-}
-
 // The run that starts at `start`: most are empty or white space only.
 fn run(document: &[u8], class: &[u8; 512], depth: usize, start: usize) -> Run
     requires { ⌜ Classed (now class) × (start ≤ length (now document)) ⌝ }
     ensures { λ r. ⌜ RunTo (now (document .entry)) depth start (r .end) (r .rows) ⌝ }
 {
-    if byte_at(document, start) == 60 {
+    if byte_at(document, start) == b'<' {
         return Run {
             end: start,
             rows: 0,
         };
     }
     let white = long_white_end(document, class, start);
-    if byte_at(document, white) == 60 {
+    if byte_at(document, white) == b'<' {
         return Run {
             end: white,
             rows: 0,
@@ -64,22 +62,6 @@ fn run(document: &[u8], class: &[u8; 512], depth: usize, start: usize) -> Run
     Run { end: end, rows: 0 }
 }
 
-fn put(
-    starts: &mut [u16; 2052],
-    lengths: &mut [u16; 2052],
-    sizes: &mut [u16; 2052],
-    row: usize,
-    start: usize,
-    length: usize,
-)
-    requires { ⌜ (row < 2052) × (start < 65536) × (length < 65536) ⌝ }
-    ensures { λ _. ⌜ Put row start length (now (starts .entry)) (now (lengths .entry)) (now (sizes .entry)) (now (starts .exit)) (now (lengths .exit)) (now (sizes .exit)) ⌝ }
-{
-    starts[row] = start as u16;
-    lengths[row] = length as u16;
-    sizes[row] = 1;
-}
-
 // The answer where no tag follows: the last run ends at `at`.
 fn last(length: usize, at: usize, depth: usize, rows: usize) -> Noted
     ensures { λ r. ⌜ LastOf length at depth rows r ⌝ }
@@ -96,8 +78,85 @@ fn last(length: usize, at: usize, depth: usize, rows: usize) -> Noted
     Noted::Rows(rows)
 }
 
-// The pass. `top` is the row of the innermost open element, `open` has those of the elements around it. What is put at `row` is
-// a row only where it is counted.
+// What a turn of the pass comes to: the answer; or an element at this row, and then where its tag ends; or an end tag behind so many
+// rows, and where it ends.
+enum Turn {
+    Ends(Noted),
+    Opens(usize, usize),
+    Empty(usize, usize),
+    Closes(usize, usize),
+}
+
+// The tag whose `<` stands at `at`, behind `row` rows. `top` is the row of the innermost open element.
+fn read_tag(
+    document: &[u8],
+    class: &[u8; 512],
+    starts: &mut [u16; 2052],
+    lengths: &mut [u16; 2052],
+    sizes: &mut [u16; 2052],
+    top: usize,
+    depth: usize,
+    row: usize,
+    at: usize,
+) -> Turn
+    requires { ⌜ Classed (now class) × ((o : List Open) × (f : Content) × (t : Bytes) × MayTag (now document) (now starts) (now lengths) top depth row at o f t) ⌝ }
+    ensures { λ r. ⌜ ((o : List Open) (f : Content) (t : Bytes) → MayTag (now (document .entry)) (now (starts .entry)) (now (lengths .entry)) top depth row at o f t → TagDone (now (document .entry)) (now (starts .entry)) (now (lengths .entry)) (now (sizes .entry)) depth row at o f t (now (starts .exit)) (now (lengths .exit)) (now (sizes .exit)) r) ⌝ }
+{
+    let name = number(starts, top);
+    let length = number(lengths, top);
+    match next_tag(document, class, name, length, depth, row, at) {
+        Tag::Refused(place) => Turn::Ends(Noted::Outside(place)),
+        Tag::Opens(end, next) => {
+            if DEEPEST <= depth {
+                return Turn::Ends(Noted::Beyond);
+            }
+            put(starts, lengths, sizes, row, at + 1, end - (at + 1));
+            Turn::Opens(row, next)
+        }
+        Tag::Empty(end, next) => {
+            if DEEPEST <= depth {
+                return Turn::Ends(Noted::Beyond);
+            }
+            put(starts, lengths, sizes, row, at + 1, end - (at + 1));
+            Turn::Empty(row, next)
+        }
+        Tag::Closes(next) => Turn::Closes(row, next),
+    }
+}
+
+// One turn: the run that starts at `i`, and the tag behind it. What is put at `row` is a row only where it is counted.
+fn read_turn(
+    document: &[u8],
+    class: &[u8; 512],
+    starts: &mut [u16; 2052],
+    lengths: &mut [u16; 2052],
+    sizes: &mut [u16; 2052],
+    top: usize,
+    depth: usize,
+    row: usize,
+    i: usize,
+) -> Turn
+    requires { ⌜ Classed (now class) × ((o : List Open) × (f : Content) × MayTurn (now document) (now starts) (now lengths) (now sizes) top depth row i o f) ⌝ }
+    ensures { λ r. ⌜ ((o : List Open) (f : Content) → MayTurn (now (document .entry)) (now (starts .entry)) (now (lengths .entry)) (now (sizes .entry)) top depth row i o f → TurnDone (now (document .entry)) (now (starts .entry)) (now (lengths .entry)) (now (sizes .entry)) depth row i o f (now (starts .exit)) (now (lengths .exit)) (now (sizes .exit)) r) ⌝ }
+{
+    if MOST_ROWS < row {
+        return Turn::Ends(Noted::Beyond);
+    }
+    let text = run(document, class, depth, i);
+    let at = text.end;
+    let leaves = text.rows;
+    put(starts, lengths, sizes, row, i, at - i);
+    let row = row + leaves;
+    if byte_at(document, at) != b'<' {
+        return Turn::Ends(last(document.len(), at, depth, row));
+    }
+    if DEEPEST < depth + leaves {
+        return Turn::Ends(Noted::Beyond);
+    }
+    read_tag(document, class, starts, lengths, sizes, top, depth, row, at)
+}
+
+// The pass. `around` has the rows of the elements around the innermost open one, `top`.
 fn pass(
     document: &[u8],
     class: &[u8; 512],
@@ -108,53 +167,30 @@ fn pass(
     requires { ⌜ Classed (now class) × (lib.ListN.length (now document) ≤ 32768) × Long (now starts) (now lengths) (now sizes) ⌝ }
     ensures { λ r. ⌜ Notes (now (document .entry)) (now (starts .exit)) (now (lengths .exit)) (now (sizes .exit)) r ⌝ }
 {
-    let mut open = [0u16; 64];
+    let mut around = [0u16; 64];
     let mut top: usize = 0;
     let mut depth: usize = 0;
     let mut row: usize = 0;
     let mut i: usize = 0;
     loop {
-        if 2048 < row {
-            return Noted::Beyond;
-        }
-        let text = run(document, class, depth, i);
-        let at = text.end;
-        let leaves = text.rows;
-        put(starts, lengths, sizes, row, i, at - i);
-        row = row + leaves;
-        if byte_at(document, at) != 60 {
-            return last(document.len(), at, depth, row);
-        }
-        if 64 < depth + leaves {
-            return Noted::Beyond;
-        }
-        let name = number(starts, top);
-        let length = number(lengths, top);
-        match next_tag(document, class, name, length, depth, row, at) {
-            Tag::Refused(place) => return Noted::Outside(place),
-            Tag::Opens(end, next) => {
-                if 63 < depth {
-                    return Noted::Beyond;
-                }
-                put(starts, lengths, sizes, row, at + 1, end - (at + 1));
-                open[depth] = top as u16;
-                top = row;
+        match read_turn(document, class, starts, lengths, sizes, top, depth, row, i) {
+            Turn::Ends(answer) => return answer,
+            Turn::Opens(element, next) => {
+                push(&mut around, depth, top);
+                top = element;
                 depth = depth + 1;
-                row = row + 1;
+                row = element + 1;
                 i = next;
             }
-            Tag::Empty(end, next) => {
-                if 63 < depth {
-                    return Noted::Beyond;
-                }
-                put(starts, lengths, sizes, row, at + 1, end - (at + 1));
-                row = row + 1;
+            Turn::Empty(element, next) => {
+                row = element + 1;
                 i = next;
             }
-            Tag::Closes(next) => {
-                sizes[top] = (row - top) as u16;
+            Turn::Closes(behind, next) => {
+                close(sizes, top, behind);
                 depth = depth - 1;
-                top = wide(open[depth]);
+                top = pop(&around, depth);
+                row = behind;
                 i = next;
             }
         }

@@ -5,7 +5,9 @@ ghost use lib.ListN;
 ghost use Rattle.judge.specs.Tokens.{Classed, Span, nameAt};
 ghost use Rattle.judge.specs.Tags.{Ended, Tagged};
 use judge::class::byte_at;
+use judge::tags::Kind;
 use judge::tags::Tag;
+use judge::tags::stands;
 use judge::tags::start_tag;
 use judge::tokens::white_end;
 use words::stands_again;
@@ -19,11 +21,11 @@ fn end_tag(document: &[u8], class: &[u8; 512], name: usize, length: usize, at: u
         return judge::tags::end_tag(document, class, name, at);
     }
     let end = at + length;
-    if byte_at(document, end) == 62 {
+    if byte_at(document, end) == b'>' {
         return Tag::Closes(end + 1);
     }
     let shut = white_end(document, class, end);
-    if byte_at(document, shut) == 62 {
+    if byte_at(document, shut) == b'>' {
         return Tag::Closes(shut + 1);
     }
     Tag::Refused(shut)
@@ -42,14 +44,9 @@ pub fn next_tag(
     requires { ⌜ Classed (now class) × (at < ListN.length (now document)) × (name < 65536) × (0 < depth → Span (nameAt (now document)) (now document) name (name + length)) ⌝ }
     ensures { λ r. ⌜ Tagged (now (document .entry)) name depth rows at r ⌝ }
 {
-    if depth == 0 {
-        if 0 < rows {
-            return Tag::Refused(at);
-        }
-        return start_tag(document, class, at + 1);
+    match stands(document, depth, rows, at) {
+        Kind::Nothing => Tag::Refused(at),
+        Kind::Start => start_tag(document, class, at + 1),
+        Kind::End => end_tag(document, class, name, length, at + 2),
     }
-    if byte_at(document, at + 1) == 47 {
-        return end_tag(document, class, name, length, at + 2);
-    }
-    start_tag(document, class, at + 1)
 }

@@ -1,71 +1,67 @@
-use Prim.Native.Nat.{_+_}
-use mathlib.Core.Path.{sym, _∙_}
-use native.Mathlib.Omega.{arith}
-use Rattle.judge.proofs.Machine.{there}
-use Rattle.judge.proofs.Turns.{second, first-start, inner-start, inner-end}
+use mathlib.Core.Path.{subst}
+use Rattle.judge.specs.Tags.{KindOf}
+use Rattle.judge.specs.declared.tags.Kind.{Kind}
+use Rattle.judge.specs.declared.tags.Kind.the-variants.{Start, End}
+use Rattle.judge.proofs.Turns.{end-within, none-stands, start-stands, end-stands}
 use borrow.Author.Needs.{needs}
 use Rattle.judge.proofs.tags.next_tag.Statement.{statement}
 use Rattle.judge.proofs.tags.next_tag.Tie as tie
 
-returns : tie.Need-returns
-returns c = second (c .before .if1 .taken) (c .if2 .taken)
+-- what stands at the place, in the arms
+abbrev stands : tie.After-stands → Kind → Type 0
+stands c = let a = c .before .before .args in KindOf (a .document .now) (a .depth) (a .rows) (a .at)
+
+starts : (c : tie.After-enum-told2) → stands (c .before .before) Start
+starts c = subst (stands (c .before .before)) (c .enum-told2 .given .1) (c .before .before .stands .ensures)
+
+ends : (c : tie.After-enum-told3) → stands (c .before .before) End
+ends c = subst (stands (c .before .before)) (c .enum-told3 .given .1) (c .before .before .stands .ensures)
+
+stands-requires : tie.Need-stands-requires
+stands-requires c κs = search needs
+
+enum-told : tie.Need-enum-told
+enum-told c = search needs
+
+enum-told-2 : tie.Need-enum-told-2
+enum-told-2 c = search needs
 
 add-start-tag : tie.Need-add-start-tag
 add-start-tag c = search needs
 
 start-tag-requires : tie.Need-start-tag-requires
-start-tag-requires c κs = (c .before .before .before .pre .0, omega (arith, c .before .before .before .pre .1))
+start-tag-requires c κs = search needs
 
-returns-2 : tie.Need-returns-2
-returns-2 c = first-start (c .start-tag .result) (c .before .before .if1 .taken) (omega (arith, c .before .if2 .left)) (c .start-tag .ensures)
-
-add-byte-at : tie.Need-add-byte-at
-add-byte-at c = search needs
-
-byte-at-requires : tie.Need-byte-at-requires
-byte-at-requires c κs = search needs
+enum-told-3 : tie.Need-enum-told-3
+enum-told-3 c = search needs
 
 add-end-tag : tie.Need-add-end-tag
-add-end-tag c =
-    let c₄ = c .before .before .before .before in
-    omega (arith, there (c₄ .args .document .now) (c₄ .args .at + 1) 46 (sym (c .before .byte-at .ensures) ∙ c .if3 .taken))
+add-end-tag c = search needs
 
 end-tag-requires : tie.Need-end-tag-requires
-end-tag-requires c κs =
-    let c₄ = c .before .before .before .before in
-    (c₄ .pre .0, omega (arith, there (c₄ .args .document .now) (c₄ .args .at + 1) 46 (sym (c .before .byte-at .ensures) ∙ c .if3 .taken)), c₄ .pre .2)
+end-tag-requires c κs = let c₃ = c .before .before .before .before in (c₃ .pre .0, end-within (ends c) .1, c₃ .pre .2)
+
+returns : tie.Need-returns
+returns c = let s = c .before .before in none-stands (subst (stands s) (c .enum-told .given .1) (s .stands .ensures))
+
+returns-2 : tie.Need-returns-2
+returns-2 c = start-stands (c .start-tag .result) (starts (c .before)) (c .start-tag .ensures)
 
 returns-3 : tie.Need-returns-3
-returns-3 c =
-    let c₂ = c .before .before in
-    let c₃ = c₂ .before in
-    inner-end (c .end-tag .result) (c₃ .if1 .left) (sym (c₂ .byte-at .ensures) ∙ c .before .if3 .taken) (c .end-tag .ensures)
-
-add-start-tag-2 : tie.Need-add-start-tag-2
-add-start-tag-2 c = search needs
-
-start-tag-requires-2 : tie.Need-start-tag-requires-2
-start-tag-requires-2 c κs = (c .before .before .before .before .pre .0, omega (arith, c .before .before .before .before .pre .1))
-
-returns-4 : tie.Need-returns-4
-returns-4 c =
-    let c₂ = c .before .before in
-    let c₃ = c₂ .before in
-    inner-start (c .start-tag2 .result) (c₃ .if1 .left) (λ e. c .before .if3 .left (c₂ .byte-at .ensures ∙ e)) (c .start-tag2 .ensures)
+returns-3 c = end-stands (c .end-tag .result) (ends (c .before)) (c .end-tag .ensures)
 
 pub next-tag-spec : {M : Type 1} → statement M
 next-tag-spec =
     tie.close
     (tie.spec
-    returns
+    stands-requires
+    enum-told
+    enum-told-2
     add-start-tag
     start-tag-requires
-    returns-2
-    add-byte-at
-    byte-at-requires
+    enum-told-3
     add-end-tag
     end-tag-requires
-    returns-3
-    add-start-tag-2
-    start-tag-requires-2
-    returns-4)
+    returns
+    returns-2
+    returns-3)

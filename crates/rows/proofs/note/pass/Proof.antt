@@ -1,370 +1,158 @@
-use Prim.Native.Nat.{ℕ, _+_, _-_, _<_}
-use mathlib.Core.Path.{sym, _∙_}
+use Prim.Native.Nat.{ℕ, _-_, _<_}
+use mathlib.Core.Path.{subst}
 use native.Mathlib.Omega.{arith}
+use mathlib.Core.List.{List}
 use lib.ListN
 use lib.ListN.{length-replicate}
-use Rattle.grammar.specs.Place.{OutsideAt}
-use Rattle.judge.specs.Tokens.{bytes}
-use Rattle.judge.specs.Tags.{Does, OpenedTo, EmptyTo, Closed}
-use Rattle.judge.proofs.Machine.{there}
-use Rattle.judge.proofs.Judging.{closed-within}
-use Rattle.rows.proofs.Noting.{Noting, begins, many-rows, low-top, name-span, tagging, opens, empties, some-open, top-before, closes, ends, few-open, deep-text, deep-open, deep-empty}
+use Rattle.rows.specs.Turns.{TurnDone}
+use Rattle.rows.specs.declared.note.Turn.{Turn}
+use Rattle.rows.proofs.Noting.{Noting, begins}
+use Rattle.rows.proofs.Turning.{Behind, may-turn, turn-ends, Opened, turn-opens, Emptied, turn-empties, Shut, turn-closes}
 use borrow.Author.Needs.{needs}
 use Rattle.rows.proofs.note.pass.Statement.{statement}
 use Rattle.rows.proofs.note.pass.Tie as tie
 
 abbrev Inv-loop : tie.InvT-loop
-Inv-loop document class starts₀ lengths₀ sizes₀ open₀ top₀ depth₀ row₀ i₀ starts lengths sizes «open» top depth row i =
-    Noting document starts lengths sizes «open» i top depth row
+Inv-loop document class starts₀ lengths₀ sizes₀ around₀ top₀ depth₀ row₀ i₀ starts lengths sizes around top depth row i =
+    Noting document starts lengths sizes around i top depth row
 
 abbrev μ-loop : tie.MeasureT-loop
-μ-loop document class starts₀ lengths₀ sizes₀ open₀ top₀ depth₀ row₀ i₀ starts lengths sizes «open» top depth row i =
+μ-loop document class starts₀ lengths₀ sizes₀ around₀ top₀ depth₀ row₀ i₀ starts lengths sizes around top depth row i =
     lib.ListN.length document - i
 
--- what the tag does
-told : (c : tie.After-next-tag Inv-loop μ-loop) →
-    Does (c .before .before .before .before .before .before .before .before .before .before .before .before .before .before .before .before .args .document .now) (c .before .before .before .before .before .before .before .before .before .before .before .before .run .result .end + 1) (c .before .before .before .before .before .before .before .before .before .before .before .before .before .before .loop .inv .walked .o) (c .before .before .before .before .before .before .before .before .before .before .before .before .before .before .loop .inv .walked .f)
-    (bytes (c .before .before .before .before .before .before .before .before .before .before .before .before .before .before .before .before .args .document .now) (c .before .before .before .before .before .before .before .before .before .before .before .before .before .before .loop .i) (c .before .before .before .before .before .before .before .before .before .before .before .before .run .result .end - c .before .before .before .before .before .before .before .before .before .before .before .before .before .before .loop .i)) (c .next-tag .result)
-told c =
-    let c₃ = c .before .before .before in
-    let c₆ = c₃ .before .before .before in
-    let c₇ = c₆ .before in
-    let c₈ = c₇ .before in
-    let c₁₂ = c₈ .before .before .before .before in
-    let c₁₃ = c₁₂ .before in
-    let c₁₄ = c₁₃ .before in
-    c .next-tag .ensures (c₁₄ .loop .inv .walked .o) (c₁₄ .loop .inv .walked .f) _ (tagging (c₁₄ .loop .inv) (c₁₃ .if1 .left) (c₁₂ .run .ensures) (c₈ .put .ensures) (c₃ .number .ensures .0) (c .before .number2 .ensures .0) (sym (c₇ .byte-at .ensures) ∙ c₆ .if2 .left))
+-- THE PLACES: back from a turn to its head, and from there to the function's start
+abbrev head : tie.After-read-turn Inv-loop μ-loop → tie.At-loop Inv-loop μ-loop
+head t = t .before .before .before .before
 
-refused-at : (c : tie.After-known-told Inv-loop μ-loop) → OutsideAt (c .before .before .before .before .before .before .before .before .before .before .before .before .before .before .before .before .before .before .before .args .document .now) (c .before .place .given .0 .0)
-refused-at c = rw (c .before .place .given .1) at (told (c .before .before .before))
+abbrev begun : tie.At-loop Inv-loop μ-loop → tie.Start Inv-loop μ-loop
+begun h = h .before .before
+
+-- .. and from the arms to the turn
+abbrev opening : tie.After-known-told2 Inv-loop μ-loop → tie.After-read-turn Inv-loop μ-loop
+opening c = c .before .before .before
+
+abbrev emptying : tie.After-known-told3 Inv-loop μ-loop → tie.After-read-turn Inv-loop μ-loop
+emptying c = c .before .before .before
+
+abbrev closing : tie.After-known-told4 Inv-loop μ-loop → tie.After-read-turn Inv-loop μ-loop
+closing c = c .before .before .before
+
+-- WHAT IS KNOWN THERE
+-- the three lists behind the turn
+abbrev starts : tie.After-read-turn Inv-loop μ-loop → List ℕ
+starts t = t .read-turn .last .1 .1 .0
+
+abbrev lengths : tie.After-read-turn Inv-loop μ-loop → List ℕ
+lengths t = t .read-turn .last .1 .1 .1 .0
+
+abbrev sizes : tie.After-read-turn Inv-loop μ-loop → List ℕ
+sizes t = t .read-turn .last .1 .1 .1 .1 .0
+
+-- what the turn did
+abbrev done : tie.After-read-turn Inv-loop μ-loop → Turn → Type 0
+done t =
+    let l = head t .loop in
+    TurnDone (begun (head t) .args .document .now) (l .starts) (l .lengths) (l .sizes) (l .depth) (l .row) (l .i) (l .inv .walked .o) (l .inv .walked .f)
+    (starts t) (lengths t) (sizes t)
+
+told : (t : tie.After-read-turn Inv-loop μ-loop) → done t (t .read-turn .result)
+told t = t .read-turn .ensures _ _ (may-turn (head t .loop .inv) (begun (head t) .pre .1))
+
+-- the turn ends behind where it began
+less : (t : tie.After-read-turn Inv-loop μ-loop) {r : ℕ} → Behind (begun (head t) .args .document .now) (head t .loop .i) r →
+    lib.ListN.length (begun (head t) .args .document .now) - r < lib.ListN.length (begun (head t) .args .document .now) - head t .loop .i
+less t h = omega (arith, h .more, h .within)
 
 opened-to : (c : tie.After-known-told2 Inv-loop μ-loop) →
-    (c .before .before .before .before .before .before .before .before .before .before .before .before .before .before .before .run .result .end + 1 < c .before .end .given .0 .1 .0)
-    × OpenedTo (c .before .before .before .before .before .before .before .before .before .before .before .before .before .before .before .before .before .before .before .args .document .now) (c .before .before .before .before .before .before .before .before .before .before .before .before .before .before .before .run .result .end + 1) (c .before .end .given .0 .0) (c .before .end .given .0 .1 .0) (c .before .before .before .before .before .before .before .before .before .before .before .before .before .before .before .before .before .loop .inv .walked .o) (c .before .before .before .before .before .before .before .before .before .before .before .before .before .before .before .before .before .loop .inv .walked .f)
-    (bytes (c .before .before .before .before .before .before .before .before .before .before .before .before .before .before .before .before .before .before .before .args .document .now) (c .before .before .before .before .before .before .before .before .before .before .before .before .before .before .before .before .before .loop .i) (c .before .before .before .before .before .before .before .before .before .before .before .before .before .before .before .run .result .end - c .before .before .before .before .before .before .before .before .before .before .before .before .before .before .before .before .before .loop .i))
-opened-to c = rw (c .before .end .given .1) at (told (c .before .before .before))
+    let t = opening c in
+    Opened (head t .loop .inv) (starts t) (lengths t) (sizes t) (c .before .element .given .0 .0) (c .before .element .given .0 .1 .0)
+opened-to c = turn-opens (head (opening c) .loop .inv) (subst (done (opening c)) (c .before .element .given .1) (told (opening c)))
 
 emptied-to : (c : tie.After-known-told3 Inv-loop μ-loop) →
-    (c .before .before .before .before .before .before .before .before .before .before .before .before .before .before .before .run .result .end + 1 < c .before .end2 .given .0 .1 .0)
-    × EmptyTo (c .before .before .before .before .before .before .before .before .before .before .before .before .before .before .before .before .before .before .before .args .document .now) (c .before .before .before .before .before .before .before .before .before .before .before .before .before .before .before .run .result .end + 1) (c .before .end2 .given .0 .0) (c .before .end2 .given .0 .1 .0) (c .before .before .before .before .before .before .before .before .before .before .before .before .before .before .before .before .before .loop .inv .walked .o) (c .before .before .before .before .before .before .before .before .before .before .before .before .before .before .before .before .before .loop .inv .walked .f)
-    (bytes (c .before .before .before .before .before .before .before .before .before .before .before .before .before .before .before .before .before .before .before .args .document .now) (c .before .before .before .before .before .before .before .before .before .before .before .before .before .before .before .before .before .loop .i) (c .before .before .before .before .before .before .before .before .before .before .before .before .before .before .before .run .result .end - c .before .before .before .before .before .before .before .before .before .before .before .before .before .before .before .before .before .loop .i))
-emptied-to c = rw (c .before .end2 .given .1) at (told (c .before .before .before))
+    let t = emptying c in
+    Emptied (head t .loop .inv) (starts t) (lengths t) (sizes t) (c .before .element2 .given .0 .0) (c .before .element2 .given .0 .1 .0)
+emptied-to c = turn-empties (head (emptying c) .loop .inv) (subst (done (emptying c)) (c .before .element2 .given .1) (told (emptying c)))
 
 closed-to : (c : tie.After-known-told4 Inv-loop μ-loop) →
-    (c .before .before .before .before .before .before .before .before .before .before .before .before .before .before .before .run .result .end + 1 < c .before .next .given .0 .0)
-    × Closed (c .before .before .before .before .before .before .before .before .before .before .before .before .before .before .before .before .before .before .before .args .document .now) (c .before .next .given .0 .0) (c .before .before .before .before .before .before .before .before .before .before .before .before .before .before .before .before .before .loop .inv .walked .o) (c .before .before .before .before .before .before .before .before .before .before .before .before .before .before .before .before .before .loop .inv .walked .f)
-    (bytes (c .before .before .before .before .before .before .before .before .before .before .before .before .before .before .before .before .before .before .before .args .document .now) (c .before .before .before .before .before .before .before .before .before .before .before .before .before .before .before .before .before .loop .i) (c .before .before .before .before .before .before .before .before .before .before .before .before .before .before .before .run .result .end - c .before .before .before .before .before .before .before .before .before .before .before .before .before .before .before .before .before .loop .i))
-closed-to c = rw (c .before .next .given .1) at (told (c .before .before .before))
+    let t = closing c in
+    Shut (head t .loop .inv) (starts t) (lengths t) (sizes t) (c .before .behind .given .0 .0) (c .before .behind .given .0 .1 .0)
+closed-to c = turn-closes (head (closing c) .loop .inv) (subst (done (closing c)) (c .before .behind .given .1) (told (closing c)))
 
+-- THE NEEDS
 loop-holds : tie.Need-loop-holds Inv-loop μ-loop
 loop-holds c = begins _ _ _ _ _ (c .before .pre .2) (length-replicate {A = ℕ} 64 0)
 
+read-turn-requires : tie.Need-read-turn-requires Inv-loop μ-loop
+read-turn-requires c κs =
+    let h = c .before .before .before in
+    (begun h .pre .0, (h .loop .inv .walked .o, h .loop .inv .walked .f, may-turn (h .loop .inv) (begun h .pre .1)))
+
+enum-known-answer : tie.Need-enum-known-answer Inv-loop μ-loop
+enum-known-answer c = search needs
+
 returns : tie.Need-returns Inv-loop μ-loop
-returns c = many-rows (c .before .loop .inv) (c .if1 .taken)
+returns c =
+    let t = c .before .before .before in
+    turn-ends (head t .loop .inv) (subst (done t) (c .before .answer .given .1) (told t))
 
-run-requires : tie.Need-run-requires Inv-loop μ-loop
-run-requires c κs =
-    let c₃ = c .before .before .before in
-    (c₃ .pre .0, c .before .loop .inv .walked .here .within)
+enum-known-element : tie.Need-enum-known-element Inv-loop μ-loop
+enum-known-element c = search needs
 
-sub-put : tie.Need-sub-put Inv-loop μ-loop
-sub-put c =
-    let c₃ = c .before .before .before in
-    c₃ .run .ensures .span .passed .from
+slice-aggregate-push : tie.Need-slice-aggregate-push Inv-loop μ-loop
+slice-aggregate-push c = search needs
 
-put-requires : tie.Need-put-requires Inv-loop μ-loop
-put-requires c κs =
-    let c₃ = c .before .before .before in
-    let c₄ = c₃ .before in
-    let c₅ = c₄ .before in
-    let c₇ = c₅ .before .before in
-    (omega (arith, c₄ .if1 .left), omega (arith, c₅ .loop .inv .walked .here .within, c₇ .pre .1), omega (arith, c₃ .run .ensures .span .passed .within, c₇ .pre .1))
-
-add-row : tie.Need-add-row Inv-loop μ-loop
-add-row c =
-    let c₄ = c .before .before .before .before in
-    let c₅ = c₄ .before in
-    omega (arith, c₅ .if1 .left, c₄ .run .ensures .few)
-
-byte-at-requires : tie.Need-byte-at-requires Inv-loop μ-loop
-byte-at-requires c κs = search needs
-
-last-requires : tie.Need-last-requires Inv-loop μ-loop
-last-requires c κs = search needs
-
-returns-2 : tie.Need-returns-2 Inv-loop μ-loop
-returns-2 c =
-    let c₂ = c .before .before in
-    let c₃ = c₂ .before in
-    let c₇ = c₃ .before .before .before .before in
-    let c₈ = c₇ .before in
-    let c₉ = c₈ .before in
-    ends (c₉ .loop .inv) (c₈ .if1 .left) (c₇ .run .ensures) (c₃ .put .ensures) (λ e. c .before .if2 .taken (c₂ .byte-at .ensures ∙ e)) _ (c .last .ensures)
-
-add-if3 : tie.Need-add-if3 Inv-loop μ-loop
-add-if3 c =
-    let c₂ = c .before .before in
-    let c₆ = c₂ .before .before .before .before in
-    let c₇ = c₆ .before in
-    let c₈ = c₇ .before in
-    omega (arith, few-open (c₈ .loop .inv) (c₇ .if1 .left) (c₆ .run .ensures) (c₂ .put .ensures), c₆ .run .ensures .few)
-
-returns-3 : tie.Need-returns-3 Inv-loop μ-loop
-returns-3 c =
-    let c₂ = c .before .before in
-    let c₃ = c₂ .before in
-    let c₇ = c₃ .before .before .before .before in
-    let c₈ = c₇ .before in
-    let c₉ = c₈ .before in
-    deep-text (c₉ .loop .inv) (c₈ .if1 .left) (c₇ .run .ensures) (c₃ .put .ensures) (sym (c₂ .byte-at .ensures) ∙ c .before .if2 .left) (c .if3 .taken)
-
-number-requires : tie.Need-number-requires Inv-loop μ-loop
-number-requires c κs =
-    let c₄ = c .before .before .before .before in
-    let c₈ = c₄ .before .before .before .before in
-    let c₉ = c₈ .before in
-    let c₁₀ = c₉ .before in
-    low-top (c₁₀ .loop .inv) (c₉ .if1 .left) (c₈ .run .ensures) (c₄ .put .ensures)
-
-number-requires-2 : tie.Need-number-requires-2 Inv-loop μ-loop
-number-requires-2 c κs =
-    let c₆ = c .before .before .before .before .before .before in
-    let c₁₀ = c₆ .before .before .before .before in
-    let c₁₁ = c₁₀ .before in
-    let c₁₂ = c₁₁ .before in
-    low-top (c₁₂ .loop .inv) (c₁₁ .if1 .left) (c₁₀ .run .ensures) (c₆ .put .ensures)
-
-next-tag-requires : tie.Need-next-tag-requires Inv-loop μ-loop
-next-tag-requires c κs =
-    let c₂ = c .before .before in
-    let c₅ = c₂ .before .before .before in
-    let c₆ = c₅ .before in
-    let c₇ = c₆ .before in
-    let c₁₁ = c₇ .before .before .before .before in
-    let c₁₂ = c₁₁ .before in
-    let c₁₃ = c₁₂ .before in
-    let c₁₅ = c₁₃ .before .before in
-    (c₁₅ .pre .0, there (c₁₅ .args .document .now) (c₁₁ .run .result .end) 59 (sym (c₆ .byte-at .ensures) ∙ c₅ .if2 .left), c₂ .number .ensures .1, name-span (c₁₃ .loop .inv) (c₁₂ .if1 .left) (c₁₁ .run .ensures) (c₇ .put .ensures) (c₂ .number .ensures .0) (c .number2 .ensures .0))
-
-enum-known-place : tie.Need-enum-known-place Inv-loop μ-loop
-enum-known-place c = search needs
-
-returns-4 : tie.Need-returns-4 Inv-loop μ-loop
-returns-4 c = refused-at c
-
-enum-known-end : tie.Need-enum-known-end Inv-loop μ-loop
-enum-known-end c = search needs
-
-returns-5 : tie.Need-returns-5 Inv-loop μ-loop
-returns-5 c =
-    let c₁₂ = c .before .before .before .before .before .before .before .before .before .before .before .before in
-    let c₁₆ = c₁₂ .before .before .before .before in
-    let c₁₇ = c₁₆ .before in
-    let c₁₈ = c₁₇ .before in
-    deep-open (c₁₈ .loop .inv) (c₁₇ .if1 .left) (c₁₆ .run .ensures) (c₁₂ .put .ensures) (opened-to (c .before) .1) (c .if4 .taken)
-
-add-put : tie.Need-add-put Inv-loop μ-loop
-add-put c =
-    let c₁₉ = c .before .before .before .before .before .before .before .before .before .before .before .before .before .before .before .before .before .before .before in
-    let c₂₃ = c₁₉ .before .before .before .before in
-    omega (arith, c₁₉ .run .ensures .span .passed .within, c₂₃ .pre .1)
-
-add-put-2 : tie.Need-add-put-2 Inv-loop μ-loop
-add-put-2 c =
-    let c₁₉ = c .before .before .before .before .before .before .before .before .before .before .before .before .before .before .before .before .before .before .before in
-    let c₂₃ = c₁₉ .before .before .before .before in
-    omega (arith, c₁₉ .run .ensures .span .passed .within, c₂₃ .pre .1)
-
-sub-put-2 : tie.Need-sub-put-2 Inv-loop μ-loop
-sub-put-2 c =
-    let c₄ = c .before .before .before .before in
-    omega (arith, opened-to (c₄) .1 .long)
-
-put-requires-2 : tie.Need-put-requires-2 Inv-loop μ-loop
-put-requires-2 c κs =
-    let c₄ = c .before .before .before .before in
-    let c₁₉ = c₄ .before .before .before .before .before .before .before .before .before .before .before .before .before .before .before in
-    let c₂₀ = c₁₉ .before in
-    let c₂₃ = c₂₀ .before .before .before in
-    (omega (arith, c₂₀ .if1 .left, c₁₉ .run .ensures .few), omega (arith, c₁₉ .run .ensures .span .passed .within, c₂₃ .pre .1), omega (arith, opened-to (c₄) .1 .long, opened-to (c₄) .1 .named .behind, c₂₃ .pre .1))
-
-cast-open : tie.Need-cast-open Inv-loop μ-loop
-cast-open c =
-    let c₁₆ = c .before .before .before .before .before .before .before .before .before .before .before .before .before .before .before .before in
-    let c₂₀ = c₁₆ .before .before .before .before in
-    let c₂₁ = c₂₀ .before in
-    let c₂₂ = c₂₁ .before in
-    omega (arith, low-top (c₂₂ .loop .inv) (c₂₁ .if1 .left) (c₂₀ .run .ensures) (c₁₆ .put .ensures))
-
-mul-open : tie.Need-mul-open Inv-loop μ-loop
-mul-open c =
-    let c₄ = c .before .before .before .before in
-    omega (arith, c₄ .if4 .left)
-
-array-write-open : tie.Need-array-write-open Inv-loop μ-loop
-array-write-open c =
-    let c₄ = c .before .before .before .before in
-    let c₂₂ = c₄ .before .before .before .before .before .before .before .before .before .before .before .before .before .before .before .before .before .before in
-    omega (arith, c₄ .if4 .left, c₂₂ .loop .inv .room)
+push-requires : tie.Need-push-requires Inv-loop μ-loop
+push-requires c κs =
+    let o = opened-to (c .before) in
+    (omega (arith, o .shallow, head (opening (c .before)) .loop .inv .room), omega (arith, o .low))
 
 add-depth : tie.Need-add-depth Inv-loop μ-loop
-add-depth c =
-    let c₄ = c .before .before .before .before in
-    omega (arith, c₄ .if4 .left)
+add-depth c = omega (arith, opened-to (c .before .before .before) .shallow)
 
-add-row-2 : tie.Need-add-row-2 Inv-loop μ-loop
-add-row-2 c =
-    let c₂₀ = c .before .before .before .before .before .before .before .before .before .before .before .before .before .before .before .before .before .before .before .before in
-    let c₂₁ = c₂₀ .before in
-    omega (arith, c₂₁ .if1 .left, c₂₀ .run .ensures .few)
+add-row : tie.Need-add-row Inv-loop μ-loop
+add-row c = omega (arith, opened-to (c .before .before .before) .few)
 
 loop-less : tie.Need-loop-less Inv-loop μ-loop
-loop-less c =
-    let c₅ = c .before .before .before .before .before in
-    let c₂₀ = c₅ .before .before .before .before .before .before .before .before .before .before .before .before .before .before .before in
-    omega (arith, opened-to (c₅) .0, opened-to (c₅) .1 .here .within, c₂₀ .run .ensures .span .passed .from)
+loop-less c = let o = c .before .before .before in less (opening o) (opened-to o .behind)
 
 loop-again : tie.Need-loop-again Inv-loop μ-loop
-loop-again c =
-    let c₄ = c .before .before .before .before in
-    let c₅ = c₄ .before in
-    let c₁₆ = c₅ .before .before .before .before .before .before .before .before .before .before .before in
-    let c₂₀ = c₁₆ .before .before .before .before in
-    let c₂₁ = c₂₀ .before in
-    let c₂₂ = c₂₁ .before in
-    opens (c₂₂ .loop .inv) (c₂₁ .if1 .left) (c₂₀ .run .ensures) (c₁₆ .put .ensures) (c .put2 .ensures) (opened-to (c₅) .1) (c₄ .if4 .left)
+loop-again c = rw (c .before .push .ensures) (opened-to (c .before .before .before) .kept)
 
-enum-known-end-2 : tie.Need-enum-known-end-2 Inv-loop μ-loop
-enum-known-end-2 c = search needs
+enum-known-element-2 : tie.Need-enum-known-element-2 Inv-loop μ-loop
+enum-known-element-2 c = search needs
 
-returns-6 : tie.Need-returns-6 Inv-loop μ-loop
-returns-6 c =
-    let c₁₂ = c .before .before .before .before .before .before .before .before .before .before .before .before in
-    let c₁₆ = c₁₂ .before .before .before .before in
-    let c₁₇ = c₁₆ .before in
-    let c₁₈ = c₁₇ .before in
-    deep-empty (c₁₈ .loop .inv) (c₁₇ .if1 .left) (c₁₆ .run .ensures) (c₁₂ .put .ensures) (emptied-to (c .before) .1) (c .if5 .taken)
-
-add-put-3 : tie.Need-add-put-3 Inv-loop μ-loop
-add-put-3 c =
-    let c₁₉ = c .before .before .before .before .before .before .before .before .before .before .before .before .before .before .before .before .before .before .before in
-    let c₂₃ = c₁₉ .before .before .before .before in
-    omega (arith, c₁₉ .run .ensures .span .passed .within, c₂₃ .pre .1)
-
-add-put-4 : tie.Need-add-put-4 Inv-loop μ-loop
-add-put-4 c =
-    let c₁₉ = c .before .before .before .before .before .before .before .before .before .before .before .before .before .before .before .before .before .before .before in
-    let c₂₃ = c₁₉ .before .before .before .before in
-    omega (arith, c₁₉ .run .ensures .span .passed .within, c₂₃ .pre .1)
-
-sub-put-3 : tie.Need-sub-put-3 Inv-loop μ-loop
-sub-put-3 c =
-    let c₄ = c .before .before .before .before in
-    omega (arith, emptied-to (c₄) .1 .long)
-
-put-requires-3 : tie.Need-put-requires-3 Inv-loop μ-loop
-put-requires-3 c κs =
-    let c₄ = c .before .before .before .before in
-    let c₁₉ = c₄ .before .before .before .before .before .before .before .before .before .before .before .before .before .before .before in
-    let c₂₀ = c₁₉ .before in
-    let c₂₃ = c₂₀ .before .before .before in
-    (omega (arith, c₂₀ .if1 .left, c₁₉ .run .ensures .few), omega (arith, c₁₉ .run .ensures .span .passed .within, c₂₃ .pre .1), omega (arith, emptied-to (c₄) .1 .long, emptied-to (c₄) .1 .named .behind, c₂₃ .pre .1))
-
-add-row-3 : tie.Need-add-row-3 Inv-loop μ-loop
-add-row-3 c =
-    let c₂₀ = c .before .before .before .before .before .before .before .before .before .before .before .before .before .before .before .before .before .before .before .before in
-    let c₂₁ = c₂₀ .before in
-    omega (arith, c₂₁ .if1 .left, c₂₀ .run .ensures .few)
+add-row-2 : tie.Need-add-row-2 Inv-loop μ-loop
+add-row-2 c = omega (arith, emptied-to c .few)
 
 loop-less-2 : tie.Need-loop-less-2 Inv-loop μ-loop
-loop-less-2 c =
-    let c₅ = c .before .before .before .before .before in
-    let c₂₀ = c₅ .before .before .before .before .before .before .before .before .before .before .before .before .before .before .before in
-    omega (arith, emptied-to (c₅) .0, emptied-to (c₅) .1 .here .within, c₂₀ .run .ensures .span .passed .from)
+loop-less-2 c = less (emptying c) (emptied-to c .behind)
 
 loop-again-2 : tie.Need-loop-again-2 Inv-loop μ-loop
-loop-again-2 c =
-    let c₄ = c .before .before .before .before in
-    let c₅ = c₄ .before in
-    let c₁₆ = c₅ .before .before .before .before .before .before .before .before .before .before .before in
-    let c₂₀ = c₁₆ .before .before .before .before in
-    let c₂₁ = c₂₀ .before in
-    let c₂₂ = c₂₁ .before in
-    empties (c₂₂ .loop .inv) (c₂₁ .if1 .left) (c₂₀ .run .ensures) (c₁₆ .put .ensures) (c .put3 .ensures) (emptied-to (c₅) .1) (c₄ .if5 .left)
+loop-again-2 c = emptied-to c .kept
 
-enum-known-next : tie.Need-enum-known-next Inv-loop μ-loop
-enum-known-next c = search needs
+enum-known-behind : tie.Need-enum-known-behind Inv-loop μ-loop
+enum-known-behind c = search needs
 
-sub-sizes : tie.Need-sub-sizes Inv-loop μ-loop
-sub-sizes c =
-    let c₁₁ = c .before .before .before .before .before .before .before .before .before .before .before in
-    let c₁₅ = c₁₁ .before .before .before .before in
-    let c₁₆ = c₁₅ .before in
-    let c₁₇ = c₁₆ .before in
-    top-before (c₁₇ .loop .inv) (c₁₆ .if1 .left) (c₁₅ .run .ensures) (c₁₁ .put .ensures) (closed-to c .1)
-
-cast-sizes : tie.Need-cast-sizes Inv-loop μ-loop
-cast-sizes c =
-    let c₁₅ = c .before .before .before .before .before .before .before .before .before .before .before .before .before .before .before in
-    let c₁₆ = c₁₅ .before in
-    omega (arith, c₁₆ .if1 .left, c₁₅ .run .ensures .few)
-
-mul-sizes : tie.Need-mul-sizes Inv-loop μ-loop
-mul-sizes c =
-    let c₁₁ = c .before .before .before .before .before .before .before .before .before .before .before in
-    let c₁₅ = c₁₁ .before .before .before .before in
-    let c₁₆ = c₁₅ .before in
-    let c₁₇ = c₁₆ .before in
-    omega (arith, low-top (c₁₇ .loop .inv) (c₁₆ .if1 .left) (c₁₅ .run .ensures) (c₁₁ .put .ensures))
-
-element-write-sizes : tie.Need-element-write-sizes Inv-loop μ-loop
-element-write-sizes c =
-    let c₁₁ = c .before .before .before .before .before .before .before .before .before .before .before in
-    let c₁₅ = c₁₁ .before .before .before .before in
-    let c₁₆ = c₁₅ .before in
-    let c₁₇ = c₁₆ .before in
-    low-top (c₁₇ .loop .inv) (c₁₆ .if1 .left) (c₁₅ .run .ensures) (c₁₁ .put .ensures)
+close-requires : tie.Need-close-requires Inv-loop μ-loop
+close-requires c κs = let o = closed-to (c .before) in (o .low, o .before, omega (arith, o .few))
 
 sub-depth : tie.Need-sub-depth Inv-loop μ-loop
-sub-depth c =
-    let c₁₁ = c .before .before .before .before .before .before .before .before .before .before .before in
-    let c₁₅ = c₁₁ .before .before .before .before in
-    let c₁₆ = c₁₅ .before in
-    let c₁₇ = c₁₆ .before in
-    some-open (c₁₇ .loop .inv) (c₁₆ .if1 .left) (c₁₅ .run .ensures) (c₁₁ .put .ensures) (closed-to c .1)
+sub-depth c = closed-to (c .before .before) .some
 
-mul-wide : tie.Need-mul-wide Inv-loop μ-loop
-mul-wide c =
-    let c₁₁ = c .before .before .before .before .before .before .before .before .before .before .before in
-    let c₁₅ = c₁₁ .before .before .before .before in
-    let c₁₆ = c₁₅ .before in
-    let c₁₇ = c₁₆ .before in
-    omega (arith, few-open (c₁₇ .loop .inv) (c₁₆ .if1 .left) (c₁₅ .run .ensures) (c₁₁ .put .ensures))
+slice-aggregate-pop : tie.Need-slice-aggregate-pop Inv-loop μ-loop
+slice-aggregate-pop c = search needs
 
-array-read-wide : tie.Need-array-read-wide Inv-loop μ-loop
-array-read-wide c =
-    let c₁₁ = c .before .before .before .before .before .before .before .before .before .before .before in
-    let c₁₅ = c₁₁ .before .before .before .before in
-    let c₁₆ = c₁₅ .before in
-    let c₁₇ = c₁₆ .before in
-    omega (arith, few-open (c₁₇ .loop .inv) (c₁₆ .if1 .left) (c₁₅ .run .ensures) (c₁₁ .put .ensures), c₁₇ .loop .inv .room, some-open (c₁₇ .loop .inv) (c₁₆ .if1 .left) (c₁₅ .run .ensures) (c₁₁ .put .ensures) (closed-to c .1))
-
-wide-requires : tie.Need-wide-requires Inv-loop μ-loop
-wide-requires c κs = search needs
+pop-requires : tie.Need-pop-requires Inv-loop μ-loop
+pop-requires c κs =
+    let k = c .before .before .before in
+    let o = closed-to k in
+    omega (arith, o .some, o .shallow, head (closing k) .loop .inv .room)
 
 loop-less-3 : tie.Need-loop-less-3 Inv-loop μ-loop
-loop-less-3 c =
-    let c₁₆ = c .before .before .before .before .before .before .before .before .before .before .before .before .before .before .before .before in
-    omega (arith, closed-to (c .before) .0, closed-within _ _ _ _ _ (closed-to (c .before) .1), c₁₆ .run .ensures .span .passed .from)
+loop-less-3 c = let o = c .before .before .before .before in less (closing o) (closed-to o .behind)
 
 loop-again-3 : tie.Need-loop-again-3 Inv-loop μ-loop
-loop-again-3 c =
-    let c₉ = c .before .before .before .before .before .before .before .before .before in
-    let c₁₂ = c₉ .before .before .before in
-    let c₁₆ = c₁₂ .before .before .before .before in
-    let c₁₇ = c₁₆ .before in
-    let c₁₈ = c₁₇ .before in
-    closes (c₁₈ .loop .inv) (c₁₇ .if1 .left) (c₁₆ .run .ensures) (c₁₂ .put .ensures) (closed-to (c .before) .1) (c₉ .if3 .left) (c .wide .ensures)
+loop-again-3 c = rw (c .before .before .close .ensures) (closed-to (c .before .before .before .before) .kept (c .pop .ensures))
 
 pub pass-spec : {M : Type 1} → statement M
 pass-spec =
@@ -373,51 +161,24 @@ pass-spec =
     Inv-loop
     μ-loop
     loop-holds
+    read-turn-requires
+    enum-known-answer
     returns
-    run-requires
-    sub-put
-    put-requires
-    add-row
-    byte-at-requires
-    last-requires
-    returns-2
-    add-if3
-    returns-3
-    number-requires
-    number-requires-2
-    next-tag-requires
-    enum-known-place
-    returns-4
-    enum-known-end
-    returns-5
-    add-put
-    add-put-2
-    sub-put-2
-    put-requires-2
-    cast-open
-    mul-open
-    array-write-open
+    enum-known-element
+    slice-aggregate-push
+    push-requires
     add-depth
-    add-row-2
+    add-row
     loop-less
     loop-again
-    enum-known-end-2
-    returns-6
-    add-put-3
-    add-put-4
-    sub-put-3
-    put-requires-3
-    add-row-3
+    enum-known-element-2
+    add-row-2
     loop-less-2
     loop-again-2
-    enum-known-next
-    sub-sizes
-    cast-sizes
-    mul-sizes
-    element-write-sizes
+    enum-known-behind
+    close-requires
     sub-depth
-    mul-wide
-    array-read-wide
-    wide-requires
+    slice-aggregate-pop
+    pop-requires
     loop-less-3
     loop-again-3)

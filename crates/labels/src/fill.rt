@@ -1,11 +1,12 @@
-// The lent lists of a document whose rows are noted.
+// The lent lists, from rows that are noted.
 ghost use mathlib.Core.Path.{_≡_};
 ghost use mathlib.Core.Bool.{cond};
 ghost use mathlib.Core.List.{List, _++_};
 ghost use Prim.Native.Nat.{ℕ, _+_, _≤_, _<_};
 ghost use lib.Dec.{ltb};
 ghost use lib.ListN.{length, getD, take, drop};
-ghost use Rattle.document.specs.Labelling.{MayLabelRows, LabelsRows};
+ghost use Rattle.labels.specs.Lists.{Long, Copied};
+ghost use Rattle.labels.specs.Labelling.{MayLabelRows, LabelsRows};
 
 fn wide(x: u32) -> usize
     ensures { λ r. ⌜ r ≡ x ⌝ }
@@ -27,7 +28,7 @@ fn widened(x: u16) -> u32
 }
 
 // The first numbers of a list of our own into a lent one.
-pub fn copy(from: &[u16; 2052], to: &mut [u32], count: usize)
+fn copy(from: &[u16; 2052], to: &mut [u32], count: usize)
     requires { ⌜ (length (now from) ≡ 2052) × (count ≤ 2052) × (count ≤ length (now to)) ⌝ }
     ensures { λ _. ⌜ now (to .exit) ≡ take count (now (from .entry)) ++ drop count (now (to .entry)) ⌝ }
 {
@@ -36,6 +37,24 @@ pub fn copy(from: &[u16; 2052], to: &mut [u32], count: usize)
         to[i] = widened(from[i]);
         i += 1;
     }
+}
+
+// The three lists of so many rows into lent ones.
+pub fn copy_rows(
+    starts: &[u16; 2052],
+    lengths: &[u16; 2052],
+    sizes: &[u16; 2052],
+    start: &mut [u32],
+    length: &mut [u32],
+    size: &mut [u32],
+    rows: usize,
+)
+    requires { ⌜ Long (now starts) (now lengths) (now sizes) × (rows ≤ 2052) × (rows ≤ lib.ListN.length (now start)) × (rows ≤ lib.ListN.length (now length)) × (rows ≤ lib.ListN.length (now size)) ⌝ }
+    ensures { λ _. ⌜ Copied rows (now (starts .entry)) (now (lengths .entry)) (now (sizes .entry)) (now (start .entry)) (now (length .entry)) (now (size .entry)) (now (start .exit)) (now (length .exit)) (now (size .exit)) ⌝ }
+{
+    copy(starts, start, rows);
+    copy(lengths, length, rows);
+    copy(sizes, size, rows);
 }
 
 // How many spellings are known after a label was found: a label that is not among them is new.

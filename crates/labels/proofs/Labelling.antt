@@ -8,13 +8,13 @@ use native.Mathlib.Numerals.{add-one}
 use lib.Dec.{ltb}
 use lib.ListN.{length, getD, set, take, length-append}
 use lib.Seq.{take-suc}
-use Rattle.rows.specs.Filled.{Filled}
-use Rattle.rows.proofs.Upto.{Upto, upto-more, upto-all}
+use Rattle.labels.specs.Filled.{Filled}
+use Rattle.labels.proofs.Upto.{Upto, upto-more, upto-all}
 use Rattle.dictionary.specs.Scan.{range}
 use Rattle.dictionary.specs.Labels.{placeOf, learn, knownAfter, labelsOf}
 use Rattle.dictionary.specs.Index.{Indexed, MayLabel, Labelled}
 use Rattle.dictionary.proofs.Labels.{place-le, known-next, label-at, length-labels}
-use Rattle.document.specs.Labelling.{MayLabelRows}
+use Rattle.labels.specs.Labelling.{MayLabelRows}
 
 known-more : (ns ws : List (List ℕ)) (r : ℕ) → r < length ws → knownAfter ns (take (r + 1) ws) ≡ learn (knownAfter ns (take r ws)) (getD ws r [])
 known-more ns ws r h = rw (add-one r, take-suc ws r [] h) (known-next ns (take r ws) (getD ws r []))

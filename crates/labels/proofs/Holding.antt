@@ -1,12 +1,11 @@
 -- A list that has some numbers first.
 use mathlib.Core.Path.{_≡_, sym, ap, _∙_}
-use mathlib.Core.List.{List, [], _∷_, _++_, map, map-append, append-assoc}
+use mathlib.Core.List.{List, [], _∷_, _++_, append-assoc}
 use Prim.Native.Nat.{ℕ, _+_, _<_}
 use native.Mathlib.Omega.{arith}
 use lib.ListN.{length, set, length-append}
 use lib.Seq.{set-at}
-use Rattle.grammar.specs.Rows.{Row}
-use Rattle.rows.specs.Notes.{Holds}
+use Rattle.labels.specs.Lists.{Holds}
 
 -- what is stored behind them makes no difference ..
 pub holds-beside : (xs l : List ℕ) (n v : ℕ) → length xs ≡ n → n < length l → Holds xs l → Holds xs (set l n v)
@@ -30,7 +29,3 @@ holds-again xs ys l x n v e k = record {
   rest = k .rest;
   is = ap (λ (m : List ℕ). set m n v) (k .is ∙ append-assoc xs (x ∷ ys) (k .rest)) ∙ set-at xs x (ys ++ k .rest) v n e ∙ sym (append-assoc xs (v ∷ ys) (k .rest));
 }
-
-pub row-more : (g : Row → ℕ) (R : List Row) (x : Row) (l : List ℕ) (n : ℕ) → length (map g R) ≡ n → n < length l → Holds (map g R) l →
-    Holds (map g (R ++ (x ∷ []))) (set l n (g x))
-row-more g R x l n e h k = rw (map-append g R (x ∷ [])) (holds-more (map g R) l n (g x) e h k)

@@ -1,7 +1,7 @@
 use borrow.Author.Tests.{lt-ltb, le-ltb}
 use borrow.Author.Needs.{needs}
-use Rattle.document.proofs.fill.known.Statement.{statement}
-use Rattle.document.proofs.fill.known.Tie as tie
+use Rattle.labels.proofs.fill.known.Statement.{statement}
+use Rattle.labels.proofs.fill.known.Tie as tie
 
 add-result : tie.Need-add-result
 add-result c = search needs

@@ -1,11 +1,11 @@
 use Prim.Native.Nat.{_-_, _≤_}
 use mathlib.Core.Path.{refl, sym}
 use native.Mathlib.Omega.{arith}
-use Rattle.rows.proofs.Upto.{Upto, upto-more}
-use Rattle.document.proofs.Filling.{copied-so}
+use Rattle.labels.proofs.Upto.{Upto, upto-more}
+use Rattle.labels.proofs.Copies.{copied-so}
 use borrow.Author.Needs.{needs}
-use Rattle.document.proofs.fill.copy.Statement.{statement}
-use Rattle.document.proofs.fill.copy.Tie as tie
+use Rattle.labels.proofs.fill.copy.Statement.{statement}
+use Rattle.labels.proofs.fill.copy.Tie as tie
 
 abbrev Inv-loop : tie.InvT-loop
 Inv-loop from to₀ count i₀ to i = Upto from to₀ i to × (i ≤ count)

@@ -1,0 +1,4 @@
+pub mod Upto
+pub mod Holding
+pub mod Copies
+pub mod Labelling

@@ -1,0 +1,4 @@
+pub mod Filled
+pub mod Lists
+pub mod Sizes
+pub mod Labelling
