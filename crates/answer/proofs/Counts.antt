@@ -16,12 +16,12 @@ use Rattle.constraint.specs.Obeys.{Allowed}
 use Rattle.constraint.proofs.Allowed.{allowed?}
 use Rattle.problem.proofs.Posed.{posed}
 use Rattle.problem.specs.Problem as problem
-use Rattle.listing.specs.Answer.{Result, roomOf}
-use Rattle.listing.specs.Meant.{Meant}
-use Rattle.listing.proofs.Events.{Outcome, fail, need, done, Event, tried, matched, snoc, branch, after, events}
-use Rattle.listing.proofs.Run.{run}
-use Rattle.listing.proofs.Whole.{walked, meant}
-use Rattle.listing.proofs.Facts.{one-answer, leading, at-most-one}
+use Rattle.catalogue.specs.Answer.{Result, roomOf}
+use Rattle.catalogue.specs.Meant.{Meant}
+use Rattle.catalogue.proofs.Events.{Outcome, fail, need, done, Event, tried, matched, snoc, branch, after, events}
+use Rattle.catalogue.proofs.Run.{run}
+use Rattle.catalogue.proofs.Whole.{walked, meant}
+use Rattle.catalogue.proofs.Facts.{one-answer, leading, at-most-one}
 use Rattle.lister.specs.Listed as lister
 use Rattle.lister.specs.declared.Listed.{Listed}
 use Rattle.instance.specs.Instance as instance

@@ -12,12 +12,12 @@ use Rattle.meaning.specs.Solves.{Solves}
 use Rattle.meaning.specs.Record.{recordOf}
 use Rattle.meaning.specs.Order.{choices}
 use Rattle.meaning.specs.Matcher.{IsRecord}
-use Rattle.listing.specs.Order.{Mem}
-use Rattle.listing.specs.Tries.{Tries}
-use Rattle.listing.specs.Answer.{Result, places, within, atMost, roomOf}
-use Rattle.listing.specs.Meant.{Meant}
-use Rattle.listing.specs.Listing.{Listing}
-use Rattle.listing.proofs.Facts.{one-answer}
+use Rattle.catalogue.specs.Order.{Mem}
+use Rattle.catalogue.specs.Tries.{Tries}
+use Rattle.catalogue.specs.Answer.{Result, places, within, atMost, roomOf}
+use Rattle.catalogue.specs.Meant.{Meant}
+use Rattle.catalogue.specs.Listing.{Listing}
+use Rattle.catalogue.proofs.Facts.{one-answer}
 use Rattle.client.specs.Solvable.{Found, Absent, Unknown}
 use Rattle.client.specs.Promises.{ForOne}
 use Rattle.client.proofs.Ways.{place-few, Soon, soon-within, within-soon, within-all, Way, full, spent, done, ways}

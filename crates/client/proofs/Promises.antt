@@ -15,10 +15,10 @@ use Rattle.constraint.specs.Obeys.{Constraint, Allowed}
 use Rattle.constraint.proofs.Allowed.{allowed?}
 use Rattle.problem.specs.Problem.{Lists}
 use Rattle.problem.proofs.Posed.{Posed, posed, codes-high, one-codes}
-use Rattle.listing.specs.Solutions.{Solutions}
-use Rattle.listing.specs.Answer.{atMost, roomOf}
-use Rattle.listing.specs.Listing.{Listing}
-use Rattle.listing.proofs.Facts.{at-most-one}
+use Rattle.catalogue.specs.Solutions.{Solutions}
+use Rattle.catalogue.specs.Answer.{atMost, roomOf}
+use Rattle.catalogue.specs.Listing.{Listing}
+use Rattle.catalogue.proofs.Facts.{at-most-one}
 use Rattle.client.specs.Solvable.{codeOf, Settled}
 use Rattle.client.specs.Promises.{ForOne, RoomForOne, Decides, Client}
 use Rattle.client.specs.declared.Answer.{Answer}

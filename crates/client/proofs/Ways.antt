@@ -10,8 +10,8 @@ use native.Mathlib.Omega.{arith}
 use borrow.Author.Tests.{ltb-true, ltb-false, leb-true, le-leb}
 use Rattle.meaning.specs.Pattern.{Kind}
 use Rattle.meaning.specs.Order.{choices}
-use Rattle.listing.specs.Order.{Mem}
-use Rattle.listing.specs.Answer.{Result, pick, upto, place, places, within, Room, atMost, unlimited, byBudget, answer}
+use Rattle.catalogue.specs.Order.{Mem}
+use Rattle.catalogue.specs.Answer.{Result, pick, upto, place, places, within, Room, atMost, unlimited, byBudget, answer}
 
 pub place-few : (ts : List (List ℕ)) (w : List ℕ) → place ts w ≤ length ts
 place-few [] w = zero-le

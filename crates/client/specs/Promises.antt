@@ -12,8 +12,8 @@ use Rattle.meaning.specs.Solves.{Solves}
 use Rattle.expression.specs.Expression.{Expression}
 use Rattle.constraint.specs.Obeys.{Constraint, Allowed}
 use Rattle.problem.specs.Problem.{Lists, Poses}
-use Rattle.listing.specs.Tries.{Tries}
-use Rattle.listing.specs.Answer.{atMost, roomOf}
+use Rattle.catalogue.specs.Tries.{Tries}
+use Rattle.catalogue.specs.Answer.{atMost, roomOf}
 use Rattle.lister.specs.Listed as Lister
 use Rattle.lister.specs.declared.Listed.{Listed}
 use Rattle.client.specs.Solvable.{Settled}

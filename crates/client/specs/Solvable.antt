@@ -14,8 +14,8 @@ use Rattle.meaning.specs.Lowest.{accept}
 use Rattle.expression.specs.Expression.{Expression}
 use Rattle.constraint.specs.Obeys.{Constraint, Allowed}
 use Rattle.problem.specs.Problem.{Lists, Poses, Codes}
-use Rattle.listing.specs.Tries.{Tries}
-use Rattle.listing.specs.Answer.{place}
+use Rattle.catalogue.specs.Tries.{Tries}
+use Rattle.catalogue.specs.Answer.{place}
 use Rattle.client.specs.declared.Answer.{Answer}
 use Rattle.client.specs.declared.Answer.the-variants.{Refused, Yes, No, Open}
 

@@ -6,6 +6,6 @@ pub mod Words
 pub mod Pairs
 pub mod Passed
 pub mod Readings
-pub mod Judging
+pub mod Obeyed
 pub mod Meant
 pub mod Values

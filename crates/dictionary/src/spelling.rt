@@ -6,6 +6,7 @@ ghost use lib.ListN.{length};
 ghost use denote.Ref.{ptr};
 ghost use Rattle.dictionary.specs.Names.{GoodDictionary};
 ghost use Rattle.dictionary.specs.Spelling.{IsPart, partOfDictionary, partOfDocument, PartAnswered, SpellingAnswered};
+use meaning::wide;
 
 // Where a spelling's bytes stand.
 const DICTIONARY: u32 = 0;
@@ -25,12 +26,6 @@ const EMPTY: Part = Part {
     start: 0,
     length: 0,
 };
-
-fn wide(x: u32) -> usize
-    ensures { λ r. ⌜ r ≡ x ⌝ }
-{
-    x as usize
-}
 
 // The name at a place, without its byte 10.
 fn name_part(dictionary: &[u8], place: usize) -> Part

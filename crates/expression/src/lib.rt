@@ -13,13 +13,7 @@ pub mod kinds;
 
 use kinds::REPETITION;
 use kinds::SYMBOL;
-
-fn wide(x: u32) -> usize
-    ensures is { λ r. ⌜ r ≡ x ⌝ }
-    ensures below { λ r. ⌜ r < 4294967296 ⌝ }
-{
-    x as usize
-}
+use meaning::wide;
 
 // Whether a row of this kind may have this name.
 fn named(kind: u32, name: u32) -> bool

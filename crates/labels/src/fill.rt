@@ -7,12 +7,7 @@ ghost use lib.Dec.{ltb};
 ghost use lib.ListN.{length, getD, take, drop};
 ghost use Rattle.labels.specs.Lists.{Long, Copied};
 ghost use Rattle.labels.specs.Labelling.{MayLabelRows, LabelsRows};
-
-fn wide(x: u32) -> usize
-    ensures { λ r. ⌜ r ≡ x ⌝ }
-{
-    x as usize
-}
+use meaning::wide;
 
 fn number(list: &[u32], i: usize) -> usize
     requires { ⌜ i < length (now list) ⌝ }

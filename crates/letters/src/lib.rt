@@ -16,17 +16,12 @@ use expression::kinds::CHOICE;
 use expression::kinds::CONCATENATION;
 use expression::kinds::EMPTY;
 use expression::kinds::SYMBOL;
+use meaning::wide;
 
 // The rows that may read the next letter, and whether the word may end here.
 pub struct State {
     pub next: u64,
     pub end: bool,
-}
-
-fn wide(x: u32) -> usize
-    ensures { λ r. ⌜ r ≡ x ⌝ }
-{
-    x as usize
 }
 
 // A flag as a number.

@@ -37,12 +37,12 @@ use Rattle.choice.proofs.Stops.{many-range, at-row, at-room}
 use Rattle.choice.proofs.Lands.{lands-inside, lands-small}
 use Rattle.walk.specs.declared.Out.{Out}
 use Rattle.walk.specs.declared.Out.the-variants as out
-use Rattle.listing.proofs.Events.{Outcome}
-use Rattle.listing.proofs.Given.{Chosen}
-use Rattle.listing.proofs.Levels.{Level, level-kind, Levels, levels-next, levels-skip, variables-rise}
-use Rattle.listing.proofs.Run.{Tame}
-use Rattle.listing.proofs.Loop.{Fixed}
-use Rattle.listing.proofs.Whole.{walked, is-tame}
+use Rattle.catalogue.proofs.Events.{Outcome}
+use Rattle.catalogue.proofs.Given.{Chosen}
+use Rattle.catalogue.proofs.Levels.{Level, level-kind, Levels, levels-next, levels-skip, variables-rise}
+use Rattle.catalogue.proofs.Run.{Tame}
+use Rattle.catalogue.proofs.Loop.{Fixed}
+use Rattle.catalogue.proofs.Whole.{walked, is-tame}
 use Rattle.levels.specs.Levels.{Search, AttemptPost, Pause, Pauses}
 use Rattle.levels.proofs.Pauses.{pauses-skip, pauses-next, pauses-kept}
 
@@ -79,15 +79,15 @@ module _ {L S M tables : List ℕ} {T : Term} {P : Pattern} {Q : List Kind} {es 
   is-fixed wide fits =
       record {
         is-tame = subst (λ (n : ℕ). Tame Walked (count Q) (size T) n) (sym wide) (is-tame (Allowed cs) (allowed? cs) numbered T);
-        small = omega (arith, few Q, w .judging .few);
+        small = omega (arith, few Q, w .allowing .few);
         fits = fits;
       }
 
   pub individuals : (x : ℕ) (v : Value) → look Q x ≡ old anIndividual → Allowed cs x v
-  individuals x v e = unjudged anIndividual v refl (pair-at x (w .judging .given) e)
+  individuals x v e = unjudged anIndividual v refl (pair-at x (w .allowing .given) e)
 
   pub functions : (x : ℕ) (v : Value) → look Q x ≡ old aFunction → Allowed cs x v
-  functions x v e = unjudged aFunction v refl (pair-at x (w .judging .given) e)
+  functions x v e = unjudged aFunction v refl (pair-at x (w .allowing .given) e)
 
   -- the levels below the depth, as they are meant and as the walk left them
   abbrev pub Leveled : List ℕ → List ℕ → List ℕ → List ℕ → List ℕ → ℕ → Type 0

@@ -15,8 +15,8 @@ use Rattle.pattern.specs.Rows.{code}
 use Rattle.expression.specs.Expression.{Expression}
 use Rattle.constraint.specs.Obeys.{Constraint}
 use Rattle.constraint.specs.Reading.{ObeysPre, ObeysPost}
-use Rattle.problem.specs.Judge.{JudgePost}
-use Rattle.problem.proofs.Judged.{kind-number, judge-asks, judged-by}
+use Rattle.problem.specs.Allowing.{AllowedPost}
+use Rattle.problem.proofs.Allows.{kind-number, allowed-asks, allowed-by}
 use Rattle.memory.specs.Memory.{Both, GrowPre}
 use Rattle.walk.specs.Packed.{rootOf}
 use Rattle.walk.specs.Above.{Stands, before-terms, over-term}
@@ -53,13 +53,13 @@ module _ {L S M tables R A : List ℕ} {p x s u v : ℕ}
     its-flag = w .bounds .flags p there ∙ ap (λ (y : ℕ). getD (w .C) (y + y + 1) 0) (its-name (a .needs .stands))
 
     its-kind : getD M (6 * p) 0 ≡ getD (w .kinds) x 0
-    its-kind = w .packed .kinds p there ∙ kind-there (a .needs .stands) k e ∙ sym (kind-number x k (w .judging) e)
+    its-kind = w .packed .kinds p there ∙ kind-there (a .needs .stands) k e ∙ sym (kind-number x k (w .allowing) e)
 
     asks : Fits k (T ◂ none) s v → ObeysPre L S (getD M (6 * p + 4) 0) (getD M (6 * p + 5) 0) (getD M (6 * p) 0) s v
-    asks g = rw (its-start, its-flag, its-kind) (judge-asks (record { some = (T, Q, es, cs, k, w .judging, e, g) }))
+    asks g = rw (its-start, its-flag, its-kind) (allowed-asks (record { some = (T, Q, es, cs, k, w .allowing, e, g) }))
 
-    says : {r : Bool} → ObeysPost L S tables (getD M (6 * p + 4) 0) (getD M (6 * p + 5) 0) (getD M (6 * p) 0) s v r → JudgePost L S tables (w .C) (w .kinds) x s v r
-    says post = judged-by x s v (rw (its-start, its-flag, its-kind) at post)
+    says : {r : Bool} → ObeysPost L S tables (getD M (6 * p + 4) 0) (getD M (6 * p + 5) 0) (getD M (6 * p) 0) s v r → AllowedPost L S tables (w .C) (w .kinds) x s v r
+    says post = allowed-by x s v (rw (its-start, its-flag, its-kind) at post)
 
   pub try-judged : {memory path : List ℕ} → Both L S tables (rootOf M) memory path → GrowPre L S M tables p s v memory path
   try-judged both =
@@ -67,7 +67,7 @@ module _ {L S M tables R A : List ℕ} {p x s u v : ℕ}
       record {
         asked = asks (h .9) (h .10) (h .12) (h .11);
         few = omega (arith, there (h .9) (h .10) (h .12), h .12 .marks .few);
-        small = omega (arith, h .9 .judging .tree .few);
+        small = omega (arith, h .9 .allowing .tree .few);
         remembers = both;
       }
 
@@ -77,7 +77,7 @@ module _ {L S M tables R A : List ℕ} {p x s u v : ℕ}
   pub try-fails : {r : Bool} → Judged r → r ≡ false → AttemptPost L S M tables R A p x s u v out.Fail R A
   try-fails post e =
       record {
-        is = λ T P Q es cs k f lo hi w l g a. (λ n. refl, λ b. absurd (said-no (says w l a post .is T Q es cs k (w .judging) l g) e b), unchanged-same, unchanged-same);
+        is = λ T P Q es cs k f lo hi w l g a. (λ n. refl, λ b. absurd (said-no (says w l a post .is T Q es cs k (w .allowing) l g) e b), unchanged-same, unchanged-same);
       }
 
   pub try-asked : TakePre L S M R A p x s u v
@@ -89,5 +89,5 @@ module _ {L S M tables R A : List ℕ} {p x s u v : ℕ}
       record {
         is = λ T P Q es cs k f lo hi w l g a.
             let y = walk .is (w .K) (w .N) (w .Z) Q f lo hi a in
-            (λ n. absurd (n (says w l a post .is T Q es cs k (w .judging) l g .0 e)), λ b. (y .0, y .1), y .2, y .3);
+            (λ n. absurd (n (says w l a post .is T Q es cs k (w .allowing) l g .0 e)), λ b. (y .0, y .1), y .2, y .3);
       }

@@ -13,7 +13,7 @@ use Rattle.meaning.proofs.Next.{Any, any?}
 use Rattle.pattern.specs.Good.{GoodPattern}
 use Rattle.expression.specs.Expression.{Expression}
 use Rattle.constraint.specs.Obeys.{Constraint, Allowed}
-use Rattle.problem.specs.Judge.{Judging}
+use Rattle.problem.specs.Allowing.{Allowing}
 use Rattle.walk.specs.Packed.{Packed, Bounds}
 use Rattle.walk.specs.Above.{Marks, Unchanged}
 use Rattle.walk.specs.Cycle.{Needs, Agree}
@@ -29,7 +29,7 @@ pub record Search (L S M tables : List ℕ) (T : Term) (P : Pattern) (Q : List K
   pub Z : List ℕ
   pub C : List ℕ
   pub kinds : List ℕ
-  pub judging : Judging L S tables C kinds T Q es cs
+  pub allowing : Allowing L S tables C kinds T Q es cs
   pub pattern : GoodPattern K N Z P Q
   pub packed : Packed K N Z M
   pub bounds : Bounds K N C M

@@ -2,7 +2,7 @@
 ghost use mathlib.Core.Path.{_≡_};
 ghost use Prim.Native.Nat.{_≤_};
 ghost use lib.ListN.{length};
-ghost use Rattle.listing.proofs.Back.{BackTo};
+ghost use Rattle.catalogue.proofs.Back.{BackTo};
 ghost use Rattle.walk.specs.Packed.{rootOf};
 ghost use Rattle.memory.specs.Memory.{Both};
 ghost use Rattle.levels.specs.Columns.{lefts, Inside, Standing, Moved, Entered};
@@ -108,7 +108,7 @@ pub fn attempt(
     ensures { λ r. ⌜ AttemptPost (now (label .entry)) (now (size .entry)) (now (pattern .entry)) (now (tables .entry)) (now («record» .entry)) (now (at .entry)) (t .p) (t .x) (t .s) (t .u) (t .v) r (now («record» .exit)) (now (at .exit))
         × Both (now (label .entry)) (now (size .entry)) (now (tables .entry)) (rootOf (now (pattern .entry))) (now (memory .exit)) (now (path .exit)) ⌝ }
 {
-    if !memory::judge(label, size, pattern, tables, t.p, t.s, t.v, memory, path) {
+    if !memory::allowed(label, size, pattern, tables, t.p, t.s, t.v, memory, path) {
         return walk::Out::Fail;
     }
     walk::take(label, size, pattern, record, at, t.p, t.x, t.s, t.u, t.v)

@@ -27,10 +27,10 @@ use Rattle.walk.proofs.Views.{need-agree}
 use Rattle.walk.proofs.Answered.{answers, failed, matched}
 use Rattle.choice.specs.Stops.{StopAt, AtStop, LeastPost, ValuesPost}
 use Rattle.choice.proofs.Stops.{many-range, at-room}
-use Rattle.listing.proofs.Fill.{fill}
-use Rattle.listing.proofs.Levels.{Levels, levels-need}
-use Rattle.listing.proofs.Loop.{Fixed, first-fail, first-need, first-full, first-done, first-room, first-deep}
-use Rattle.listing.proofs.Whole.{walked, outcome}
+use Rattle.catalogue.proofs.Fill.{fill}
+use Rattle.catalogue.proofs.Levels.{Levels, levels-need}
+use Rattle.catalogue.proofs.Loop.{Fixed, first-fail, first-need, first-full, first-done, first-room, first-deep}
+use Rattle.catalogue.proofs.Whole.{walked, outcome}
 use Rattle.search.specs.Search.{GoAsked, GoPre, GoPost}
 use Rattle.search.specs.declared.Found.{Found}
 use Rattle.levels.proofs.Going.{is-fixed, individuals, functions}
@@ -61,10 +61,10 @@ module _ {L S M tables : List ℕ} {room width : ℕ} {before : List ℕ} where
           K = a .search .K;
           N = a .search .N;
           Z = a .search .Z;
-          tree = a .search .judging .tree;
+          tree = a .search .allowing .tree;
           pattern = a .search .pattern;
           packed = a .search .packed;
-          room = omega (arith, a .search .judging .few);
+          room = omega (arith, a .search .allowing .few);
           marks = record { few = a .search .pattern .few; long = l };
         }
 
@@ -101,7 +101,7 @@ module _ {L S M tables : List ℕ} {room width : ℕ} {before : List ℕ} where
       pub begun-put : (room ≡ 0 → ⊥) → (width ≤ 32) × (length R′ ≡ 32) × (0 + width ≤ length before)
       begun-put f =
           let a = b .pre .some .5 in
-          (omega (arith, a .wide, a .search .judging .few), walked-long, omega (arith, first-room (fixed a) f))
+          (omega (arith, a .wide, a .search .allowing .few), walked-long, omega (arith, first-room (fixed a) f))
 
       pub begun-done : {budget : ℕ} → (room ≡ 0 → ⊥) → Post budget (record { ending = 0; records = 1; tries = 0 }) (paste before 0 R′ width)
       begun-done {budget} f = record { all = λ T P Q es cs a. let d = said a in first-done (fixed a) budget (numbers (d .0)) R′ (ap outcome (d .1)) (d .2) f }

@@ -7,9 +7,9 @@ use Rattle.meaning.specs.Lowest.{accept}
 use Rattle.meaning.proofs.OneCode.{one-accept}
 use Rattle.problem.specs.Problem.{Lists}
 use Rattle.problem.proofs.Posed.{posed, one-codes}
-use Rattle.listing.specs.Answer.{Result}
-use Rattle.listing.specs.Listing.{joined}
-use Rattle.listing.proofs.Facts.{one-answer}
+use Rattle.catalogue.specs.Answer.{Result}
+use Rattle.catalogue.specs.Listing.{joined}
+use Rattle.catalogue.proofs.Facts.{one-answer}
 use Rattle.lister.specs.Listed.{Settled}
 use Rattle.lister.specs.declared.Listed.{Listed}
 use lib.ListN.{length, drop}

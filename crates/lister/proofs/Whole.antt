@@ -20,14 +20,14 @@ use Rattle.problem.specs.Answer.{Answered}
 use Rattle.problem.specs.declared.Problem.{Problem}
 use Rattle.problem.proofs.Posed.{codes-high, the, known}
 use Rattle.walk.specs.Packed.{Packed, Bounds}
-use Rattle.listing.specs.Answer.{Result, atMost, roomOf}
-use Rattle.listing.specs.Meant.{Meant}
-use Rattle.listing.proofs.Back.{fitting, fitting-some}
-use Rattle.listing.proofs.Events.{events}
-use Rattle.listing.proofs.Run.{Tame, run}
-use Rattle.listing.proofs.Fill.{filled, room-fits}
-use Rattle.listing.proofs.Whole.{walked, meant}
-use Rattle.listing.proofs.Facts.{meant-unlimited}
+use Rattle.catalogue.specs.Answer.{Result, atMost, roomOf}
+use Rattle.catalogue.specs.Meant.{Meant}
+use Rattle.catalogue.proofs.Back.{fitting, fitting-some}
+use Rattle.catalogue.proofs.Events.{events}
+use Rattle.catalogue.proofs.Run.{Tame, run}
+use Rattle.catalogue.proofs.Fill.{filled, room-fits}
+use Rattle.catalogue.proofs.Whole.{walked, meant}
+use Rattle.catalogue.proofs.Facts.{meant-unlimited}
 use Rattle.search.specs.declared.Found.{Found}
 use Rattle.levels.proofs.Going.{is-fixed}
 use Rattle.lister.specs.Begun.{BeginAsked, BeginPre, BeginPost}
@@ -64,7 +64,7 @@ module _ (l : Lists) {r : Problem} (a : Answered l r) (budget : ℕ) (before : L
                   K = l .kind;
                   N = l .name;
                   Z = l .patternSize;
-                  judging = record { tree = w .tree; few = k .few; known = k .are; table = (_, _, _, w .rest .table); read = read es (w .rest .table); given = w .rest .constraints };
+                  allowing = record { tree = w .tree; few = k .few; known = k .are; table = (_, _, _, w .rest .table); read = read es (w .rest .table); given = w .rest .constraints };
                   pattern = w .rest .pattern;
                   C = l .constraint;
                   kinds = r .kinds;

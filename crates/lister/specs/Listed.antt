@@ -9,7 +9,7 @@ use Rattle.meaning.specs.Lowest.{accept}
 use Rattle.expression.specs.Expression.{Expression}
 use Rattle.constraint.specs.Obeys.{Constraint, Allowed}
 use Rattle.problem.specs.Problem.{Lists, Poses, Codes}
-use Rattle.listing.specs.Listing.{Listing}
+use Rattle.catalogue.specs.Listing.{Listing}
 use Rattle.lister.specs.declared.Listed.{Listed}
 
 -- what the lister promises of its answer and of the lent list, for any lists

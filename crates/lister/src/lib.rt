@@ -1,6 +1,6 @@
 // The lister of matchers: checks the problem, and lists every matcher once, in order, as far as room and budget go.
 ghost use mathlib.Core.Path.{_≡_};
-ghost use Rattle.listing.proofs.Back.{fitting};
+ghost use Rattle.catalogue.proofs.Back.{fitting};
 ghost use Rattle.lister.specs.Begun.{BeginPre, BeginPost};
 ghost use Rattle.lister.specs.Listed.{Settled};
 use meaning::endings::ALL;

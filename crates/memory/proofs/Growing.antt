@@ -11,7 +11,7 @@ use Rattle.meaning.specs.Forest.{Forest, none, some, terms}
 use Rattle.meaning.proofs.Laws.{dropT}
 use Rattle.constraint.specs.Reading.{MorePre, ReadTo, ReadOn, ForbiddenPost}
 use Rattle.constraint.proofs.Readings.{Begun, no-head, all-heads}
-use Rattle.constraint.proofs.Judging.{obeys-free, obeys-forbidden, obeys-read, heads-after, path-after, heads-asked, path-asked}
+use Rattle.constraint.proofs.Obeyed.{obeys-free, obeys-forbidden, obeys-read, heads-after, path-after, heads-asked, path-asked}
 use Rattle.paths.specs.Paths.{AcceptedPre, AcceptedPost}
 use Rattle.walk.specs.Packed.{rootOf}
 use Rattle.memory.specs.Memory.{Remembers, kept, RecallPost, GrownPre, GrownPost, GrowPre, GrowPost}

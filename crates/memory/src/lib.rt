@@ -106,7 +106,7 @@ fn row_of(start: u32) -> usize
 }
 
 // Whether the variable at the pattern row p may stand for the value that the numbers a and b mean, as `constraint::obeys` says.
-pub fn judge(
+pub fn allowed(
     label: &[u32],
     size: &[u32],
     pattern: &[u32; 1536],

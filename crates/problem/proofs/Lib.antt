@@ -1,3 +1,3 @@
 pub mod Lowest
 pub mod Posed
-pub mod Judged
+pub mod Allows

@@ -1,3 +1,3 @@
 pub mod Problem
 pub mod Answer
-pub mod Judge
+pub mod Allowing

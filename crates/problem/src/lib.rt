@@ -1,6 +1,6 @@
 ghost use mathlib.Core.Path.{_≡_};
 ghost use Rattle.problem.specs.Answer.{Answered};
-ghost use Rattle.problem.specs.Judge.{JudgePre, JudgePost};
+ghost use Rattle.problem.specs.Allowing.{AllowedPre, AllowedPost};
 ghost use Rattle.pattern.specs.Answer.{listed};
 ghost use mathlib.Core.List.{[]};
 use meaning::codes::CONSTRAINTS;
@@ -72,7 +72,7 @@ pub fn check(
 }
 
 // Whether the variable x may stand for the value that the numbers a and b mean: what its constraint says.
-pub fn judge(
+pub fn allowed(
     label: &[u32],
     size: &[u32],
     tables: &[u64; 320],
@@ -82,8 +82,8 @@ pub fn judge(
     a: usize,
     b: usize,
 ) -> bool
-    requires { ⌜ JudgePre (now label) (now size) (now tables) (now constraint) (now kinds) x a b ⌝ }
-    ensures { λ r. ⌜ JudgePost (now (label .entry)) (now (size .entry)) (now (tables .entry)) (now (constraint .entry)) (now (kinds .entry)) x a b r ⌝ }
+    requires { ⌜ AllowedPre (now label) (now size) (now tables) (now constraint) (now kinds) x a b ⌝ }
+    ensures { λ r. ⌜ AllowedPost (now (label .entry)) (now (size .entry)) (now (tables .entry)) (now (constraint .entry)) (now (kinds .entry)) x a b r ⌝ }
 {
     let start = constraint[x + x];
     let flag = constraint[x + x + 1];

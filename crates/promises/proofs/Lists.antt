@@ -18,15 +18,15 @@ use Rattle.constraint.proofs.Allowed.{allowed?}
 use Rattle.expression.specs.Expression.{Expression}
 use Rattle.problem.specs.Problem.{Lists, Poses, Codes}
 use Rattle.problem.proofs.Posed.{codes-high, one-codes}
-use Rattle.listing.specs.Answer.{Result, roomOf}
-use Rattle.listing.specs.Meant.{Meant}
-use Rattle.listing.proofs.Back.{fitting}
-use Rattle.listing.proofs.Events.{events, mem-left}
-use Rattle.listing.proofs.Run.{run, more}
-use Rattle.listing.proofs.Whole.{walked, meant}
-use Rattle.listing.proofs.Facts.{one-answer, leading, whole, empty-none, none-empty, tries-bound}
-use Rattle.listing.proofs.Stays.{fitting-more}
-use Rattle.listing.proofs.Different.{different}
+use Rattle.catalogue.specs.Answer.{Result, roomOf}
+use Rattle.catalogue.specs.Meant.{Meant}
+use Rattle.catalogue.proofs.Back.{fitting}
+use Rattle.catalogue.proofs.Events.{events, mem-left}
+use Rattle.catalogue.proofs.Run.{run, more}
+use Rattle.catalogue.proofs.Whole.{walked, meant}
+use Rattle.catalogue.proofs.Facts.{one-answer, leading, whole, empty-none, none-empty, tries-bound}
+use Rattle.catalogue.proofs.Stays.{fitting-more}
+use Rattle.catalogue.proofs.Different.{different}
 use Rattle.lister.specs.declared.Listed.{Listed}
 use Rattle.lister.proofs.Whole.{in-room}
 use Rattle.promises.specs.Lists.{ListIs, ListsAll, OnePlace, EmptyIsNone, MoreLengthens, Listings}

@@ -21,14 +21,14 @@ use Rattle.constraint.proofs.Language.{parts?, again?, repeated?, word?, in?}
 use Rattle.constraint.proofs.Allowed.{flagged?, obeys?, allowed?}
 use Rattle.problem.specs.Problem.{Lists, Poses}
 use Rattle.problem.proofs.Posed.{codes-high, one-posed}
-use Rattle.listing.specs.Order.{Mem}
-use Rattle.listing.specs.Answer.{Result}
-use Rattle.listing.specs.Listing.{Listing, joined}
-use Rattle.listing.proofs.Back.{fitting}
-use Rattle.listing.proofs.Events.{events}
-use Rattle.listing.proofs.Run.{run}
-use Rattle.listing.proofs.Whole.{walked}
-use Rattle.listing.proofs.Stays.{run-stays, fitting-more}
+use Rattle.catalogue.specs.Order.{Mem}
+use Rattle.catalogue.specs.Answer.{Result}
+use Rattle.catalogue.specs.Listing.{Listing, joined}
+use Rattle.catalogue.proofs.Back.{fitting}
+use Rattle.catalogue.proofs.Events.{events}
+use Rattle.catalogue.proofs.Run.{run}
+use Rattle.catalogue.proofs.Whole.{walked}
+use Rattle.catalogue.proofs.Stays.{run-stays, fitting-more}
 use Rattle.lister.specs.Listed.{Settled}
 use Rattle.lister.specs.declared.Listed.{Listed}
 use Rattle.lister.proofs.Unique.{one-listed}

@@ -18,8 +18,8 @@ use Rattle.meaning.specs.Reached.{Begins, Reached}
 use Rattle.expression.specs.Expression.{Expression}
 use Rattle.constraint.specs.Obeys.{Constraint, Allowed}
 use Rattle.problem.specs.Problem.{Lists, Poses}
-use Rattle.listing.specs.Order.{Mem}
-use Rattle.listing.specs.Listing.{Listing}
+use Rattle.catalogue.specs.Order.{Mem}
+use Rattle.catalogue.specs.Listing.{Listing}
 use Rattle.lister.specs.Listed.{Settled}
 use Rattle.lister.specs.declared.Listed.{Listed}
 

@@ -5,8 +5,8 @@ use mathlib.Core.Logic.{_↔_}
 use mathlib.Core.List.{List, [], _∷_, _++_}
 use lib.ListN.{length, drop}
 use Rattle.problem.specs.Problem.{Lists}
-use Rattle.listing.specs.Order.{Mem}
-use Rattle.listing.specs.Listing.{joined}
+use Rattle.catalogue.specs.Order.{Mem}
+use Rattle.catalogue.specs.Listing.{joined}
 use Rattle.lister.specs.Listed.{Settled}
 use Rattle.lister.specs.declared.Listed.{Listed}
 

@@ -1,10 +1,10 @@
 // A problem on a tree: what the lister answers, and the instance of each record.
-use instances::parts::only;
-use instances::parts::room;
-use instances::printing;
 use lines::lists::BEFORE;
 use lines::lists::part;
 use lines::lists::unchanged;
+use makings::parts::only;
+use makings::parts::room;
+use makings::printing;
 
 fn listed(
     label: &[u32],
@@ -53,7 +53,7 @@ fn print_records(
         }
         let end = start + width;
         printing::list(&out[start..end]);
-        instances::of_record(label, size, numbers, ends, &out[start..end]);
+        makings::of_record(label, size, numbers, ends, &out[start..end]);
         start = end;
         left -= 1;
     }

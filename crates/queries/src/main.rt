@@ -27,7 +27,7 @@ fn answer(word: &[u8], line: &[u8]) {
             lines::section(line, 4),
         ),
         2 => trees::instance(lines::section(line, 2), lines::section(line, 3)),
-        _ => instances::printing::unreadable(),
+        _ => makings::printing::unreadable(),
     }
 }
 

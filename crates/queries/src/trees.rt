@@ -2,9 +2,9 @@
 ghost use Prim.Native.Nat.{_≤_};
 ghost use lib.ListN.{length};
 use crate::listings;
-use instances::parts::least;
-use instances::printing;
 use lines::lists::part;
+use makings::parts::least;
+use makings::printing;
 
 fn name_byte(byte: u8) -> u8 {
     if byte == b' ' {
@@ -105,7 +105,7 @@ fn instance_in(lists: &[u8], tree: &[u8], numbers: &mut [u32], ends: &mut [usize
         printing::unreadable();
         return;
     }
-    instances::instance(part(numbers, ends, 0), part(numbers, ends, 1), lists);
+    makings::instance(part(numbers, ends, 0), part(numbers, ends, 1), lists);
 }
 
 // The instance of a record over a tree's two lists.

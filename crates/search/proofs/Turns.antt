@@ -26,12 +26,12 @@ use Rattle.walk.proofs.Answered.{failed, matched}
 use Rattle.choice.specs.Stops.{StopAt, LeastPost, FurtherPre, FurtherPost, Before, MorePre, MorePost}
 use Rattle.choice.specs.Runs.{LevelPre, SkipPost}
 use Rattle.choice.proofs.Stops.{many-range, at-room}
-use Rattle.listing.proofs.Events as events
-use Rattle.listing.proofs.Back.{BackTo}
-use Rattle.listing.proofs.Fill.{Filled, fill, rest, ahead}
-use Rattle.listing.proofs.Levels.{levels-back, levels-need}
-use Rattle.listing.proofs.Loop.{Fixed, At, at-rest, at-back, all-done, at-spent, at-skip, at-next, at-fail, at-need, at-match, no-room, room-left, need-deep}
-use Rattle.listing.proofs.Whole.{outcome}
+use Rattle.catalogue.proofs.Events as events
+use Rattle.catalogue.proofs.Back.{BackTo}
+use Rattle.catalogue.proofs.Fill.{Filled, fill, rest, ahead}
+use Rattle.catalogue.proofs.Levels.{levels-back, levels-need}
+use Rattle.catalogue.proofs.Loop.{Fixed, At, at-rest, at-back, all-done, at-spent, at-skip, at-next, at-fail, at-need, at-match, no-room, room-left, need-deep}
+use Rattle.catalogue.proofs.Whole.{outcome}
 use Rattle.levels.specs.Levels.{AttemptPre, AttemptPost}
 use Rattle.search.specs.Search.{GoAsked, GoPre, GoPost}
 use Rattle.search.specs.declared.Found.{Found}
@@ -198,7 +198,7 @@ module _ {i : Input} where
     going-depth p =
         let a = p .some .6 in
         let h = g .each a in
-        omega (arith, h .1 .deep, few (p .some .2), a .search .judging .few)
+        omega (arith, h .1 .deep, few (p .some .2), a .search .allowing .few)
 
     pub going-back : {d : ℕ} → BackTo F depth d → Going i out R A G X St U N F d cnt tries
     going-back b =
@@ -300,7 +300,7 @@ module _ {i : Input} where
     pub placed : Pre i → Placed N F depth
     placed p =
         let a = p .some .6 in
-        let t = a .search .judging .tree in
+        let t = a .search .allowing .tree in
         record {
           some = r .some;
           deep = going-depth g p;
@@ -419,7 +419,7 @@ module _ {i : Input} where
       pub need-fits : Pre i → depth < 256
       need-fits p =
           let a = p .some .6 in
-          omega (arith, need-range a .1, few (p .some .2), a .search .judging .few)
+          omega (arith, need-range a .1, few (p .some .2), a .search .allowing .few)
 
       -- where the walk stopped
       need-stops : {T : Term} {P : Pattern} {Q : List Kind} {es : List Expression} {cs : List Constraint} {vals₀ : List ℕ} (a : Asked i T P Q es cs vals₀)
@@ -491,7 +491,7 @@ module _ {i : Input} where
       pub put-asked : Pre i → (cnt ≡ i .room → ⊥) → (i .width ≤ 32) × (cnt * i .width + i .width ≤ length out)
       put-asked p f =
           let a = p .some .6 in
-          (omega (arith, a .wide, a .search .judging .few), room-left (fixed i a) (t .each a .1) f)
+          (omega (arith, a .wide, a .search .allowing .few), room-left (fixed i a) (t .each a .1) f)
 
       pub tried-match : (cnt ≡ i .room → ⊥) → Going i (paste out (cnt * i .width) R (i .width)) R A G X St U N F depth (cnt + 1) tries
       tried-match f =

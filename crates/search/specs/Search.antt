@@ -10,9 +10,9 @@ use Rattle.meaning.proofs.Tame.{count}
 use Rattle.expression.specs.Expression.{Expression}
 use Rattle.constraint.specs.Obeys.{Constraint, Allowed}
 use Rattle.constraint.proofs.Allowed.{allowed?}
-use Rattle.listing.proofs.Fill.{fill, rest}
-use Rattle.listing.proofs.Levels.{Levels}
-use Rattle.listing.proofs.Whole.{walked}
+use Rattle.catalogue.proofs.Fill.{fill, rest}
+use Rattle.catalogue.proofs.Levels.{Levels}
+use Rattle.catalogue.proofs.Whole.{walked}
 use Rattle.levels.specs.Levels.{Search, Pauses}
 use Rattle.search.specs.declared.Found.{Found}
 

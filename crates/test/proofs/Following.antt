@@ -26,8 +26,8 @@ use Rattle.walk.specs.declared.Out.the-variants as out
 use Rattle.walk.proofs.Views.{fail-agree, need-agree, ok-agree, agree-same}
 use Rattle.choice.specs.Stops.{StopAt, AtStop, LeastPost, ValuesPost, LandingPre, LandingPost}
 use Rattle.choice.proofs.Stops.{many-range, at-room}
-use Rattle.listing.proofs.Given.{Chosen}
-use Rattle.listing.proofs.Levels.{Level, level-kind, level-count}
+use Rattle.catalogue.proofs.Given.{Chosen}
+use Rattle.catalogue.proofs.Levels.{Level, level-kind, level-count}
 use Rattle.test.specs.Inside.{Walkable}
 use Rattle.test.specs.Followed.{FollowPre, FollowPost, lost, found}
 

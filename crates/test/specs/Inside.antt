@@ -18,7 +18,7 @@ use Rattle.expression.specs.Expression.{Expression}
 use Rattle.expression.specs.Good.{GoodTable}
 use Rattle.constraint.specs.Obeys.{Constraint, Allowed}
 use Rattle.constraint.specs.Good.{GoodConstraints}
-use Rattle.problem.specs.Judge.{Judging}
+use Rattle.problem.specs.Allowing.{Allowing}
 
 -- the first numbers of a list are those of another
 pub record Copied (list found : List ℕ) : Type 0 where
@@ -59,8 +59,8 @@ pub record ObeyedPost (L S EK EN EZ C kinds list : List ℕ) (r : Bool) : Type 0
 
 -- the same with the tables of the expressions at hand
 pub record AllPre (L S tables : List ℕ) (C kinds : List ℕ) (variables : ℕ) (list : List ℕ) : Type 0 where
-  pub some : (T : Term) × (Q : List Kind) × (es : List Expression) × (cs : List Constraint) × Judging L S tables C kinds T Q es cs × GoodRecord Q (T ◂ none) list × (variables ≡ length Q)
+  pub some : (T : Term) × (Q : List Kind) × (es : List Expression) × (cs : List Constraint) × Allowing L S tables C kinds T Q es cs × GoodRecord Q (T ◂ none) list × (variables ≡ length Q)
 
 pub record AllPost (L S tables : List ℕ) (C kinds : List ℕ) (variables : ℕ) (list : List ℕ) (r : Bool) : Type 0 where
-  pub is : (T : Term) (Q : List Kind) (es : List Expression) (cs : List Constraint) → Judging L S tables C kinds T Q es cs → GoodRecord Q (T ◂ none) list → variables ≡ length Q
+  pub is : (T : Term) (Q : List Kind) (es : List Expression) (cs : List Constraint) → Allowing L S tables C kinds T Q es cs → GoodRecord Q (T ◂ none) list → variables ≡ length Q
       → Says r (AllObey Q T cs list (length Q))

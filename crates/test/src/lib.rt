@@ -102,7 +102,7 @@ fn all_obey(
     while x < variables {
         let a = tree::at(record, x + x);
         let b = tree::at(record, x + x + 1);
-        if !problem::judge(label, size, tables, constraint, kinds, x, a, b) {
+        if !problem::allowed(label, size, tables, constraint, kinds, x, a, b) {
             return false;
         }
         x += 1;

@@ -1,5 +1,5 @@
 use native.Mathlib.Omega.{arith}
-use Rattle.constraint.proofs.Judging.{not-flagged, sequence-flagged, context-flagged}
+use Rattle.constraint.proofs.Obeyed.{not-flagged, sequence-flagged, context-flagged}
 use Rattle.constraint.proofs.forbidden.Statement.{statement}
 use Rattle.constraint.proofs.forbidden.Tie as tie
 

@@ -1,7 +1,7 @@
 use native.Mathlib.Omega.{arith}
 use mathlib.Core.Path.{refl}
 use borrow.Author.Needs.{needs}
-use Rattle.constraint.proofs.Judging.{obeys-free, obeys-forbidden, obeys-read, heads-after, path-after, heads-asked, path-asked}
+use Rattle.constraint.proofs.Obeyed.{obeys-free, obeys-forbidden, obeys-read, heads-after, path-after, heads-asked, path-asked}
 use Rattle.constraint.proofs.Readings.{all-heads}
 use Rattle.constraint.proofs.obeys.Statement.{statement}
 use Rattle.constraint.proofs.obeys.Tie as tie

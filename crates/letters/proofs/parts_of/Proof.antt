@@ -47,12 +47,12 @@ wide-requires c κs = search needs
 add-t14 : tie.Need-add-t14
 add-t14 c =
     let st = c .before .before .before .before .before .before .before in
-    omega (arith, c .wide .ensures, c .before .shared-slice-known4 .given (st .args .row + 1), st .pre .0, st .pre .2)
+    omega (arith, c .wide .ensures .0, c .before .shared-slice-known4 .given (st .args .row + 1), st .pre .0, st .pre .2)
 
 returns-2 : tie.Need-returns-2
 returns-2 c =
     let st = c .before .before .before .before .before .before .before in
-    rw (c .wide .ensures) (within st (parts-two _ _ _ (c .before .before .before .if1 .left) (c .before .before .if2 .taken)))
+    rw (c .wide .ensures .0) (within st (parts-two _ _ _ (c .before .before .before .if1 .left) (c .before .before .if2 .taken)))
 
 returns-3 : tie.Need-returns-3
 returns-3 c = within (c .before .before .before .before .before) (parts-one _ _ _ (c .if2 .left))

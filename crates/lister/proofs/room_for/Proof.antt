@@ -1,5 +1,5 @@
 use borrow.Author.Needs.{needs}
-use Rattle.listing.proofs.Back.{fitting-none, fitting-some}
+use Rattle.catalogue.proofs.Back.{fitting-none, fitting-some}
 use Rattle.lister.proofs.room_for.Statement.{statement}
 use Rattle.lister.proofs.room_for.Tie as tie
 

@@ -29,11 +29,11 @@ add-at-3 c = omega (arith, list-long _ _ _ _ _ _ _ (c .before .before .before .b
 at-requires-2 : tie.Need-at-requires-2 Inv-loop μ-loop
 at-requires-2 c κs = omega (arith, list-long _ _ _ _ _ _ _ (c .before .before .before .before .before .before .before .pre))
 
-judge-requires : tie.Need-judge-requires Inv-loop μ-loop
-judge-requires c κs = judge-asked _ _ _ _ _ _ _ (c .before .before .loop-test .taken) (c .before .at .ensures .0) (c .at2 .ensures .0) (c .before .before .before .before .before .before .before .before .pre)
+allowed-requires : tie.Need-allowed-requires Inv-loop μ-loop
+allowed-requires c κs = judge-asked _ _ _ _ _ _ _ (c .before .before .loop-test .taken) (c .before .at .ensures .0) (c .at2 .ensures .0) (c .before .before .before .before .before .before .before .before .pre)
 
 returns : tie.Need-returns Inv-loop μ-loop
-returns c = obeying-not _ _ _ _ _ _ _ (c .before .before .before .before .loop-test .taken) (c .before .before .before .at .ensures .0) (c .before .before .at2 .ensures .0) (c .before .judge .ensures) (not-true _ (c .if1 .taken))
+returns c = obeying-not _ _ _ _ _ _ _ (c .before .before .before .before .loop-test .taken) (c .before .before .before .at .ensures .0) (c .before .before .at2 .ensures .0) (c .before .allowed .ensures) (not-true _ (c .if1 .taken))
 
 add-x : tie.Need-add-x Inv-loop μ-loop
 add-x c = omega (arith, list-long _ _ _ _ _ _ _ (c .before .before .before .before .before .before .before .before .before .before .pre))
@@ -42,7 +42,7 @@ loop-less : tie.Need-loop-less Inv-loop μ-loop
 loop-less c = omega arith
 
 loop-again : tie.Need-loop-again Inv-loop μ-loop
-loop-again c = obeying-more _ _ _ _ _ _ _ (c .before .before .before .before .loop-test .taken) (c .before .before .before .at .ensures .0) (c .before .before .at2 .ensures .0) (c .before .before .before .before .before .loop .inv) (c .before .judge .ensures) (not-false _ (c .if1 .left))
+loop-again c = obeying-more _ _ _ _ _ _ _ (c .before .before .before .before .loop-test .taken) (c .before .before .before .at .ensures .0) (c .before .before .at2 .ensures .0) (c .before .before .before .before .before .loop .inv) (c .before .allowed .ensures) (not-false _ (c .if1 .left))
 
 returns-2 : tie.Need-returns-2 Inv-loop μ-loop
 returns-2 c = obeying-all _ _ _ _ _ _ _ (c .before .loop .inv) (c .loop-test .left)
@@ -59,7 +59,7 @@ all-obey-spec =
     add-at-2
     add-at-3
     at-requires-2
-    judge-requires
+    allowed-requires
     returns
     add-x
     loop-less

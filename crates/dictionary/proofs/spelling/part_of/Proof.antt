@@ -30,7 +30,7 @@ name-part-requires : tie.Need-name-part-requires
 name-part-requires c κs = checked-names (c .before .check .ensures) (c .before .before .wide .result) (omega arith)
 
 returns-4 : tie.Need-returns-4
-returns-4 c = name-answer (c .before .before .before .before .before .before .before .if1 .left) (c .before .before .before .before .before .before .if2 .left) (c .before .before .before .before .before .if3 .left) (c .before .before .before .wide .ensures) (c .before .before .check .ensures) (omega arith) (c .name-part .ensures)
+returns-4 c = name-answer (c .before .before .before .before .before .before .before .if1 .left) (c .before .before .before .before .before .before .if2 .left) (c .before .before .before .before .before .if3 .left) (c .before .before .before .wide .ensures .0) (c .before .before .check .ensures) (omega arith) (c .name-part .ensures)
 
 mul-document-part : tie.Need-mul-document-part
 mul-document-part c = search needs
@@ -48,7 +48,7 @@ document-part-requires : tie.Need-document-part-requires
 document-part-requires c κs = search needs
 
 returns-5 : tie.Need-returns-5
-returns-5 c = document-answer (c .before .before .before .before .before .before .before .before .before .if1 .left) (c .before .before .before .before .before .before .before .before .if2 .left) (c .before .before .before .before .before .before .before .if3 .left) (c .before .before .before .before .before .wide .ensures) (c .before .before .before .before .check .ensures) (omega arith) (c .document-part .ensures)
+returns-5 c = document-answer (c .before .before .before .before .before .before .before .before .before .if1 .left) (c .before .before .before .before .before .before .before .before .if2 .left) (c .before .before .before .before .before .before .before .if3 .left) (c .before .before .before .before .before .wide .ensures .0) (c .before .before .before .before .check .ensures) (omega arith) (c .document-part .ensures)
 
 pub part-of-spec : {M : Type 1} → statement M
 part-of-spec =

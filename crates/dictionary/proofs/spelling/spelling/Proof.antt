@@ -21,7 +21,7 @@ add-to c = search needs
 found : (c : tie.After-wide2) →
     PartAnswered (c .before .before .before .before .before .before .before .before .args .dictionary .now) (c .before .before .before .before .before .before .before .before .args .document .now) (c .before .before .before .before .before .before .before .before .args .label .now) (c .before .before .before .before .before .before .before .before .args .start .now) (c .before .before .before .before .before .before .before .before .args .length .now) (c .before .before .before .before .before .before .before .before .args .row)
     (c .before .before .part-of .result .source) (c .before .wide .result) (c .wide2 .result)
-found c = widened (c .before .wide .ensures) (c .wide2 .ensures) (c .before .before .part-of .ensures)
+found c = widened (c .before .wide .ensures .0) (c .wide2 .ensures .0) (c .before .before .part-of .ensures)
 
 sub-result : tie.Need-sub-result
 sub-result c = search needs
