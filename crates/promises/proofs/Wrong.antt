@@ -36,7 +36,7 @@ held = emptyElement nothing ε (ε ▸ 103) ε
 
 is-small : Document small held ε
 unfolding nameStart classOf
-is-small = record { printed = refl; wellFormed = (tt, tt, refl, refl, tt); after = tt; one = refl }
+is-small = record { printed = refl; wellFormed = (tt, tt, refl, ((tt, refl), refl), tt); after = tt; one = refl }
 
 module _ (D : Demands) where
   -- a reader with room for a row reads <g/>, without names
