@@ -1,17 +1,19 @@
--- The cycle of terms and arguments: what each call asks follows from what was asked, and each return says what was to be said.
+-- The cycle of terms: what each call asks follows from what was asked, and each return says what was to be said.
 use Prim.Native.Nat.{ℕ, suc, _+_, _-_, _<_, _≤_}
-use mathlib.Core.Path.{_≡_}
+use mathlib.Core.Path.{_≡_, refl, _∙_}
 use mathlib.Core.Logic.{_≢_}
 use mathlib.Core.List.{List}
 use lib.ListN.{length, getD}
 use native.Mathlib.Omega.{arith}
-use Rattle.meaning.specs.Forest.{none, _◂_, rows, _⊕_}
+use Rattle.meaning.specs.Forest.{Forest, none, _◂_, rows, _⊕_}
+use Rattle.meaning.specs.Pattern.{Patterns, Kind}
 use Rattle.meaning.specs.Value.{at, asForest, asContext}
 use Rattle.meaning.specs.Apply.{apply, applyAll}
 use Rattle.meaning.proofs.Laws.{rows-of}
-use Rattle.instance.specs.Places.{meant}
+use Rattle.pattern.specs.Places.{PatternsAt}
+use Rattle.instance.specs.Places.{Ground, meant, Room, Written}
 use Rattle.instance.specs.Pieces.{IndividualPre, IndividualPost, SequencePre, SequencePost, FillingPre, FillingPost, ContextPre, ContextPost, HeadPre, HeadPost}
-use Rattle.instance.specs.Cycle.{TermPre, TermPost, ArgumentsPre, ArgumentsPost}
+use Rattle.instance.specs.Cycle.{TermPre, TermPost, HeadedPre}
 use Rattle.instance.proofs.Glue.{written-both, written-head, written-none, same-room, part-room, hole-room, term-row, is-individual, is-context, is-headed, is-nil, is-sequence, is-cons}
 
 -- a term that is a context variable x
@@ -22,10 +24,25 @@ pub record AtContext (L S K N Z W OL OS : List ℕ) (p t x : ℕ) : Type 0 where
 
 -- a term with a symbol or a function variable as its head, and its arguments up to the row e
 pub record AtHead (L S K N Z W OL OS : List ℕ) (p t e : ℕ) : Type 0 where
-  pub pre : TermPre L S K N Z W OL OS p t
-  pub not-individual : getD K p 0 ≢ 1
-  pub not-context : getD K p 0 ≢ 4
+  pub asked : HeadedPre L S K N Z W OL OS p t
   pub next : e ≡ p + getD Z p 0
+
+-- the instances of the arguments from p up to e are to be written from t on
+pub record ArgumentsPre (L S K N Z W OL OS : List ℕ) (p e t : ℕ) : Type 0 where
+  pub some : (Q : List Kind) × (R : Forest) × (ps : Patterns) × Ground L S W Q R × PatternsAt K N Z Q p e ps × Room OL OS t (rows (applyAll (meant W Q R) ps))
+
+-- they are, and r is the row behind them
+pub record ArgumentsPost (L S K N Z W OL OS : List ℕ) (p e t r : ℕ) (NL NS : List ℕ) : Type 0 where
+  pub is : (Q : List Kind) (R : Forest) (ps : Patterns) → Ground L S W Q R → PatternsAt K N Z Q p e ps
+      → (r ≡ t + rows (applyAll (meant W Q R) ps)) × Written OL OS NL NS t (applyAll (meant W Q R) ps)
+
+-- those before the row q are written, before the row u: what is left to write, and what is written then
+pub record Writing (L S K N Z W OL OS : List ℕ) (p e t : ℕ) (NL NS : List ℕ) (q u : ℕ) : Type 0 where
+  pub later : p ≤ q
+  pub left : ArgumentsPre L S K N Z W NL NS q e u
+  pub then : (r : ℕ) (ML MS : List ℕ) → ArgumentsPost L S K N Z W NL NS q e u r ML MS → ArgumentsPost L S K N Z W OL OS p e t r ML MS
+  pub labelled : length NL ≡ length OL
+  pub sized : length NS ≡ length OS
 
 -- arguments of which a sequence variable x is the first
 pub record AtSequence (L S K N Z W OL OS : List ℕ) (p e t x : ℕ) : Type 0 where
@@ -110,16 +127,16 @@ module _ {L S K N Z W OL OS : List ℕ} {p t : ℕ} where
   module _ {last : ℕ} (place : AtHead L S K N Z W OL OS p t last) where
     pub below-pre : ArgumentsPre L S K N Z W OL OS (p + 1) last (t + 1)
     below-pre =
-        let s = place .pre .some in
-        let i = is-headed (meant W (s .0) (s .1)) (s .4) (place .not-individual) (place .not-context) in
+        let s = place .asked .pre .some in
+        let i = is-headed (meant W (s .0) (s .1)) (s .4) (place .asked .not-individual) (place .asked .not-context) in
         let r = rw (i .is) at (s .5) in
         rw (place .next) (record { some = (s .0, s .1, i .arguments, s .3, i .placed, part-room r (omega arith) (omega arith)) })
 
     module _ {e : ℕ} {NL NS : List ℕ} (u : ArgumentsPost L S K N Z W OL OS (p + 1) last (t + 1) e NL NS) where
       pub head-pre : length NL ≡ length OL → length NS ≡ length OS → HeadPre L K N W NL NS p t e
       head-pre a b =
-          let s = place .pre .some in
-          let i = is-headed (meant W (s .0) (s .1)) (s .4) (place .not-individual) (place .not-context) in
+          let s = place .asked .pre .some in
+          let i = is-headed (meant W (s .0) (s .1)) (s .4) (place .asked .not-individual) (place .asked .not-context) in
           let r = rw (i .is) at (s .5) in
           let x = (rw (place .next) at u) .is (s .0) (s .1) (i .arguments) (s .3) (i .placed) .0 in
           let w = term-row (s .4) in
@@ -135,7 +152,7 @@ module _ {L S K N Z W OL OS : List ℕ} {p t : ℕ} where
       head-post {ML} {MS} h =
           record {
             is = λ Q R q g a.
-                let i = is-headed (meant W Q R) a (place .not-individual) (place .not-context) in
+                let i = is-headed (meant W Q R) a (place .asked .not-individual) (place .asked .not-context) in
                 let x = (rw (place .next) at u) .is Q R (i .arguments) g (i .placed) in
                 let z : e - t ≡ suc (rows (applyAll (meant W Q R) (i .arguments))) = omega (arith, x .0) in
                 rw (i .is) (omega (arith, x .0), written-head (i .label) (applyAll (meant W Q R) (i .arguments)) (x .1) (h .labelled S Q R (i .label) g (i .head)) (rw z at (h .sized)));
@@ -219,4 +236,34 @@ module _ {L S K N Z W OL OS : List ℕ} {p e t : ℕ} where
                 let x = u .is Q R (i .0) g (i .3) in
                 let y = h .is Q R (i .1) g (i .5) in
                 rw (i .2) (omega (arith, x .0, y .0), written-both (T ◂ none) (applyAll (meant W Q R) (i .1)) (x .1) (omega (arith, x .0)) (y .1));
+          }
+
+-- the loop over the arguments
+module _ {L S K N Z W OL OS : List ℕ} {p e t : ℕ} where
+  pub writing-first : ArgumentsPre L S K N Z W OL OS p e t → Writing L S K N Z W OL OS p e t OL OS p t
+  writing-first h = record { later = omega arith; left = h; then = λ r ML MS o. o; labelled = refl; sized = refl }
+
+  module _ {NL NS : List ℕ} {q u : ℕ} (w : Writing L S K N Z W OL OS p e t NL NS q u) where
+    pub writing-done : q ≡ e → ArgumentsPost L S K N Z W OL OS p e t u NL NS
+    writing-done z = w .then u NL NS (end-post z)
+
+    module _ {f : ℕ} {ML MS : List ℕ} (a : length ML ≡ length NL) (b : length MS ≡ length NS) where
+      pub writing-sequence : {x : ℕ} → AtSequence L S K N Z W NL NS q e u x → SequencePost L S W NL NS x u f ML MS → Writing L S K N Z W OL OS p e t ML MS (q + 1) f
+      writing-sequence place o =
+          record {
+            later = omega (arith, w .later);
+            left = behind-pre place o a b;
+            then = λ r XL XS h. w .then r XL XS (behind-post place o h);
+            labelled = a ∙ w .labelled;
+            sized = b ∙ w .sized;
+          }
+
+      pub writing-term : AtTerm L S K N Z W NL NS q e u → TermPost L S K N Z W NL NS q u f ML MS → Writing L S K N Z W OL OS p e t ML MS (q + getD Z q 0) f
+      writing-term place o =
+          record {
+            later = omega (arith, w .later);
+            left = rest-pre place o a b;
+            then = λ r XL XS h. w .then r XL XS (rest-post place o h);
+            labelled = a ∙ w .labelled;
+            sized = b ∙ w .sized;
           }

@@ -26,8 +26,10 @@ use Rattle.instance.specs.declared.Made.the-variants.{Refused, Rows}
 use Rattle.instance.specs.Instance.{Lists, Instance, Codes, Settled}
 use Rattle.instance.specs.Places.{Ground, Written}
 use Rattle.instance.specs.Counting.{RowsPre, RowsPost}
-use Rattle.instance.specs.Cycle.{TermPre, TermPost}
+use Rattle.instance.specs.Packed.{PackPre, Packed}
+use Rattle.instance.specs.Cycle.{TermAsks, TermGives}
 use Rattle.instance.proofs.Writes.{sets-whole}
+use Rattle.instance.proofs.Packs.{packed-pre, packed-post}
 
 -- the lists have one instance at the most
 pub one-instance : {l : Lists} {U X : Term} → Instance l U → Instance l X → U ≡ X
@@ -102,7 +104,7 @@ module _ {l : Lists} {U : Term} (i : Instance l U) where
   ground = record { tree = tree-at (i .goodTree); few = omega (arith, i .goodTree .few, good-lengths (i .goodTree) .1); good = i .goodRecord }
 
   -- the pattern's lists are as long as its root's size
-  long : (length (l .name) ≡ length (l .kind)) × (getD (l .patternSize) 0 0 ≡ length (l .kind))
+  long : (length (l .name) ≡ length (l .kind)) × (getD (l .patternSize) 0 0 ≡ length (l .kind)) × (length (l .patternSize) ≡ length (l .kind))
   unfolding sizes rows
   long =
       let P = i .pattern in
@@ -111,7 +113,13 @@ module _ {l : Lists} {U : Term} (i : Instance l U) where
       let n = ap length (g .names) ∙ labels-rows (nameTree P) in
       let s = sym (sizes-rows (kindTree P)) ∙ ap length (kind-sizes P) ∙ sizes-rows (nameTree P) in
       let z = ap (λ (xs : List ℕ). getD xs 0 0) (g .sized) in
-      (omega arith, omega arith)
+      let m = ap length (g .sized) ∙ sizes-rows (nameTree P) in
+      (omega arith, omega arith, omega arith)
+
+  pub pack-pre : {M : List ℕ} → length M ≡ 768 → PackPre (l .kind) (l .name) (l .patternSize) M
+  pack-pre r =
+      let f = i .goodPattern .few in
+      record { kinds = f; names = omega (arith, f, long .0); sizes = omega (arith, f, long .2); room = r }
 
   pub rows-pre : RowsPre (l .size) (l .kind) (l .name) (l .numbers)
   rows-pre =
@@ -125,21 +133,22 @@ module _ {l : Lists} {U : Term} (i : Instance l U) where
   rows-is p =
       p .is (l .label) (i .kinds) (i .tree ◂ none) (l .patternSize) (i .pattern) ground (good-placed (i .goodPattern)) (long .1) ∙ sym (ap size (i .is))
 
-  pub term-whole : {OL OS : List ℕ} → size U ≤ 2048 → size U ≤ length OL → size U ≤ length OS
-      → TermPre (l .label) (l .size) (l .kind) (l .name) (l .patternSize) (l .numbers) OL OS 0 0
-  term-whole h a b =
-      let z = ap size (i .is) in
-      record {
-        some = (
-          i .kinds,
-          i .tree ◂ none,
-          i .pattern,
-          ground,
-          good-placed (i .goodPattern),
-          record { labelled = omega arith; sized = omega arith; few = omega arith },
-        );
-      }
+  module _ {M : List ℕ} (m : Packed (l .kind) (l .name) (l .patternSize) M) where
+    pub term-whole : {OL OS : List ℕ} → size U ≤ 2048 → size U ≤ length OL → size U ≤ length OS → TermAsks (l .label) (l .size) M (l .numbers) OL OS 0 0
+    term-whole h a b =
+        let z = ap size (i .is) in
+        packed-pre m
+        (record {
+          some = (
+            i .kinds,
+            i .tree ◂ none,
+            i .pattern,
+            ground,
+            good-placed (i .goodPattern),
+            record { labelled = omega arith; sized = omega arith; few = omega arith },
+          );
+        })
 
-  pub written-whole : {OL OS NL NS : List ℕ} {r : ℕ} → TermPost (l .label) (l .size) (l .kind) (l .name) (l .patternSize) (l .numbers) OL OS 0 0 r NL NS → Written OL OS NL NS 0 (U ◂ none)
-  written-whole {OL} {OS} {NL} {NS} p =
-      rw (i .is) (p .is (i .kinds) (i .tree ◂ none) (i .pattern) ground (good-placed (i .goodPattern)) .1)
+    pub written-whole : {OL OS NL NS : List ℕ} {r : ℕ} → TermGives (l .label) (l .size) M (l .numbers) OL OS 0 0 r NL NS → Written OL OS NL NS 0 (U ◂ none)
+    written-whole {OL} {OS} {NL} {NS} p =
+        rw (i .is) (packed-post m p .is (i .kinds) (i .tree ◂ none) (i .pattern) ground (good-placed (i .goodPattern)) .1)

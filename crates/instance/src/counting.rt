@@ -1,5 +1,9 @@
 // How many rows the instance has, before anything is written.
 ghost use Rattle.instance.specs.Counting.{RowPre, RowPost, RowsPre, RowsPost};
+use super::kinds::FUNCTION;
+use super::kinds::INDIVIDUAL;
+use super::kinds::SEQUENCE;
+use super::kinds::SYMBOL;
 
 // How many rows of the instance the pattern row adds, those of its arguments not counted.
 fn row_adds(size: &[u32], kind: &[u32], name: &[u32], record: &[u32], row: usize) -> usize
@@ -7,19 +11,19 @@ fn row_adds(size: &[u32], kind: &[u32], name: &[u32], record: &[u32], row: usize
     ensures { λ r. ⌜ RowPost (now (size .entry)) (now (kind .entry)) (now (name .entry)) (now («record» .entry)) row r ⌝ }
 {
     let k = kind[row];
-    if k == 0 {
+    if k == SYMBOL {
         return 1;
     }
-    if k == 3 {
+    if k == FUNCTION {
         return 1;
     }
     let variable = tree::at(name, row);
     let first = tree::at(record, variable + variable);
-    if k == 1 {
+    if k == INDIVIDUAL {
         return tree::at(size, first);
     }
     let second = tree::at(record, variable + variable + 1);
-    if k == 2 {
+    if k == SEQUENCE {
         return tree::past(size, first, second) - first;
     }
     tree::at(size, first) - tree::at(size, second)

@@ -2,10 +2,13 @@
 ghost use Rattle.instance.specs.Instance.{lists, Settled};
 
 mod counting;
+mod kinds;
+mod packed;
 mod value;
 mod write;
 
 use counting::rows_of;
+use packed::pack;
 use write::term;
 
 // What the instance maker answers: a code, or the rows that it has written.
@@ -48,17 +51,8 @@ pub fn instance(
     if out_size.len() < rows {
         return Made::Refused(17);
     }
-    term(
-        label,
-        size,
-        kind,
-        name,
-        pattern_size,
-        record,
-        0,
-        0,
-        out_label,
-        out_size,
-    );
+    let mut pattern = [0u32; 768];
+    pack(kind, name, pattern_size, &mut pattern);
+    term(label, size, &pattern, record, 0, 0, out_label, out_size);
     Made::Rows(rows)
 }

@@ -3,9 +3,13 @@ ghost use mathlib.Core.Path.{_≡_};
 ghost use lib.Seq.{sets};
 ghost use Rattle.instance.specs.Places.{along, number, resized};
 ghost use Rattle.instance.specs.Pieces.{CopyPre, ResizedPre, AbovePre, AroundPre, AroundPost, IndividualPre, IndividualPost, SequencePre, SequencePost, FillingPre, FillingPost, ContextPre, ContextPost, HeadPre, HeadPost};
+ghost use Rattle.instance.specs.Packed.{namesOf};
+use super::kinds::SYMBOL;
+use super::packed::kind;
+use super::packed::name;
 
 // Copies so many numbers, to the places from `to` on.
-fn copy(list: &[u32], from: usize, count: usize, out: &mut [u32], to: usize)
+pub fn copy(list: &[u32], from: usize, count: usize, out: &mut [u32], to: usize)
     requires { ⌜ CopyPre (now list) (now out) from count to ⌝ }
     ensures { λ _. ⌜ now (out .exit) ≡ sets (now (out .entry)) to (along (number (now (list .entry))) from count) ⌝ }
 {
@@ -158,8 +162,7 @@ pub fn context(
 // Writes the row of a symbol or a function variable, whose arguments end at `end`.
 pub fn head(
     label: &[u32],
-    kind: &[u32],
-    name: &[u32],
+    pattern: &[u32],
     record: &[u32],
     row: usize,
     to: usize,
@@ -167,15 +170,15 @@ pub fn head(
     out_label: &mut [u32],
     out_size: &mut [u32],
 )
-    requires { ⌜ HeadPre (now label) (now kind) (now name) (now «record») (now «out_label») (now «out_size») row to end ⌝ }
-    ensures { λ _. ⌜ HeadPost (now (label .entry)) (now (kind .entry)) (now (name .entry)) (now («record» .entry)) (now («out_label» .entry)) (now («out_size» .entry)) row to end (now («out_label» .exit)) (now («out_size» .exit)) ⌝ }
+    requires { ⌜ HeadPre (now label) (now pattern) (namesOf (now pattern)) (now «record») (now «out_label») (now «out_size») row to end ⌝ }
+    ensures { λ _. ⌜ HeadPost (now (label .entry)) (now (pattern .entry)) (namesOf (now (pattern .entry))) (now («record» .entry)) (now («out_label» .entry)) (now («out_size» .entry)) row to end (now («out_label» .exit)) (now («out_size» .exit)) ⌝ }
 {
     out_size[to] = (end - to) as u32;
-    if kind[row] == 0 {
-        out_label[to] = name[row];
+    let name = name(pattern, row);
+    if kind(pattern, row) == SYMBOL {
+        out_label[to] = name as u32;
         return;
     }
-    let variable = tree::at(name, row);
-    let place = tree::at(record, variable + variable);
+    let place = tree::at(record, name + name);
     out_label[to] = label[place];
 }

@@ -1,8 +1,9 @@
 use Rattle.meaning.specs.Forest.{Term}
-use Rattle.instance.proofs.Whole.{its-instance, refused-tree, refused-pattern, refused-record, refused-rows, refused-room, made-whole, rows-pre, rows-is, term-whole, written-whole}
+use Rattle.instance.proofs.Whole.{its-instance, refused-tree, refused-pattern, refused-record, refused-rows, refused-room, made-whole, rows-pre, rows-is, pack-pre, term-whole, written-whole}
 use Rattle.instance.specs.Instance.{lists, Instance}
 use Rattle.record.proofs.Whole.{record-pre, record-judged}
 use native.Mathlib.Omega.{arith}
+use mathlib.Core.Path.{refl}
 use mathlib.Core.Logic.{inl, inr}
 use borrow.Author.Tests.{not-true, not-false}
 use borrow.Author.Needs.{needs}
@@ -10,8 +11,9 @@ use Rattle.instance.proofs.instance.Statement.{statement}
 use Rattle.instance.proofs.instance.Tie as tie
 
 -- where the three checks have passed: the instance of the lists
-found : (c : tie.Else3) → (U : Term)
-    × Instance (lists (c .before .before .before .before .before .before .before .before .before .before .before .before .before .before .before .before .before .args .label .now) (c .before .before .before .before .before .before .before .before .before .before .before .before .before .before .before .before .before .args .size .now) (c .before .before .before .before .before .before .before .before .before .before .before .before .before .before .before .before .before .args .kind .now) (c .before .before .before .before .before .before .before .before .before .before .before .before .before .before .before .before .before .args .name .now) (c .before .before .before .before .before .before .before .before .before .before .before .before .before .before .before .before .before .args .pattern-size .now) (c .before .before .before .before .before .before .before .before .before .before .before .before .before .before .before .before .before .args .«record» .now)) U
+found : (c : tie.Else3) →
+    let a = c .before .before .before .before .before .before .before .before .before .before .before .before .before .before .before .before .before .args in
+    (U : Term) × Instance (lists (a .label .now) (a .size .now) (a .kind .now) (a .name .now) (a .pattern-size .now) (a .«record» .now)) U
 found c =
     let a = c .before .before .before .before .before .before .before .before .before .before .before .before .before .before .before .before .before .args in
     let t = c .before .before .before .before .before .before .before .before .good2 .ensures .0 (not-false _ (c .before .before .before .before .before .before .before .if1 .left)) in
@@ -59,11 +61,20 @@ returns-6 c =
     let z = rows-is (f .1) (c .before .before .before .rows-of .ensures) in
     refused-room _ _ _ (f .1) (omega (arith, c .before .before .if4 .left)) (inr (omega (arith, c .if6 .taken)))
 
+slice-aggregate-pack : tie.Need-slice-aggregate-pack
+slice-aggregate-pack c = search needs
+
+pack-requires : tie.Need-pack-requires
+pack-requires c κs = pack-pre (found (c .before .before .before .before .before) .1) refl
+
+slice-aggregate-term : tie.Need-slice-aggregate-term
+slice-aggregate-term c = search needs
+
 term-requires : tie.Need-term-requires
 term-requires c κs =
-    let f = found (c .before .before .before .before .before .before) in
-    let z = rows-is (f .1) (c .before .before .before .before .before .rows-of .ensures) in
-    term-whole (f .1) (omega (arith, c .before .before .before .before .if4 .left)) (omega (arith, c .before .before .before .if5 .left)) (omega (arith, c .before .before .if6 .left))
+    let f = found (c .before .before .before .before .before .before .before .before .before .before) in
+    let z = rows-is (f .1) (c .before .before .before .before .before .before .before .before .before .rows-of .ensures) in
+    term-whole (f .1) (c .before .before .before .before .pack .ensures) (omega (arith, c .before .before .before .before .before .before .before .before .if4 .left)) (omega (arith, c .before .before .before .before .before .before .before .if5 .left)) (omega (arith, c .before .before .before .before .before .before .if6 .left))
 
 same-length : tie.Need-same-length
 same-length c = search needs
@@ -73,9 +84,9 @@ same-length-2 c = search needs
 
 returns-7 : tie.Need-returns-7
 returns-7 c =
-    let f = found (c .before .before .before .before .before .before .before .before .before .before .before) in
-    let z = rows-is (f .1) (c .before .before .before .before .before .before .before .before .before .before .rows-of .ensures) in
-    made-whole _ _ _ (f .1) (omega (arith, c .before .before .before .before .before .before .before .before .before .if4 .left)) (omega (arith, c .before .before .before .before .before .before .before .before .if5 .left)) (omega (arith, c .before .before .before .before .before .before .before .if6 .left)) z (written-whole (f .1) (c .before .before .before .before .term .ensures))
+    let f = found (c .before .before .before .before .before .before .before .before .before .before .before .before .before .before .before) in
+    let z = rows-is (f .1) (c .before .before .before .before .before .before .before .before .before .before .before .before .before .before .rows-of .ensures) in
+    made-whole _ _ _ (f .1) (omega (arith, c .before .before .before .before .before .before .before .before .before .before .before .before .before .if4 .left)) (omega (arith, c .before .before .before .before .before .before .before .before .before .before .before .before .if5 .left)) (omega (arith, c .before .before .before .before .before .before .before .before .before .before .before .if6 .left)) z (written-whole (f .1) (c .before .before .before .before .before .before .before .before .before .pack .ensures) (c .before .before .before .before .term .ensures))
 
 pub instance-spec : {M : Type 1} → statement M
 instance-spec =
@@ -91,6 +102,9 @@ instance-spec =
     returns-4
     returns-5
     returns-6
+    slice-aggregate-pack
+    pack-requires
+    slice-aggregate-term
     term-requires
     same-length
     same-length-2
