@@ -1,9 +1,9 @@
 // How many rows the instance has, before anything is written.
 ghost use Rattle.instance.specs.Counting.{RowPre, RowPost, RowsPre, RowsPost};
-use super::kinds::FUNCTION;
-use super::kinds::INDIVIDUAL;
-use super::kinds::SEQUENCE;
-use super::kinds::SYMBOL;
+use meaning::kinds::FUNCTION;
+use meaning::kinds::INDIVIDUAL;
+use meaning::kinds::SEQUENCE;
+use meaning::kinds::SYMBOL;
 
 // How many rows of the instance the pattern row adds, those of its arguments not counted.
 fn row_adds(size: &[u32], kind: &[u32], name: &[u32], record: &[u32], row: usize) -> usize

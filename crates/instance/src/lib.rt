@@ -2,12 +2,16 @@
 ghost use Rattle.instance.specs.Instance.{lists, Settled};
 
 mod counting;
-mod kinds;
 mod packed;
 mod value;
 mod write;
 
 use counting::rows_of;
+use meaning::codes::NO_ROOM;
+use meaning::codes::PATTERN;
+use meaning::codes::RECORD;
+use meaning::codes::TOO_LARGE;
+use meaning::codes::TREE;
 use packed::pack;
 use write::term;
 
@@ -31,25 +35,25 @@ pub fn instance(
     ensures { λ r. ⌜ Settled (lists (now (label .entry)) (now (size .entry)) (now (kind .entry)) (now (name .entry)) (now («pattern_size» .entry)) (now («record» .entry))) (now («out_label» .entry)) (now («out_size» .entry)) r (now («out_label» .exit)) (now («out_size» .exit)) ⌝ }
 {
     if !tree::good(label, size) {
-        return Made::Refused(11);
+        return Made::Refused(TREE);
     }
     let p = pattern::check(kind, name, pattern_size);
     if !p.good {
-        return Made::Refused(12);
+        return Made::Refused(PATTERN);
     }
     let kinds = p.kinds;
     if !record::fits(size, &kinds, p.variables, record) {
-        return Made::Refused(15);
+        return Made::Refused(RECORD);
     }
     let rows = rows_of(size, kind, name, record);
     if 2048 < rows {
-        return Made::Refused(16);
+        return Made::Refused(TOO_LARGE);
     }
     if out_label.len() < rows {
-        return Made::Refused(17);
+        return Made::Refused(NO_ROOM);
     }
     if out_size.len() < rows {
-        return Made::Refused(17);
+        return Made::Refused(NO_ROOM);
     }
     let mut pattern = [0u32; 768];
     pack(kind, name, pattern_size, &mut pattern);

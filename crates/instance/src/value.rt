@@ -4,9 +4,9 @@ ghost use lib.Seq.{sets};
 ghost use Rattle.instance.specs.Places.{along, number, resized};
 ghost use Rattle.instance.specs.Pieces.{CopyPre, ResizedPre, AbovePre, AroundPre, AroundPost, IndividualPre, IndividualPost, SequencePre, SequencePost, FillingPre, FillingPost, ContextPre, ContextPost, HeadPre, HeadPost};
 ghost use Rattle.instance.specs.Packed.{namesOf};
-use super::kinds::SYMBOL;
 use super::packed::kind;
 use super::packed::name;
+use meaning::kinds::SYMBOL;
 
 // Copies so many numbers, to the places from `to` on.
 pub fn copy(list: &[u32], from: usize, count: usize, out: &mut [u32], to: usize)

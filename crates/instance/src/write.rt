@@ -1,8 +1,5 @@
 // The instance of a pattern term, written in preorder.
 ghost use Rattle.instance.specs.Cycle.{TermAsks, TermGives, HeadedAsks};
-use super::kinds::CONTEXT;
-use super::kinds::INDIVIDUAL;
-use super::kinds::SEQUENCE;
 use super::packed::kind;
 use super::packed::name;
 use super::packed::next;
@@ -11,6 +8,9 @@ use super::value::filling;
 use super::value::head;
 use super::value::individual;
 use super::value::sequence;
+use meaning::kinds::CONTEXT;
+use meaning::kinds::INDIVIDUAL;
+use meaning::kinds::SEQUENCE;
 
 // Writes the instance of the pattern term at the row, and answers the row behind it.
 pub fn term(
