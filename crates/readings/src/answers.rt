@@ -5,8 +5,11 @@ use libc::STDOUT_FILENO;
 use lines::lists::BEFORE;
 use lines::lists::unchanged;
 
-// Trees of more rows are not printed.
+// Lists of more rows are printed as a sum each.
 const PRINTED: usize = 12;
+
+// A sum is below this.
+const SUMS: u64 = 4294967296;
 
 fn wide(number: u32) -> usize {
     number as usize
@@ -58,6 +61,25 @@ fn print_list(name: &[u8], list: &[u32], rows: usize) {
     }
 }
 
+// A number for the whole list, in which each entry counts by its place: 31 times the sum of those before it, and the entry.
+fn sum_of(list: &[u32], rows: usize) -> u64 {
+    let mut sum: u64 = 0;
+    let mut i = 0;
+    while i < rows {
+        if list.len() <= i {
+            return sum;
+        }
+        sum = (sum * 31 + wider(list[i])) % SUMS;
+        i += 1;
+    }
+    sum
+}
+
+fn print_sum(name: &[u8], list: &[u32], rows: usize) {
+    io::write_all(STDOUT_FILENO, name);
+    io::print_decimal(STDOUT_FILENO, sum_of(list, rows));
+}
+
 // Prints what the reader gave on the four lists, each lent up to the length that the line says.
 fn answer_in(
     rooms: &[u8],
@@ -107,6 +129,11 @@ fn print_lists(code: u32, rows: usize, label: &[u32], size: &[u32], start: &[u32
             print_list(b" size", size, rows);
             print_list(b" start", start, rows);
             print_list(b" length", length, rows);
+        } else {
+            print_sum(b", sums ", label, rows);
+            print_sum(b" ", size, rows);
+            print_sum(b" ", start, rows);
+            print_sum(b" ", length, rows);
         }
     }
     if unchanged(label, rows) {
