@@ -23,7 +23,7 @@ use Rattle.constraint.proofs.Constraints.{pair-at}
 use Rattle.constraint.proofs.Allowed.{allowed?}
 use Rattle.variable.proofs.States.{count-bound}
 use Rattle.walk.specs.Above.{Unchanged}
-use Rattle.walk.specs.Cycle.{Needs, Agree}
+use Rattle.walk.specs.Cycle.{stop-at, Needs, Agree}
 use Rattle.walk.specs.Onward.{Lands}
 use Rattle.walk.specs.Taken.{TakeAsked, Answers, fails}
 use Rattle.walk.proofs.Answered.{answers}
@@ -62,7 +62,7 @@ few (aFunction ∷ Q) = omega (arith, few Q)
 few (aContext ∷ Q) = omega (arith, few Q)
 
 -- an answer that fails asks for nothing
-fail-not-need : {p x s : ℕ} → out.Fail ≡ out.Need p x s → ⊥
+fail-not-need : {p x s : ℕ} → out.Fail ≡ out.Need (stop-at p x s) → ⊥
 fail-not-need e = let z : _≡_ {A = ℕ} 0 1 = cc in omega arith
 
 -- one problem that is searched
@@ -196,7 +196,7 @@ module _ {L S M tables : List ℕ} {T : Term} {P : Pattern} {Q : List Kind} {es 
         × Leveled (set vals d (getD Nx d 0)) X St (set Nx d (getD Nx d 0 + 1)) (set F d (getD F d 0 - 1)) (suc d)
         × Paused R′ A′ (set vals d (getD Nx d 0)) G X St (set U d r) (set Nx d (getD Nx d 0 + 1)) (set F d (getD F d 0 - 1)) (suc d)
         × Before L S A′ (getD G d 0) (getD U d 0) (getD F d 0 - 1) (w .K) (w .N) (w .Z) Q
-        × ((p x s : ℕ) → o ≡ out.Need p x s → Asks R′ A′ (set vals d (getD Nx d 0)) (suc d) (getD G d 0) p x s)
+        × ((p x s : ℕ) → o ≡ out.Need (stop-at p x s) → Asks R′ A′ (set vals d (getD Nx d 0)) (suc d) (getD G d 0) p x s)
     unfolding its-kind try-kind
     try-answered {o} {R′} {A′} {r} long ul nl fl further post = (answered .0, after, paused, before, answered .1)
       where
@@ -237,11 +237,11 @@ module _ {L S M tables : List ℕ} {T : Term} {P : Pattern} {Q : List Kind} {es 
             }
 
         answered : Answers R′ o (walk (Allowed cs) (allowed? cs) P T (take (suc d) (set vals d v)))
-            × ((p x s : ℕ) → o ≡ out.Need p x s → Asks R′ A′ (set vals d v) (suc d) (getD G d 0) p x s)
+            × ((p x s : ℕ) → o ≡ out.Need (stop-at p x s) → Asks R′ A′ (set vals d v) (suc d) (getD G d 0) p x s)
         answered = go (allowed? cs (getD X d 0) (valueAt (its-kind .0) (T ◂ none) (getD St d 0) v))
           where
             go : Dec (Fitting v) → Answers R′ o (walk (Allowed cs) (allowed? cs) P T (take (suc d) (set vals d v)))
-                × ((p x s : ℕ) → o ≡ out.Need p x s → Asks R′ A′ (set vals d v) (suc d) (getD G d 0) p x s)
+                × ((p x s : ℕ) → o ≡ out.Need (stop-at p x s) → Asks R′ A′ (set vals d v) (suc d) (getD G d 0) p x s)
             go (no n) =
                 let h = is .0 n in
                 let j = judged v (top .low) (omega (arith, top .high)) .1 n in

@@ -46,24 +46,16 @@ pub fn advance(levels: &mut [usize; 1536], d: usize, row: usize, next: usize, le
     levels[at + 5] = left;
 }
 
-// The level d is for the variable that the walk stopped at, at the pattern row p and the row s, with so many values from the least on.
-pub fn enter(
-    levels: &mut [usize; 1536],
-    d: usize,
-    p: usize,
-    x: usize,
-    s: usize,
-    least: usize,
-    values: usize,
-)
+// The level d is for the variable that the walk stopped at, with so many values from the least on.
+pub fn enter(levels: &mut [usize; 1536], d: usize, w: walk::Stop, least: usize, values: usize)
     requires { ⌜ Inside (now levels) d ⌝ }
-    ensures { λ _. ⌜ Entered (now (levels .entry)) d p x s least values (now (levels .exit)) ⌝ }
+    ensures { λ _. ⌜ Entered (now (levels .entry)) d (w .place) (w .variable) (w .start) least values (now (levels .exit)) ⌝ }
 {
     let at = 6 * d;
-    levels[at] = p;
-    levels[at + 1] = x;
-    levels[at + 2] = s;
-    advance(levels, d, s, least, values);
+    levels[at] = w.place;
+    levels[at + 1] = w.variable;
+    levels[at + 2] = w.start;
+    advance(levels, d, w.start, least, values);
 }
 
 // The depth with the levels taken off that have nothing left.

@@ -16,7 +16,7 @@ use Rattle.expression.specs.Expression.{Expression}
 use Rattle.constraint.specs.Obeys.{Constraint, Allowed}
 use Rattle.constraint.proofs.Allowed.{allowed?}
 use Rattle.variable.proofs.States.{count-bound}
-use Rattle.walk.specs.Cycle.{Needs}
+use Rattle.walk.specs.Cycle.{stop-at, Needs}
 use Rattle.walk.specs.Onward.{Problem}
 use Rattle.walk.specs.Onward as onward
 use Rattle.walk.specs.Taken.{Answers}
@@ -106,7 +106,7 @@ module _ {L S M tables : List ℕ} {room width : ℕ} {before : List ℕ} where
       pub begun-done : {budget : ℕ} → (room ≡ 0 → ⊥) → Post budget (record { ending = 0; records = 1; tries = 0 }) (paste before 0 R′ width)
       begun-done {budget} f = record { all = λ T P Q es cs a. let d = said a in first-done (fixed a) budget (numbers (d .0)) R′ (ap outcome (d .1)) (d .2) f }
 
-    module _ {p x s : ℕ} (e : o ≡ answer.Need p x s) where
+    module _ {p x s : ℕ} (e : o ≡ answer.Need (stop-at p x s)) where
       needs : {T : Term} {P : Pattern} {Q : List Kind} {es : List Expression} {cs : List Constraint} (a : Asked T P Q es cs)
           → (lo : ℕ) × (hi : ℕ) × Needs L S R′ A′ (a .search .K) (a .search .N) (a .search .Z) Q [] (walkT Any any? P T 0 []) p x s lo hi
       unfolding problem

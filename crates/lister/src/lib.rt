@@ -41,11 +41,11 @@ fn begin(
     let mut at = [0usize; 256];
     match walk::begin(label, size, pattern, &mut record, &mut at) {
         walk::Out::Fail => search::ended(ALL, 0, 0),
-        walk::Out::Need(p, x, s) => {
+        walk::Out::Need(w) => {
             let mut levels = [0usize; 1536];
-            let least = choice::least(pattern, p, s);
-            let values = choice::values(size, pattern, &at, p, s);
-            levels::enter(&mut levels, 0, p, x, s, least, values);
+            let least = choice::least(pattern, w.place, w.start);
+            let values = choice::values(size, pattern, &at, w.place, w.start);
+            levels::enter(&mut levels, 0, w, least, values);
             let limits = Limits {
                 budget,
                 room,

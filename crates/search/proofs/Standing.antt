@@ -4,6 +4,7 @@ use mathlib.Core.Path.{_≡_, sym, ap, _∙_}
 use mathlib.Core.List.{List}
 use lib.ListN.{length, getD}
 use native.Mathlib.Omega.{arith}
+use Rattle.walk.specs.Cycle.{stop-at}
 use Rattle.choice.specs.Stops.{FurtherPre, FurtherPost, LeastPost, MorePre, MorePost}
 use Rattle.choice.specs.Runs.{LevelPre, SkipPost}
 use Rattle.walk.specs.declared.Out.{Out}
@@ -49,7 +50,7 @@ module _ {i : Input} {out R A W : List ℕ} {depth cnt tries p x s u v n : ℕ} 
       same-place = ap (λ (c : List ℕ). getD c (depth - 1) 0) (moved .same-places) ∙ sym (e .place)
 
       -- the walk needs a choice
-      module _ {p₁ x₁ s₁ : ℕ} (needs : o ≡ answer.Need p₁ x₁ s₁) where
+      module _ {p₁ x₁ s₁ : ℕ} (needs : o ≡ answer.Need (stop-at p₁ x₁ s₁)) where
         pub more-pre : MorePre (i .S) (i .M) A′ p w (n - failed - 1) p₁ s₁
         more-pre = rw same-place at (more-asked tried needs pre)
 

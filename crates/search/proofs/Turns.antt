@@ -18,7 +18,7 @@ use Rattle.tree.proofs.Unique.{good-lengths}
 use Rattle.expression.specs.Expression.{Expression}
 use Rattle.constraint.specs.Obeys.{Constraint, Allowed}
 use Rattle.constraint.proofs.Allowed.{allowed?}
-use Rattle.walk.specs.Cycle.{Needs}
+use Rattle.walk.specs.Cycle.{stop-at, Needs}
 use Rattle.walk.specs.Taken.{Answers}
 use Rattle.walk.specs.declared.Out.{Out}
 use Rattle.walk.specs.declared.Out.the-variants as answer
@@ -168,7 +168,7 @@ module _ (i : Input) where
         → (vals : List ℕ) × Stand a out (ahead (Walked (a .search)) (count Q) vals N F depth) vals N F depth cnt tries
         × Answers R o (walk (Allowed cs) (allowed? cs) P T (take depth vals)) × Leveled (a .search) vals X St N F depth × Paused (a .search) R A vals G X St U N F depth
         × Before (i .L) (i .S) A (getD G (depth - 1) 0) u left (a .search .K) (a .search .N) (a .search .Z) Q
-        × ((p x s : ℕ) → o ≡ answer.Need p x s → Asks (a .search) R A vals depth (getD G (depth - 1) 0) p x s)
+        × ((p x s : ℕ) → o ≡ answer.Need (stop-at p x s) → Asks (a .search) R A vals depth (getD G (depth - 1) 0) p x s)
 
 module _ {i : Input} where
   pub going-start : Pre i → Going i (i .before) (i .R) (i .A) (i .G) (i .X) (i .St) (i .U) (i .N) (i .F) (i .start) 0 0
@@ -348,7 +348,7 @@ module _ {i : Input} where
         Answered {T} {P} {Q} {es} {cs} a vals n =
             Answers R′ o (walk (Allowed cs) (allowed? cs) P T (take n vals)) × Leveled (a .search) vals X St N′ F′ n × Paused (a .search) R′ A′ vals G X St (set U (depth - 1) u) N′ F′ n
             × Before (i .L) (i .S) A′ (getD G (depth - 1) 0) (getD U (depth - 1) 0) (getD F (depth - 1) 0 - 1) (a .search .K) (a .search .N) (a .search .Z) Q
-            × ((p x s : ℕ) → o ≡ answer.Need p x s → Asks (a .search) R′ A′ vals n (getD G (depth - 1) 0) p x s)
+            × ((p x s : ℕ) → o ≡ answer.Need (stop-at p x s) → Asks (a .search) R′ A′ vals n (getD G (depth - 1) 0) p x s)
 
         kept : length R′ ≡ length R
         kept =
@@ -406,7 +406,7 @@ module _ {i : Input} where
           each = λ a. let h = t .each a in (h .0, at-fail (fixed i a) (h .1) (ap outcome (failed (rw e at (h .2)))), h .3, h .4);
         }
 
-    module _ {p₁ x s : ℕ} (e : o ≡ answer.Need p₁ x s) where
+    module _ {p₁ x s : ℕ} (e : o ≡ answer.Need (stop-at p₁ x s)) where
       asks : {T : Term} {P : Pattern} {Q : List Kind} {es : List Expression} {cs : List Constraint} {vals₀ : List ℕ} (a : Asked i T P Q es cs vals₀)
           → Asks (a .search) R A (t .each a .0) depth (getD G (depth - 1) 0) p₁ x s
       asks a = t .each a .6 p₁ x s e

@@ -119,10 +119,19 @@ pub fn go(
             &mut path,
         ) {
             walk::Out::Fail => {}
-            walk::Out::Need(p, x, s) => {
-                let least = choice::least(pattern, p, s);
-                let values = choice::more_values(size, pattern, at, l.place, run.row, left, p, s);
-                levels::enter(levels, depth, p, x, s, least, values);
+            walk::Out::Need(w) => {
+                let least = choice::least(pattern, w.place, w.start);
+                let values = choice::more_values(
+                    size,
+                    pattern,
+                    at,
+                    l.place,
+                    run.row,
+                    left,
+                    w.place,
+                    w.start,
+                );
+                levels::enter(levels, depth, w, least, values);
                 depth += 1;
             }
             walk::Out::Ok(_) => {

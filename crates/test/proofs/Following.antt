@@ -18,7 +18,7 @@ use Rattle.meaning.proofs.Steps.{values-length}
 use Rattle.record.proofs.Each.{good-long}
 use Rattle.variable.proofs.States.{count-bound}
 use Rattle.walk.specs.Packed.{Packed}
-use Rattle.walk.specs.Cycle.{Needs, Agree, both-fail, both-need, both-ok}
+use Rattle.walk.specs.Cycle.{stop-at, Needs, Agree, both-fail, both-need, both-ok}
 use Rattle.walk.specs.Onward.{Lands, Problem, BeginPre, BeginPost}
 use Rattle.walk.specs.Taken.{TakeAsked, TakePre, TakePost}
 use Rattle.walk.specs.declared.Out.{Out}
@@ -69,7 +69,7 @@ same-cut (x ∷ a) (y ∷ b) c d e l = same-cut a b c d (let z : a ++ c ≡ b ++
 -- how many rows of the pattern are left where the walk asks
 abbrev pub left-over : Out → ℕ
 left-over out.Fail = 0
-left-over (out.Need p x t) = 257 - p
+left-over (out.Need w) = 257 - w .place
 left-over (out.Ok n) = 0
 
 fewer : {L S R A K N Z : List ℕ} {Q : List Kind} {p m : ℕ} {f : List ℕ → Res} {o : Out} → Agree L S R A K N Z Q (p + 1) m [] f o → p < 256 → left-over o < 257 - p
@@ -151,7 +151,7 @@ module _ {L S M list R A : List ℕ} {o : Out} (w : Following L S M list R A o) 
       no-more ds [] l = refl
       no-more ds (r ∷ rs) l = absurd (omega (arith, length-append ds (r ∷ rs)))
 
-  module _ {p x t : ℕ} (e : o ≡ out.Need p x t) where
+  module _ {p x t : ℕ} (e : o ≡ out.Need (stop-at p x t)) where
     needs : {K N Z : List ℕ} {T : Term} {P : Pattern} {Q : List Kind} (h : Made L S R A K N Z list T P Q o)
         → (lo : ℕ) × (hi : ℕ) × Needs L S R A K N Z Q [] (λ es. walkT Any any? P T 0 [] (h .ds ++ es)) p x t lo hi
     needs {K} {N} {Z} {T} {P} {Q} h =
@@ -296,7 +296,7 @@ module _ {L S M list R A : List ℕ} {o : Out} (w : Following L S M list R A o) 
                 }
 
             -- it asks further right, if it asks
-            pub follow-right : {o₁ : Out} {R₁ A₁ : List ℕ} → FollowPre L S M list R → TakePost L S M R A p x t u v o₁ R₁ A₁ → left-over o₁ < left-over (out.Need p x t)
+            pub follow-right : {o₁ : Out} {R₁ A₁ : List ℕ} → FollowPre L S M list R → TakePost L S M R A p x t u v o₁ R₁ A₁ → left-over o₁ < left-over (out.Need (stop-at p x t))
             follow-right {o₁} pre post =
                 let s = pre .some in
                 let h = made pre in

@@ -46,7 +46,10 @@ fn follow(
         match o {
             walk::Out::Fail => return false,
             walk::Out::Ok(_) => return true,
-            walk::Out::Need(p, x, t) => {
+            walk::Out::Need(w) => {
+                let p = w.place;
+                let x = w.variable;
+                let t = w.start;
                 let v = tree::at(list, x + x + 1);
                 let lo = choice::least(pattern, p, t);
                 if v < lo {

@@ -23,7 +23,7 @@ use Rattle.variable.specs.State.{Kept}
 use Rattle.variable.specs.Steps.{SequencePre, SequencePost}
 use Rattle.walk.specs.Packed.{Past, Holds}
 use Rattle.walk.specs.Above.{Came, Unchanged, in-list, before-terms}
-use Rattle.walk.specs.Cycle.{Agree, both-fail, both-need, both-ok, TermAsked, TermPre, TermPost, ListAsked, ListPre, ListPost}
+use Rattle.walk.specs.Cycle.{stop-at, Agree, both-fail, both-need, both-ok, TermAsked, TermPre, TermPost, ListAsked, ListPre, ListPost}
 use Rattle.walk.specs.declared.Out.{Out}
 use Rattle.walk.specs.declared.Out.the-variants as out
 use Rattle.variable.specs.declared.Step.{Step}
@@ -224,9 +224,9 @@ module _ {L S M R₀ R A₀ A : List ℕ} {p₀ pe t₀ te n₀ p t n x : ℕ} (
         let y = fail-chose (rw g at (post .is Q us B (a .tree) (w .comes) (a .state))) in
         (both-fail (λ cs. sequence-walk ps us t B cs x (w .rest) (w .is) ∙ y cs (λ d B′ cs′. walkF Any any? (w .rest) (dropT d us) (t + rows (takeT d us)) B′ cs′)), kept-same, unchanged-same)
 
-    pub list-sequence-needs : {A₁ : List ℕ} → o ≡ step.Need → Came A p t A₁ → ListPost L S M R₀ A₀ p₀ pe t₀ te n₀ (out.Need p x t) R A₁
+    pub list-sequence-needs : {A₁ : List ℕ} → o ≡ step.Need → Came A p t A₁ → ListPost L S M R₀ A₀ p₀ pe t₀ te n₀ (out.Need (stop-at p x t)) R A₁
     list-sequence-needs {A₁} g came =
-        answered (place .turn .walking) (out.Need p x t)
+        answered (place .turn .walking) (out.Need (stop-at p x t))
         λ K N Z Q ps us B fs a.
         let w = the-sequence a in
         let y = need-chose (rw g at (post .is Q us B (a .tree) (w .comes) (a .state))) in
@@ -360,9 +360,9 @@ module _ {L S M R₀ R A₀ A : List ℕ} {p₀ pe t₀ te n₀ p t n : ℕ} (pl
         let y = rw g at (first-walked a) in
         (both-fail (λ cs. list-step a cs ∙ rw (fail-agree (y .0) cs)), y .1, y .2)
 
-    pub list-term-needs : {r x s : ℕ} → o ≡ out.Need r x s → ListPost L S M R₀ A₀ p₀ pe t₀ te n₀ (out.Need r x s) R₁ A₁
+    pub list-term-needs : {r x s : ℕ} → o ≡ out.Need (stop-at r x s) → ListPost L S M R₀ A₀ p₀ pe t₀ te n₀ (out.Need (stop-at r x s)) R₁ A₁
     list-term-needs {r} {x} {s} g =
-        answered (place .turn .walking) (out.Need r x s)
+        answered (place .turn .walking) (out.Need (stop-at r x s))
         λ K N Z Q ps us B fs a.
         let y = rw g at (first-walked a) in
         let c = need-agree (y .0) in

@@ -21,7 +21,7 @@ use Rattle.variable.specs.State.{Kept}
 use Rattle.variable.proofs.States.{kept-then}
 use Rattle.walk.specs.Packed.{Past, Holds, Packed}
 use Rattle.walk.specs.Above.{Marked, Unchanged, Behind, in-context, Held, Stands, before-terms, over-term}
-use Rattle.walk.specs.Cycle.{Agree, both-fail, both-need, TermAsked, TermPre, TermPost, ListAsked, ListPre, ListPost}
+use Rattle.walk.specs.Cycle.{stop-at, Agree, both-fail, both-need, TermAsked, TermPre, TermPost, ListAsked, ListPre, ListPost}
 use Rattle.walk.specs.Onward.{UpAsked, UpPre, UpPost, Lands, at-terms, at-hole, ResumeAsked, ResumePre, ResumePost}
 use Rattle.walk.specs.declared.Out.{Out}
 use Rattle.walk.specs.declared.Out.the-variants as out
@@ -39,7 +39,7 @@ module _ {L S R A K N Z : List ℕ} {Q : List Kind} {p₀ m : ℕ} (fs : List Fr
   part-fails : Agree L S R A K N Z Q p₀ m fs f out.Fail → Agree L S R A K N Z Q p₀ m [] g out.Fail
   part-fails a = both-fail λ cs. goes cs ∙ rw (fail-agree a cs)
 
-  part-needs : {p x s : ℕ} → Agree L S R A K N Z Q p₀ m fs f (out.Need p x s) → Agree L S R A K N Z Q p₀ m [] g (out.Need p x s)
+  part-needs : {p x s : ℕ} → Agree L S R A K N Z Q p₀ m fs f (out.Need (stop-at p x s)) → Agree L S R A K N Z Q p₀ m [] g (out.Need (stop-at p x s))
   part-needs a = let c = need-agree a in both-need (c .0) (needs-same goes (needs-run fs (c .3)))
 
   part-goes : {B : List Entry} {o : Out} → ((cs : List ℕ) → f cs ≡ ok B cs) → Agree L S R A K N Z Q p₀ m [] (run Any any? fs B) o → Agree L S R A K N Z Q p₀ m [] g o
@@ -190,7 +190,7 @@ module _ {L S M R A : List ℕ} {p u n : ℕ} where
                     (_, part-fails fs (walkF Any any? (l .ps) (l .us) u B) (l .goes B) (y .0), y .1, y .2);
               }
 
-          pub resume-list-needs : {i y t : ℕ} → o ≡ out.Need i y t → ResumePost L S M R A p u n (out.Need i y t) R₁ A₁
+          pub resume-list-needs : {i y t : ℕ} → o ≡ out.Need (stop-at i y t) → ResumePost L S M R A p u n (out.Need (stop-at i y t)) R₁ A₁
           resume-list-needs g =
               record {
                 is = λ K N Z Q B x s w fs d a.
@@ -288,7 +288,7 @@ module _ {L S M R A : List ℕ} {p u n : ℕ} where
                 (_, part-fails fs (walkT Any any? (l .q) (l .T) u B) (l .goes B) (y .0), y .1, y .2);
           }
 
-      pub resume-term-needs : {i y t : ℕ} → o ≡ out.Need i y t → ResumePost L S M R A p u n (out.Need i y t) R₁ A₁
+      pub resume-term-needs : {i y t : ℕ} → o ≡ out.Need (stop-at i y t) → ResumePost L S M R A p u n (out.Need (stop-at i y t)) R₁ A₁
       resume-term-needs g =
           record {
             is = λ K N Z Q B x s w fs d a.

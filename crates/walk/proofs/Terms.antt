@@ -22,7 +22,7 @@ use Rattle.meaning.proofs.Next.{Any, any?}
 use Rattle.variable.specs.State.{Kept}
 use Rattle.variable.specs.Steps.{Meets, VariablePre, IndividualPre, IndividualPost, HeadPre, HeadPost, ContextPre, ContextPost}
 use Rattle.walk.specs.Above.{Marked, Came, Unchanged, Behind, in-context, over-term}
-use Rattle.walk.specs.Cycle.{Agree, both-fail, both-need, both-ok, TermAsked, TermPre, TermPost, ListAsked, ListPre, ListPost}
+use Rattle.walk.specs.Cycle.{stop-at, Agree, both-fail, both-need, both-ok, TermAsked, TermPre, TermPost, ListAsked, ListPre, ListPost}
 use Rattle.walk.specs.declared.Out.{Out}
 use Rattle.walk.specs.declared.Out.the-variants as out
 use Rattle.variable.specs.declared.Bound.{Bound}
@@ -182,7 +182,7 @@ module _ {L S M R A A₁ : List ℕ} {p t n k x : ℕ} (row : AtRow L S M R A A�
                 (both-fail (λ cs. rw (w .is) (y cs (λ d B′ cs′. walkT Any any? (w .inner) (cut T d .at) (t + d) B′ cs′))), kept-same, here);
           }
 
-      pub term-context-needs : o ≡ step.Need → TermPost L S M R A p t n (out.Need p x t) R A₁
+      pub term-context-needs : o ≡ step.Need → TermPost L S M R A p t n (out.Need (stop-at p x t)) R A₁
       unfolding afterT
       term-context-needs g =
           record {

@@ -21,7 +21,7 @@ use Rattle.variable.specs.State.{Kept}
 use Rattle.variable.proofs.States.{kept-same, kept-then}
 use Rattle.walk.specs.Packed.{Past, Holds}
 use Rattle.walk.specs.Above.{Marked, Unchanged, Behind, at-root, in-list, in-context}
-use Rattle.walk.specs.Cycle.{Needs, Agree, both-fail, both-need, both-ok, TermAsked, TermPre, TermPost, ListAsked, ListPre, ListPost}
+use Rattle.walk.specs.Cycle.{stop-at, Needs, Agree, both-fail, both-need, both-ok, TermAsked, TermPre, TermPost, ListAsked, ListPre, ListPost}
 use Rattle.walk.specs.Onward.{UpAsked, UpPre, UpPost, Problem, BeginPre, BeginPost}
 use Rattle.walk.specs.declared.Out.{Out}
 use Rattle.walk.specs.declared.Out.the-variants as out
@@ -282,7 +282,7 @@ module _ {L S M R₀ R A₀ A : List ℕ} {p₀ n₀ q m : ℕ} (below : Below L
                     );
               }
 
-          pub up-needs : {i x s : ℕ} → o ≡ out.Need i x s → UpPost L S M R₀ A₀ p₀ n₀ (out.Need i x s) R₁ A₁
+          pub up-needs : {i x s : ℕ} → o ≡ out.Need (stop-at i x s) → UpPost L S M R₀ A₀ p₀ n₀ (out.Need (stop-at i x s)) R₁ A₁
           up-needs g =
               record {
                 is = λ K N Z Q B fs a.

@@ -15,7 +15,7 @@ use Rattle.walk.specs.Packed.{Packed}
 use Rattle.meaning.proofs.Next.{Any, any?}
 use Rattle.variable.specs.State.{State}
 use Rattle.variable.specs.Steps.{Meets, meets-fail, meets-ok, Chose, chose-fail, chose-need, chose-go}
-use Rattle.walk.specs.Cycle.{Needs, Agree, both-fail, both-need, both-ok}
+use Rattle.walk.specs.Cycle.{stop-at, Needs, Agree, both-fail, both-need, both-ok}
 use Rattle.walk.specs.declared.Out.{Out}
 use Rattle.walk.proofs.Marks.{needs-same}
 use Rattle.walk.specs.declared.Out.the-variants as out
@@ -134,7 +134,7 @@ module _ {L S R A K N Z : List ℕ} {Q : List Kind} {p₀ m : ℕ} {fs : List Fr
   pub fail-agree : Agree L S R A K N Z Q p₀ m fs f out.Fail → (cs : List ℕ) → f cs ≡ fail
   fail-agree (both-fail e) = e
 
-  pub need-agree : {p x s : ℕ} → Agree L S R A K N Z Q p₀ m fs f (out.Need p x s) → (p₀ ≤ p) × (lo : ℕ) × (hi : ℕ) × Needs L S R A K N Z Q fs f p x s lo hi
+  pub need-agree : {p x s : ℕ} → Agree L S R A K N Z Q p₀ m fs f (out.Need (stop-at p x s)) → (p₀ ≤ p) × (lo : ℕ) × (hi : ℕ) × Needs L S R A K N Z Q fs f p x s lo hi
   need-agree (both-need {lo = lo} {hi = hi} h w) = (h, lo, hi, w)
 
   pub ok-agree : {k : ℕ} → Agree L S R A K N Z Q p₀ m fs f (out.Ok k) → (B : List Entry) × ((cs : List ℕ) → f cs ≡ ok B cs) × (k ≡ m) × State L S R Q k B

@@ -16,6 +16,7 @@ use Rattle.walk.specs.Above.{Marks, Unchanged, Behind, Held, Stands}
 use Rattle.meaning.proofs.Next.{Any, any?}
 use Rattle.walk.specs.declared.Out.{Out}
 use Rattle.walk.specs.declared.Out.the-variants as out
+use Rattle.walk.specs.declared.Stop.{Stop as Stopped}
 
 -- f is a walk, which says its result for each list of choices; fs is left behind it. It asks for the variable x at the row p of the
 -- pattern and the row s of the tree. With one choice more it goes on from there.
@@ -31,11 +32,15 @@ pub record Needs (L S R A K N Z : List ℕ) (Q : List Kind) (fs : List Frame) (f
   pub asks : f [] ≡ need bound s lo hi
   pub goes : (v : ℕ) (cs : List ℕ) → andThen (f (v ∷ cs)) (run Any any? fs) ≡ enter Any any? stop x s frames bound v cs
 
+-- where the code's walk stops
+abbrev pub stop-at : ℕ → ℕ → ℕ → Stopped
+stop-at p x s = record { place = p; variable = x; start = s }
+
 -- the code's answer, with the record R and the rows A, is that of the walk f; where it goes on, m variables are bound. It does not ask
 -- before the row p₀.
 pub data Agree (L S R A K N Z : List ℕ) (Q : List Kind) (p₀ m : ℕ) (fs : List Frame) (f : List ℕ → Res) : Out → Type 0 where
   both-fail : ((cs : List ℕ) → f cs ≡ fail) → Agree L S R A K N Z Q p₀ m fs f out.Fail
-  both-need : {p x s lo hi : ℕ} → p₀ ≤ p → Needs L S R A K N Z Q fs f p x s lo hi → Agree L S R A K N Z Q p₀ m fs f (out.Need p x s)
+  both-need : {p x s lo hi : ℕ} → p₀ ≤ p → Needs L S R A K N Z Q fs f p x s lo hi → Agree L S R A K N Z Q p₀ m fs f (out.Need (stop-at p x s))
   both-ok : {B : List Entry} {k : ℕ} → k ≡ m → State L S R Q k B → ((cs : List ℕ) → f cs ≡ ok B cs) → Agree L S R A K N Z Q p₀ m fs f (out.Ok k)
 
 -- the pattern term q at row p, the term T at row t, and the state of the walk between them

@@ -8,7 +8,7 @@ use Rattle.meaning.specs.Record.{Entry, numbers}
 use Rattle.meaning.proofs.Walk.{Res, fail, need, ok}
 use Rattle.walk.specs.Packed.{Packed}
 use Rattle.walk.specs.Above.{Marks, Unchanged}
-use Rattle.walk.specs.Cycle.{Needs, Agree}
+use Rattle.walk.specs.Cycle.{stop-at, Needs, Agree}
 use Rattle.walk.specs.Onward.{Lands}
 use Rattle.walk.specs.declared.Out.{Out}
 use Rattle.walk.specs.declared.Out.the-variants as out
@@ -34,5 +34,5 @@ pub record TakePost (L S M R A : List ℕ) (p x s u v : ℕ) (o : Out) (R′ A�
 -- the answer is the walk's; the record R then has the numbers of the variables that are bound
 pub data Answers (R : List ℕ) : Out → Res → Type 0 where
   fails : Answers R out.Fail fail
-  needs : {B : List Entry} {p x t lo hi : ℕ} → length B ≡ x → take (x + x) R ≡ numbers B → Answers R (out.Need p x t) (need B t lo hi)
+  needs : {B : List Entry} {p x t lo hi : ℕ} → length B ≡ x → take (x + x) R ≡ numbers B → Answers R (out.Need (stop-at p x t)) (need B t lo hi)
   matches : {B : List Entry} {n : ℕ} → length B ≡ n → take (n + n) R ≡ numbers B → Answers R (out.Ok n) (ok B [])

@@ -11,11 +11,17 @@ use meaning::kinds::CONTEXT;
 use meaning::kinds::INDIVIDUAL;
 use meaning::kinds::SEQUENCE;
 
-// What a walk answers: no match; a variable that has to be chosen, with the row of the pattern, its number and the row of the tree
-// where it starts; or a match with so many variables bound.
+// Where a walk stops: the row of the pattern with a variable that has to be chosen, the variable, and the row of the tree where it starts.
+pub struct Stop {
+    pub place: usize,
+    pub variable: usize,
+    pub start: usize,
+}
+
+// What a walk answers: no match; a stop; or a match with so many variables bound.
 pub enum Out {
     Fail,
-    Need(usize, usize, usize),
+    Need(Stop),
     Ok(usize),
 }
 
@@ -181,7 +187,11 @@ fn term(
     if k == CONTEXT {
         return match variable::context(label, size, record, x, t, n) {
             variable::Step::Fail => Out::Fail,
-            variable::Step::Need => Out::Need(p, x, t),
+            variable::Step::Need => Out::Need(Stop {
+                place: p,
+                variable: x,
+                start: t,
+            }),
             variable::Step::Go(u) => term(label, size, pattern, record, at, p + 1, u, n),
         };
     }
@@ -228,7 +238,11 @@ fn args(
                 variable::Step::Fail => return Out::Fail,
                 variable::Step::Need => {
                     come(at, q, u);
-                    return Out::Need(q, x, u);
+                    return Out::Need(Stop {
+                        place: q,
+                        variable: x,
+                        start: u,
+                    });
                 }
                 variable::Step::Go(v) => {
                     q += 1;
@@ -241,7 +255,7 @@ fn args(
             }
             match term(label, size, pattern, record, at, q, u, m) {
                 Out::Fail => return Out::Fail,
-                Out::Need(r, x, s) => return Out::Need(r, x, s),
+                Out::Need(w) => return Out::Need(w),
                 Out::Ok(k) => {
                     q = next(pattern, q);
                     u = tree::next(size, u);
@@ -292,7 +306,7 @@ fn up(
                 m,
             ) {
                 Out::Fail => return Out::Fail,
-                Out::Need(r, x, s) => return Out::Need(r, x, s),
+                Out::Need(w) => return Out::Need(w),
                 Out::Ok(k) => {
                     q = h;
                     m = k;
@@ -334,13 +348,13 @@ pub fn resume(
             n,
         ) {
             Out::Fail => Out::Fail,
-            Out::Need(r, x, s) => Out::Need(r, x, s),
+            Out::Need(w) => Out::Need(w),
             Out::Ok(m) => up(label, size, pattern, record, at, h, m),
         };
     }
     match term(label, size, pattern, record, at, p + 1, u, n) {
         Out::Fail => Out::Fail,
-        Out::Need(r, x, s) => Out::Need(r, x, s),
+        Out::Need(w) => Out::Need(w),
         Out::Ok(m) => up(label, size, pattern, record, at, p, m),
     }
 }

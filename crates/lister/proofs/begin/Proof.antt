@@ -36,16 +36,16 @@ ended-requires : tie.Need-ended-requires
 ended-requires c κs = search needs
 
 -- src/lib.rt:42:25
-enum-known-p : tie.Need-enum-known-p
-enum-known-p c = search needs
+enum-known-w : tie.Need-enum-known-w
+enum-known-w c = search needs
 
 -- src/lib.rt:44:17
 least-requires : tie.Need-least-requires
-least-requires c κs = need-room (begun (c .before .before .before)) (c .before .p .given .1)
+least-requires c κs = need-room (begun (c .before .before .before)) (c .before .w .given .1)
 
 -- src/lib.rt:45:17
 values-requires : tie.Need-values-requires
-values-requires c κs = at-stop (begun (c .before .before .before .before .before)) (c .before .before .before .p .given .1)
+values-requires c κs = at-stop (begun (c .before .before .before .before .before)) (c .before .before .before .w .given .1)
 
 -- src/lib.rt:46:13
 enter-requires : tie.Need-enter-requires
@@ -53,7 +53,7 @@ enter-requires c κs = record { long = length-replicate {A = ℕ} 1536 0; few = 
 
 -- src/lib.rt:52:13
 go-requires : tie.Need-go-requires
-go-requires c κs = (go-asked (begun (c .before .before .before .before .before .before .before .before .before .before .before .before)) (c .before .before .before .before .before .before .before .before .before .before .p .given .1) (c .before .before .before .before .before .before .before .before .least .ensures) (c .before .before .before .before .before .before .values .ensures) (c .before .before .before .before .enter .ensures), c .before .before .before .before .enter .ensures .long ∙ length-replicate {A = ℕ} 1536 0, omega (arith, c .before .before .before .before .before .before .before .before .before .before .before .before .before .before .before .before .before .before .fits .budget), omega (arith, c .before .before .before .before .before .before .before .before .before .before .before .before .before .before .before .before .before .before .fits .room))
+go-requires c κs = (go-asked (begun (c .before .before .before .before .before .before .before .before .before .before .before .before)) (c .before .before .before .before .before .before .before .before .before .before .w .given .1) (c .before .before .before .before .before .before .before .before .least .ensures) (c .before .before .before .before .before .before .values .ensures) (c .before .before .before .before .enter .ensures), c .before .before .before .before .enter .ensures .long ∙ length-replicate {A = ℕ} 1536 0, omega (arith, c .before .before .before .before .before .before .before .before .before .before .before .before .before .before .before .before .before .before .fits .budget), omega (arith, c .before .before .before .before .before .before .before .before .before .before .before .before .before .before .before .before .before .before .fits .room))
 
 -- src/lib.rt:66:16
 enum-told-2 : tie.Need-enum-told-2
@@ -85,7 +85,7 @@ same-length c = search needs
 
 -- src/lib.rt:25:1
 returns-3 : tie.Need-returns-3
-returns-3 c = begun-need (begun (c .before .before .before .before .before .before .before .before .before .before .before .before .before .before .before)) (c .before .before .before .before .before .before .before .before .before .before .before .before .before .p .given .1) (c .before .before .before .before .before .before .before .before .before .before .before .least .ensures) (c .before .before .before .before .before .before .before .before .before .values .ensures) (c .before .before .before .before .before .before .before .enter .ensures) (c .before .before .go .ensures)
+returns-3 c = begun-need (begun (c .before .before .before .before .before .before .before .before .before .before .before .before .before .before .before)) (c .before .before .before .before .before .before .before .before .before .before .before .before .before .w .given .1) (c .before .before .before .before .before .before .before .before .before .before .before .least .ensures) (c .before .before .before .before .before .before .before .before .before .values .ensures) (c .before .before .before .before .before .before .before .enter .ensures) (c .before .before .go .ensures)
 
 -- src/lib.rt:25:1
 same-length-2 : tie.Need-same-length-2
@@ -102,7 +102,7 @@ begin-spec =
     begin-requires
     enum-told
     ended-requires
-    enum-known-p
+    enum-known-w
     least-requires
     values-requires
     enter-requires

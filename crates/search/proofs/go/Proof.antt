@@ -215,24 +215,24 @@ loop-again : tie.Need-loop-again Inv-loop μ-loop
 loop-again c = (tried-fail (after (c .before .before)) (c .enum-told .given .1), c .before .before .attempt .ensures .1, long (c .before .before))
 
 -- src/lib.rt:119:29
-enum-known-p : tie.Need-enum-known-p Inv-loop μ-loop
-enum-known-p c = search needs
+enum-known-w : tie.Need-enum-known-w Inv-loop μ-loop
+enum-known-w c = search needs
 
 -- src/lib.rt:120:21
 least-requires : tie.Need-least-requires Inv-loop μ-loop
-least-requires c κs = need-room (after (c .before .before .before)) (c .before .p .given .1) (begun (c .before .before .before .before .before .before .before .before .before .before .before .before .before .before .before .before .before .before .before .before .before .before .before .before .before .before .before) .pre .0)
+least-requires c κs = need-room (after (c .before .before .before)) (c .before .w .given .1) (begun (c .before .before .before .before .before .before .before .before .before .before .before .before .before .before .before .before .before .before .before .before .before .before .before .before .before .before .before) .pre .0)
 
 -- src/lib.rt:121:21
 more-values-requires : tie.Need-more-values-requires Inv-loop μ-loop
-more-values-requires c κs = more-pre (c .before .before .before .before .before .before .before .before .before .before .before .before .before .before .before .before .before .before .before .before .before .before .before .standing .ensures) (ready (c .before .before .before .before .before .before .before .before .before .before .before .before .before .before .before .before .before .before .before .before .before .before .before .before .before .before)) (begun (c .before .before .before .before .before .before .before .before .before .before .before .before .before .before .before .before .before .before .before .before .before .before .before .before .before .before .before .before .before) .pre .0) (c .before .before .before .before .before .before .before .before .before .before .before .before .before .before .before .before .before .before .before .before .before .before .spare .ensures .0) (c .before .before .before .before .before .before .before .before .before .before .before .before .before .before .before .before .before .before .before .before .before .before .spare .ensures .1) (c .before .before .before .before .before .before .before .before .before .before .before .before .before .before .before .before .before .before .before .before .skip .ensures) (c .before .before .before .before .before .before .before .before .before .before .before .before .before .before .further .ensures) (c .before .before .before .before .before .before .before .before .before .before .advance .ensures) (c .before .before .before .before .before .attempt .ensures .0) (c .before .before .before .p .given .1)
+more-values-requires c κs = more-pre (c .before .before .before .before .before .before .before .before .before .before .before .before .before .before .before .before .before .before .before .before .before .before .before .standing .ensures) (ready (c .before .before .before .before .before .before .before .before .before .before .before .before .before .before .before .before .before .before .before .before .before .before .before .before .before .before)) (begun (c .before .before .before .before .before .before .before .before .before .before .before .before .before .before .before .before .before .before .before .before .before .before .before .before .before .before .before .before .before) .pre .0) (c .before .before .before .before .before .before .before .before .before .before .before .before .before .before .before .before .before .before .before .before .before .before .spare .ensures .0) (c .before .before .before .before .before .before .before .before .before .before .before .before .before .before .before .before .before .before .before .before .before .before .spare .ensures .1) (c .before .before .before .before .before .before .before .before .before .before .before .before .before .before .before .before .before .before .before .before .skip .ensures) (c .before .before .before .before .before .before .before .before .before .before .before .before .before .before .further .ensures) (c .before .before .before .before .before .before .before .before .before .before .advance .ensures) (c .before .before .before .before .before .attempt .ensures .0) (c .before .before .before .w .given .1)
 
 -- src/lib.rt:122:17
 enter-requires : tie.Need-enter-requires Inv-loop μ-loop
-enter-requires c κs = record { long = long (c .before .before .before .before .before .before .before); few = need-fits (after (c .before .before .before .before .before .before .before)) (c .before .before .before .before .before .p .given .1) (begun (c .before .before .before .before .before .before .before .before .before .before .before .before .before .before .before .before .before .before .before .before .before .before .before .before .before .before .before .before .before .before .before) .pre .0) }
+enter-requires c κs = record { long = long (c .before .before .before .before .before .before .before); few = need-fits (after (c .before .before .before .before .before .before .before)) (c .before .before .before .before .before .w .given .1) (begun (c .before .before .before .before .before .before .before .before .before .before .before .before .before .before .before .before .before .before .before .before .before .before .before .before .before .before .before .before .before .before .before) .pre .0) }
 
 -- src/lib.rt:123:17
 add-depth : tie.Need-add-depth Inv-loop μ-loop
-add-depth c = omega (arith, need-fits (after (c .before .before .before .before .before .before .before .before)) (c .before .before .before .before .before .before .p .given .1) (begun (c .before .before .before .before .before .before .before .before .before .before .before .before .before .before .before .before .before .before .before .before .before .before .before .before .before .before .before .before .before .before .before .before) .pre .0))
+add-depth c = omega (arith, need-fits (after (c .before .before .before .before .before .before .before .before)) (c .before .before .before .before .before .before .w .given .1) (begun (c .before .before .before .before .before .before .before .before .before .before .before .before .before .before .before .before .before .before .before .before .before .before .before .before .before .before .before .before .before .before .before .before) .pre .0))
 
 -- src/lib.rt:83:5
 loop-less-2 : tie.Need-loop-less-2 Inv-loop μ-loop
@@ -241,7 +241,7 @@ loop-less-2 c = omega (arith, after (c .before .before .before .before .before .
 -- src/lib.rt:83:5
 loop-again-2 : tie.Need-loop-again-2 Inv-loop μ-loop
 loop-again-2 c = (
-  deeper (c .before .before .before .before .before .before .before .before .before .before .before .before .before .before .before .before .before .before .before .before .before .before .before .before .before .before .standing .ensures) (ready (c .before .before .before .before .before .before .before .before .before .before .before .before .before .before .before .before .before .before .before .before .before .before .before .before .before .before .before .before .before)) (begun (c .before .before .before .before .before .before .before .before .before .before .before .before .before .before .before .before .before .before .before .before .before .before .before .before .before .before .before .before .before .before .before .before) .pre .0) (c .before .before .before .before .before .before .before .before .before .before .before .before .before .before .before .before .before .before .before .before .before .before .before .before .before .spare .ensures .0) (c .before .before .before .before .before .before .before .before .before .before .before .before .before .before .before .before .before .before .before .before .before .before .before .before .before .spare .ensures .1) (c .before .before .before .before .before .before .before .before .before .before .before .before .before .before .before .before .before .before .before .before .before .before .before .skip .ensures) (c .before .before .before .before .before .before .before .before .before .before .before .before .before .before .before .before .before .further .ensures) (c .before .before .before .before .before .before .before .before .before .before .before .before .before .advance .ensures) (c .before .before .before .before .before .before .before .before .attempt .ensures .0) (c .before .before .before .before .before .before .p .given .1) (c .before .before .before .before .least .ensures) (c .before .before .more-values .ensures) (c .enter .ensures),
+  deeper (c .before .before .before .before .before .before .before .before .before .before .before .before .before .before .before .before .before .before .before .before .before .before .before .before .before .before .standing .ensures) (ready (c .before .before .before .before .before .before .before .before .before .before .before .before .before .before .before .before .before .before .before .before .before .before .before .before .before .before .before .before .before)) (begun (c .before .before .before .before .before .before .before .before .before .before .before .before .before .before .before .before .before .before .before .before .before .before .before .before .before .before .before .before .before .before .before .before) .pre .0) (c .before .before .before .before .before .before .before .before .before .before .before .before .before .before .before .before .before .before .before .before .before .before .before .before .before .spare .ensures .0) (c .before .before .before .before .before .before .before .before .before .before .before .before .before .before .before .before .before .before .before .before .before .before .before .before .before .spare .ensures .1) (c .before .before .before .before .before .before .before .before .before .before .before .before .before .before .before .before .before .before .before .before .before .before .before .skip .ensures) (c .before .before .before .before .before .before .before .before .before .before .before .before .before .before .before .before .before .further .ensures) (c .before .before .before .before .before .before .before .before .before .before .before .before .before .advance .ensures) (c .before .before .before .before .before .before .before .before .attempt .ensures .0) (c .before .before .before .before .before .before .w .given .1) (c .before .before .before .before .least .ensures) (c .before .before .more-values .ensures) (c .enter .ensures),
   c .before .before .before .before .before .before .before .before .attempt .ensures .1,
   c .enter .ensures .long ∙ long (c .before .before .before .before .before .before .before .before),
 )
@@ -314,7 +314,7 @@ go-spec =
     enum-told
     loop-less
     loop-again
-    enum-known-p
+    enum-known-w
     least-requires
     more-values-requires
     enter-requires

@@ -172,11 +172,11 @@ args-enum-told-3 t c = search needs
 args-returns-4 : (t : ℕ) → args-lts.Need-returns-4 (args-claims t) (args-at t) args.Post args-Inv-loop args-μ-loop
 args-returns-4 t c = list-term-fails (at-term t (c .before .before .before .before .before)) (c .before .before .term .ensures) (c .enum-told3 .given .1)
 
-args-enum-known-r : (t : ℕ) → args-lts.Need-enum-known-r (args-claims t) (args-at t) args.Post args-Inv-loop args-μ-loop
-args-enum-known-r t c = search needs
+args-enum-known-w : (t : ℕ) → args-lts.Need-enum-known-w (args-claims t) (args-at t) args.Post args-Inv-loop args-μ-loop
+args-enum-known-w t c = search needs
 
 args-returns-5 : (t : ℕ) → args-lts.Need-returns-5 (args-claims t) (args-at t) args.Post args-Inv-loop args-μ-loop
-args-returns-5 t c = list-term-needs (at-term t (c .before .before .before .before .before .before)) (c .before .before .before .term .ensures) (c .before .r .given .1)
+args-returns-5 t c = list-term-needs (at-term t (c .before .before .before .before .before .before)) (c .before .before .before .term .ensures) (c .before .w .given .1)
 
 args-enum-known-k : (t : ℕ) → args-lts.Need-enum-known-k (args-claims t) (args-at t) args.Post args-Inv-loop args-μ-loop
 args-enum-known-k t c = search needs
@@ -314,7 +314,7 @@ pub +args+term-spec : {M : Type 1} → statement M
     (args-term-requires t)
     (args-enum-told-3 t)
     (args-returns-4 t)
-    (args-enum-known-r t)
+    (args-enum-known-w t)
     (args-returns-5 t)
     (args-enum-known-k t)
     (args-next-requires t)

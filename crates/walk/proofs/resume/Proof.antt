@@ -29,8 +29,8 @@ args-requires c κs = resume-list-pre (omega (arith, c .before .before .before .
 enum-told : tie.Need-enum-told
 enum-told c = search needs
 
-enum-known-r : tie.Need-enum-known-r
-enum-known-r c = search needs
+enum-known-w : tie.Need-enum-known-w
+enum-known-w c = search needs
 
 enum-known-m : tie.Need-enum-known-m
 enum-known-m c = search needs
@@ -42,7 +42,7 @@ returns : tie.Need-returns
 returns c = resume-list-fails (omega (arith, c .before .before .before .before .before .before .before .before .before .before .before .kind .ensures, c .before .before .before .before .before .before .before .before .before .before .if1 .taken)) (c .before .before .before .before .before .before .before .before .before .holder .ensures) (c .before .before .before .before .next .ensures) (c .before .before .before .before .before .before .before .row .ensures) (c .before .before .before .next2 .ensures) (c .before .before .args2 .ensures) (c .enum-told .given .1)
 
 returns-2 : tie.Need-returns-2
-returns-2 c = resume-list-needs (omega (arith, c .before .before .before .before .before .before .before .before .before .before .before .before .kind .ensures, c .before .before .before .before .before .before .before .before .before .before .before .if1 .taken)) (c .before .before .before .before .before .before .before .before .before .before .holder .ensures) (c .before .before .before .before .before .next .ensures) (c .before .before .before .before .before .before .before .before .row .ensures) (c .before .before .before .before .next2 .ensures) (c .before .before .before .args2 .ensures) (c .before .r .given .1)
+returns-2 c = resume-list-needs (omega (arith, c .before .before .before .before .before .before .before .before .before .before .before .before .kind .ensures, c .before .before .before .before .before .before .before .before .before .before .before .if1 .taken)) (c .before .before .before .before .before .before .before .before .before .before .holder .ensures) (c .before .before .before .before .before .next .ensures) (c .before .before .before .before .before .before .before .before .row .ensures) (c .before .before .before .before .next2 .ensures) (c .before .before .before .args2 .ensures) (c .before .w .given .1)
 
 returns-3 : tie.Need-returns-3
 returns-3 c = resume-up-is (omega (arith, c .before .before .before .before .before .before .before .before .before .before .before .before .before .before .before .kind .ensures, c .before .before .before .before .before .before .before .before .before .before .before .before .before .before .if1 .taken)) (c .before .before .before .before .before .before .before .before .before .before .before .before .before .holder .ensures) (c .before .before .before .before .before .before .before .before .next .ensures) (c .before .before .before .before .before .before .before .before .before .before .before .row .ensures) (c .before .before .before .before .before .before .before .next2 .ensures) (c .before .before .before .before .before .before .args2 .ensures) (c .before .before .before .before .m .given .1) (c .up .ensures)
@@ -56,8 +56,8 @@ term-requires c κs = resume-term-pre (omega (arith, c .before .before .before .
 enum-told-2 : tie.Need-enum-told-2
 enum-told-2 c = search needs
 
-enum-known-r-2 : tie.Need-enum-known-r-2
-enum-known-r-2 c = search needs
+enum-known-w-2 : tie.Need-enum-known-w-2
+enum-known-w-2 c = search needs
 
 enum-known-m-2 : tie.Need-enum-known-m-2
 enum-known-m-2 c = search needs
@@ -69,7 +69,7 @@ returns-4 : tie.Need-returns-4
 returns-4 c = resume-term-fails (omega (arith, c .before .before .before .before .before .before .kind .ensures, c .before .before .before .before .before .if1 .left)) (c .before .before .term .ensures) (c .enum-told2 .given .1)
 
 returns-5 : tie.Need-returns-5
-returns-5 c = resume-term-needs (omega (arith, c .before .before .before .before .before .before .before .kind .ensures, c .before .before .before .before .before .before .if1 .left)) (c .before .before .before .term .ensures) (c .before .r2 .given .1)
+returns-5 c = resume-term-needs (omega (arith, c .before .before .before .before .before .before .before .kind .ensures, c .before .before .before .before .before .before .if1 .left)) (c .before .before .before .term .ensures) (c .before .w2 .given .1)
 
 returns-6 : tie.Need-returns-6
 returns-6 c = resume-over-is (omega (arith, c .before .before .before .before .before .before .before .before .before .before .kind .ensures, c .before .before .before .before .before .before .before .before .before .if1 .left)) (c .before .before .before .before .before .before .term .ensures) (c .before .before .before .before .m2 .given .1) (c .up2 .ensures)
@@ -86,7 +86,7 @@ resume-spec =
     next-requires-2
     args-requires
     enum-told
-    enum-known-r
+    enum-known-w
     enum-known-m
     up-requires
     returns
@@ -95,7 +95,7 @@ resume-spec =
     add-term
     term-requires
     enum-told-2
-    enum-known-r-2
+    enum-known-w-2
     enum-known-m-2
     up-requires-2
     returns-4

@@ -59,11 +59,11 @@ enum-told c = search needs
 returns : tie.Need-returns Inv-loop μ-loop
 returns c = up-fails (below (c .before .before .before .before .before .before .before .before .before .before .before .before .before .before .before .before)) (c .before .before .before .before .before .before .before .before .before .before .before .before .before .before .before .holder .ensures) (omega (arith, c .before .before .before .before .before .before .before .before .before .before .before .before .before .before .kind .ensures, c .before .before .before .before .before .before .before .before .before .before .before .before .before .if1 .left)) (c .before .before .before .before .before .before .next .ensures) (c .before .before .before .before .before .next2 .ensures) (c .before .before .before .before .before .before .before .before .before .before .before .row .ensures) (c .before .before .before .before .next3 .ensures) (c .before .before .before .before .before .before .before .before .before .row2 .ensures) (c .before .before .before .next4 .ensures) (c .before .before .args2 .ensures) (c .enum-told .given .1)
 
-enum-known-r : tie.Need-enum-known-r Inv-loop μ-loop
-enum-known-r c = search needs
+enum-known-w : tie.Need-enum-known-w Inv-loop μ-loop
+enum-known-w c = search needs
 
 returns-2 : tie.Need-returns-2 Inv-loop μ-loop
-returns-2 c = up-needs (below (c .before .before .before .before .before .before .before .before .before .before .before .before .before .before .before .before .before)) (c .before .before .before .before .before .before .before .before .before .before .before .before .before .before .before .before .holder .ensures) (omega (arith, c .before .before .before .before .before .before .before .before .before .before .before .before .before .before .before .kind .ensures, c .before .before .before .before .before .before .before .before .before .before .before .before .before .before .if1 .left)) (c .before .before .before .before .before .before .before .next .ensures) (c .before .before .before .before .before .before .next2 .ensures) (c .before .before .before .before .before .before .before .before .before .before .before .before .row .ensures) (c .before .before .before .before .before .next3 .ensures) (c .before .before .before .before .before .before .before .before .before .before .row2 .ensures) (c .before .before .before .before .next4 .ensures) (c .before .before .before .args2 .ensures) (c .before .r .given .1)
+returns-2 c = up-needs (below (c .before .before .before .before .before .before .before .before .before .before .before .before .before .before .before .before .before)) (c .before .before .before .before .before .before .before .before .before .before .before .before .before .before .before .before .holder .ensures) (omega (arith, c .before .before .before .before .before .before .before .before .before .before .before .before .before .before .before .kind .ensures, c .before .before .before .before .before .before .before .before .before .before .before .before .before .before .if1 .left)) (c .before .before .before .before .before .before .before .next .ensures) (c .before .before .before .before .before .before .next2 .ensures) (c .before .before .before .before .before .before .before .before .before .before .before .before .row .ensures) (c .before .before .before .before .before .next3 .ensures) (c .before .before .before .before .before .before .before .before .before .before .row2 .ensures) (c .before .before .before .before .next4 .ensures) (c .before .before .before .args2 .ensures) (c .before .w .given .1)
 
 enum-known-k : tie.Need-enum-known-k Inv-loop μ-loop
 enum-known-k c = search needs
@@ -97,7 +97,7 @@ up-spec =
     args-requires
     enum-told
     returns
-    enum-known-r
+    enum-known-w
     returns-2
     enum-known-k
     loop-less-2
