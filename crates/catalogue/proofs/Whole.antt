@@ -25,7 +25,7 @@ use Rattle.catalogue.specs.Answer.{places, within, atMost}
 use Rattle.catalogue.specs.Answer.{answer as answerOf}
 use Rattle.catalogue.specs.Meant.{Meant}
 use Rattle.catalogue.proofs.Events.{Outcome, fail, need, done, snoc, events, Within}
-use Rattle.catalogue.proofs.Run.{run, Match, placed, reached, values-of, tries-at, answer, IsTry, IsMatch, _before_, answers, Tame}
+use Rattle.catalogue.proofs.Run.{run, Match, placed, reached, values-of, tries-at, answer, IsTry, IsMatch, answers, Tame, _before_}
 use Rattle.catalogue.proofs.Plain.{plain-try, plain-match, try-plain}
 use Rattle.catalogue.proofs.Ranks.{order}
 

@@ -10,7 +10,7 @@ use Rattle.meaning.specs.Value.{Value, kinds}
 use Rattle.meaning.specs.Record.{recordOf}
 use Rattle.meaning.specs.Order.{choices}
 use Rattle.meaning.specs.Reached.{Reached}
-use Rattle.catalogue.specs.Order.{_⊏_, Mem, Ascending}
+use Rattle.catalogue.specs.Order.{Mem, Ascending, _⊏_}
 
 -- a try, written as the second numbers of the sequence and context variables up to it: somewhere a first appearance is reached,
 -- and one of its values is taken

@@ -149,11 +149,7 @@ module _ {w : List ℕ} {F : Content} {T : Bytes} (d : Document w F T) {j : ℕ}
       ap (λ (s : State). runs s (drop j w)) (sym (a .is)) ∙ sym (runs-append initial (take j w) (drop j w))
       ∙ ap (runs initial) (take-append-drop j w) ∙ accepts d
 
-  -- the machine lives everywhere
-  pub lives-at : Live z
-  lives-at = live-step z (drop j w) (rw ends tt)
-
-  -- and what it has read are the first rows
+  -- what it has read are the first rows
   pub emitted : Prefix (rowsS z) (rowsOf F)
   unfolding rowsS rowsO offO
   emitted =

@@ -8,7 +8,7 @@ use native.Mathlib.Omega.{arith}
 use Rattle.meaning.specs.Pattern.{Pattern, Patterns, Kind}
 use Rattle.pattern.specs.Places.{PatternRow, PatternAt, at-symbol, at-individual, at-function, at-context, PatternsAt, at-nil, at-cons, at-sequence}
 use Rattle.instance.specs.Places.{along, number}
-use Rattle.instance.specs.Packed.{namesOf, sizesOf, Starts, PackPre, Packed}
+use Rattle.instance.specs.Packed.{Starts, PackPre, Packed}
 use Rattle.instance.specs.Cycle.{TermPre, TermPost, TermAsks, TermGives}
 
 -- what is written later stands behind

@@ -5,7 +5,7 @@ use mathlib.Core.List.{List}
 use Prim.Native.Nat.{ℕ, zero, suc, _+_, _-_, _*_, _≤_, _<_}
 use lib.Dec.{eqb, ltb}
 use lib.ListN.{length, getD}
-use Rattle.grammar.specs.Classes.{classOf, white, nameByte}
+use Rattle.grammar.specs.Classes.{classOf, nameByte}
 use Rattle.grammar.specs.Tokens.{Automaton, after}
 use Rattle.grammar.specs.Grammar.{Bytes, ε, _▸_, spaceToken, nameToken, runToken, Level, outer, inner}
 

@@ -21,7 +21,7 @@ use Rattle.expression.proofs.Table.{name-length}
 use Rattle.expression.proofs.Places.{place-total, start-placed, start-within}
 use Rattle.letters.specs.Accepts.{Accepts, flagAt}
 use Rattle.letters.specs.State.{RowReads, StateOf, TablesOf}
-use Rattle.letters.specs.Tables.{nameOf, firstOf, nullOf, contOf, endsOf, Holds}
+use Rattle.letters.specs.Tables.{nameOf, firstOf, nullOf, contOf, endsOf, Tabled}
 use Rattle.letters.specs.Following.{gate, HeadRow, overSet, overEnd, loopSet, loopEnd, Filled, AllFilled, ContsOf}
 use Rattle.letters.proofs.Automaton.{Local, accepts-sound, accepts-complete}
 use Rattle.letters.proofs.OneLetter.{stepSet, stepEnd, step-sound, step-complete}
@@ -138,7 +138,7 @@ module _ {kind name size : List ℕ} {es : List Expression} (g : GoodTable kind 
             (flagAt null) (flagAt ends) (length kind) reads heads e row (start-placed g s) (start-within g s) c d,
       )
 
-  pub tables-are : {tables : List ℕ} → Holds label first null cont ends tables → TablesOf es tables
+  pub tables-are : {tables : List ℕ} → Tabled label first null cont ends tables → TablesOf es tables
   tables-are {tables} h =
       let b : Begins (nameOf tables) (firstOf tables) (nullOf tables) (contOf tables) (endsOf tables) =
       subst (λ (f : ℕ → ℕ). Begins f (firstOf tables) (nullOf tables) (contOf tables) (endsOf tables)) (sym (h .names))

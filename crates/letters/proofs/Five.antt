@@ -8,10 +8,9 @@ use native.Mathlib.Omega.{arith}
 use native.Mathlib.Nat.{eq-zero-or-pos}
 use native.Mathlib.Decide.{ℕ-discrete}
 use lib.Dec.{eqb}
-use lib.ListN.{length, getD, set, length-set}
+use lib.ListN.{length, getD, set, length-set, List·getD-eq-default}
 use lib.Seq.{getD-set-same, getD-set-other}
-use Rattle.meaning.proofs.Lists.{none-there}
-use Rattle.letters.specs.Tables.{noted, five, nameOf, firstOf, nullOf, contOf, endsOf, Holds}
+use Rattle.letters.specs.Tables.{noted, five, nameOf, firstOf, nullOf, contOf, endsOf, Tabled}
 
 pub noted-is : (flag : Bool) → eqb (noted flag) 1 ≡ flag
 noted-is true = refl
@@ -132,15 +131,15 @@ module _ {name first : List ℕ} {null : List Bool} {cont : List ℕ} {ends : Li
 
   -- where each list has 64 rows, the rows beyond are alike
   pub laid-whole : {rows : ℕ} → Laid name first null cont ends tables rows → 64 ≤ rows → length name ≡ 64 → length first ≡ 64 → length null ≡ 64 → length cont ≡ 64 → length ends ≡ 64
-      → Holds name first null cont ends tables
+      → Tabled name first null cont ends tables
   laid-whole l most a b c d e =
       record {
-        names = fun-ext (λ row. ⊎-elim (λ h. l .names row (omega arith)) (λ h. none row (5 * row) h (omega arith) ∙ sym (none-there name row 0 (omega arith))) (inside row));
-        firsts = fun-ext (λ row. ⊎-elim (λ h. l .firsts row (omega arith)) (λ h. none row (5 * row + 1) h (omega arith) ∙ sym (none-there first row 0 (omega arith))) (inside row));
-        nulls = fun-ext (λ row. ⊎-elim (λ h. l .nulls row (omega arith)) (λ h. rw (none row (5 * row + 2) h (omega arith), none-there null row false (omega arith)) refl) (inside row));
-        conts = fun-ext (λ row. ⊎-elim (λ h. l .conts row (omega arith)) (λ h. none row (5 * row + 3) h (omega arith) ∙ sym (none-there cont row 0 (omega arith))) (inside row));
-        finals = fun-ext (λ row. ⊎-elim (λ h. l .finals row (omega arith)) (λ h. rw (none row (5 * row + 4) h (omega arith), none-there ends row false (omega arith)) refl) (inside row));
+        names = fun-ext (λ row. ⊎-elim (λ h. l .names row (omega arith)) (λ h. none row (5 * row) h (omega arith) ∙ sym (List·getD-eq-default name 0 {n = row} (omega arith))) (inside row));
+        firsts = fun-ext (λ row. ⊎-elim (λ h. l .firsts row (omega arith)) (λ h. none row (5 * row + 1) h (omega arith) ∙ sym (List·getD-eq-default first 0 {n = row} (omega arith))) (inside row));
+        nulls = fun-ext (λ row. ⊎-elim (λ h. l .nulls row (omega arith)) (λ h. rw (none row (5 * row + 2) h (omega arith), List·getD-eq-default null false {n = row} (omega arith)) refl) (inside row));
+        conts = fun-ext (λ row. ⊎-elim (λ h. l .conts row (omega arith)) (λ h. none row (5 * row + 3) h (omega arith) ∙ sym (List·getD-eq-default cont 0 {n = row} (omega arith))) (inside row));
+        finals = fun-ext (λ row. ⊎-elim (λ h. l .finals row (omega arith)) (λ h. rw (none row (5 * row + 4) h (omega arith), List·getD-eq-default ends false {n = row} (omega arith)) refl) (inside row));
       }
     where
       none : (row i : ℕ) → 64 ≤ row → 5 * row ≤ i → getD tables i 0 ≡ 0
-      none row i h f = none-there tables i 0 (omega (arith, l .long))
+      none row i h f = List·getD-eq-default tables 0 {n = i} (omega (arith, l .long))

@@ -10,7 +10,7 @@ use Rattle.letters.specs.Tables.{nameOf, firstOf, nullOf, contOf, endsOf
 
 -- next and end are the state after word: more is read from there on if and only if word with more behind it is in the language.
 -- Which letters a row of the table reads is left open.
-pub record Stands {Letter : Type 0} (Reads : ℕ → Letter → Type 0) (language : List Letter → Type 0) (tables : List ℕ) (word : List Letter) (next : ℕ) (end : Bool) : Type 0 where
+pub record StateIn {Letter : Type 0} (Reads : ℕ → Letter → Type 0) (language : List Letter → Type 0) (tables : List ℕ) (word : List Letter) (next : ℕ) (end : Bool) : Type 0 where
   pub sound : (more : List Letter) → Accepts Reads (contOf tables) (endsOf tables) next end more → language (word ++ more)
   pub complete : (more : List Letter) → language (word ++ more) → Accepts Reads (contOf tables) (endsOf tables) next end more
 
@@ -20,7 +20,7 @@ RowReads tables row label = Same (nameOf tables row) label
 
 -- the state after word, for e's words. With nothing behind it: end says whether word is one (`decides`, in proofs/Decide).
 abbrev pub StateOf : List ℕ → Expression → List ℕ → ℕ → Bool → Type 0
-StateOf tables e word next end = Stands (RowReads tables) (In e) tables word next end
+StateOf tables e word next end = StateIn (RowReads tables) (In e) tables word next end
 
 -- the tables of the expressions es: where one starts, its state before the first letter stands
 pub record TablesOf (es : List Expression) (tables : List ℕ) : Type 0 where

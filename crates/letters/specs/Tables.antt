@@ -43,7 +43,7 @@ pub record LayPre (name first : List ℕ) (null : List Bool) (cont : List ℕ) (
   pub room : length tables ≡ 320
 
 -- the tables hold five lists of a number or a flag for each row
-pub record Holds (name first : List ℕ) (null : List Bool) (cont : List ℕ) (ends : List Bool) (tables : List ℕ) : Type 0 where
+pub record Tabled (name first : List ℕ) (null : List Bool) (cont : List ℕ) (ends : List Bool) (tables : List ℕ) : Type 0 where
   pub names : nameOf tables ≡ numberAt name
   pub firsts : firstOf tables ≡ numberAt first
   pub nulls : nullOf tables ≡ flagAt null

@@ -10,7 +10,7 @@ ghost use Rattle.expression.specs.Starts.{StartsAt};
 ghost use Rattle.expression.specs.Rule.{numberAt};
 ghost use Rattle.letters.specs.Accepts.{flagAt};
 ghost use Rattle.letters.specs.State.{StateOf, TablesOf};
-ghost use Rattle.letters.specs.Tables.{noted, five, LayPre, Holds};
+ghost use Rattle.letters.specs.Tables.{noted, five, LayPre, Tabled};
 ghost use Rattle.letters.specs.Following.{gate, headSet, headNull, HeadRow, Shape, PartsAre, followed, ContsOf};
 use expression::kinds::CHOICE;
 use expression::kinds::CONCATENATION;
@@ -252,7 +252,7 @@ fn lay(
     tables: &mut [u64; 320],
 )
     requires { ⌜ LayPre (now name) (now first) (now null) (now cont) (now ends) (now tables) ⌝ }
-    ensures { λ _. ⌜ Holds (now (name .entry)) (now (first .entry)) (now (null .entry)) (now (cont .entry)) (now (ends .entry)) (now (tables .exit)) ⌝ }
+    ensures { λ _. ⌜ Tabled (now (name .entry)) (now (first .entry)) (now (null .entry)) (now (cont .entry)) (now (ends .entry)) (now (tables .exit)) ⌝ }
 {
     let mut row = 0;
     while row < 64 {

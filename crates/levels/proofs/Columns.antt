@@ -1,10 +1,10 @@
 -- The levels in one list: what is read of a level, and what a store changes.
 use Prim.Native.Nat.{ℕ, zero, suc, _+_, _*_, _<_}
-use mathlib.Core.Path.{_≡_, refl, sym, ap, ap₂, _∙_}
+use mathlib.Core.Path.{_≡_, refl, sym, ap, _∙_}
 use mathlib.Core.Logic.{_≢_}
-use mathlib.Core.List.{List, [], _∷_}
+use mathlib.Core.List.{List}
 use lib.ListN.{length, getD, set, replicate, length-set, length-replicate, getD-replicate}
-use lib.Seq.{getD-set-same, getD-set-other}
+use lib.Seq.{getD-set-same, getD-set-other, ext-getD}
 use native.Mathlib.Omega.{arith}
 use native.Mathlib.Decide.{ℕ-discrete}
 use Rattle.levels.specs.Columns.{sixths, places, variables, starts, rows, nexts, lefts, Inside, Moved, Entered}
@@ -30,18 +30,11 @@ module _ {levels : List ℕ} {d : ℕ} (w : Inside levels d) where
   pub first-number : getD levels (6 * d) 0 ≡ getD (places levels) d 0
   first-number = let z : 6 * d ≡ 6 * d + 0 = omega arith in ap (λ (i : ℕ). getD levels i 0) z ∙ level-number 0
 
--- lists with the same numbers are one
-same-list : (a b : List ℕ) → length a ≡ length b → ((d : ℕ) → d < length a → getD a d 0 ≡ getD b d 0) → a ≡ b
-same-list [] [] e f = refl
-same-list [] (y ∷ b) e f = absurd (omega arith)
-same-list (x ∷ a) [] e f = absurd (omega arith)
-same-list (x ∷ a) (y ∷ b) e f = ap₂ (λ (h : ℕ) (t : List ℕ). h ∷ t) (f 0 (omega arith)) (same-list a b (omega arith) (λ d h. f (suc d) (omega arith)))
-
 module _ (levels after : List ℕ) (k : ℕ) where
   -- a column that is as it was
   same-column : ((d : ℕ) → d < 256 → getD after (6 * d + k) 0 ≡ getD levels (6 * d + k) 0) → sixths 256 k after ≡ sixths 256 k levels
   same-column f =
-      same-list (sixths 256 k after) (sixths 256 k levels) (sixths-long 256 k after ∙ sym (sixths-long 256 k levels))
+      ext-getD 0 (sixths 256 k after) (sixths 256 k levels) (sixths-long 256 k after ∙ sym (sixths-long 256 k levels))
       (λ d h.
       let l : d < 256 = omega (arith, sixths-long 256 k after) in
       sixths-at 256 k after d l ∙ f d l ∙ sym (sixths-at 256 k levels d l))
@@ -50,7 +43,7 @@ module _ (levels after : List ℕ) (k : ℕ) where
   new-column : {d v : ℕ} → d < 256 → getD after (6 * d + k) 0 ≡ v → ((e : ℕ) → e < 256 → e ≢ d → getD after (6 * e + k) 0 ≡ getD levels (6 * e + k) 0)
       → sixths 256 k after ≡ set (sixths 256 k levels) d v
   new-column {d} {v} few here other =
-      same-list (sixths 256 k after) (set (sixths 256 k levels) d v) (sixths-long 256 k after ∙ sym (sixths-long 256 k levels) ∙ sym (length-set (sixths 256 k levels) d v))
+      ext-getD 0 (sixths 256 k after) (set (sixths 256 k levels) d v) (sixths-long 256 k after ∙ sym (sixths-long 256 k levels) ∙ sym (length-set (sixths 256 k levels) d v))
       (λ e h.
       let l : e < 256 = omega (arith, sixths-long 256 k after) in
       sixths-at 256 k after e l ∙ go e l (ℕ-discrete e d))
@@ -142,7 +135,7 @@ module _ (levels : List ℕ) (d place variable start next left : ℕ) (w : Insid
 -- the first level of a list of zeros
 blank-column : (k : ℕ) → k < 6 → sixths 256 k (replicate 1536 0) ≡ replicate 256 0
 blank-column k few =
-    same-list (sixths 256 k (replicate 1536 0)) (replicate 256 0) (sixths-long 256 k (replicate 1536 0) ∙ sym (length-replicate {A = ℕ} 256 0))
+    ext-getD 0 (sixths 256 k (replicate 1536 0)) (replicate 256 0) (sixths-long 256 k (replicate 1536 0) ∙ sym (length-replicate {A = ℕ} 256 0))
     (λ d h.
     let l : d < 256 = omega (arith, sixths-long 256 k (replicate 1536 0)) in
     sixths-at 256 k (replicate 1536 0) d l ∙ getD-replicate {A = ℕ} 1536 (6 * d + k) 0 0 (omega arith) ∙ sym (getD-replicate {A = ℕ} 256 d 0 0 l))

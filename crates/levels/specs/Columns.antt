@@ -35,7 +35,7 @@ pub record Inside (levels : List ℕ) (d : ℕ) : Type 0 where
   pub few : d < 256
 
 -- what stands at the level d
-pub record Standing (levels : List ℕ) (d p x s u v n : ℕ) : Type 0 where
+pub record LevelAt (levels : List ℕ) (d p x s u v n : ℕ) : Type 0 where
   pub place : p ≡ getD (places levels) d 0
   pub variable : x ≡ getD (variables levels) d 0
   pub start : s ≡ getD (starts levels) d 0

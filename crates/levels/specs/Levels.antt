@@ -1,7 +1,6 @@
 -- Not needed to believe the promise: the levels of the search, and one try.
 use Prim.Native.Nat.{ℕ, suc, _+_, _-_, _<_, _≤_}
 use mathlib.Core.Path.{_≡_}
-use mathlib.Core.Bool.{Bool}
 use mathlib.Core.List.{List, [], _∷_, _++_}
 use lib.ListN.{length, getD, take}
 use Rattle.meaning.specs.Forest.{none, Term, _◂_}

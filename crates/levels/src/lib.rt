@@ -5,7 +5,7 @@ ghost use lib.ListN.{length};
 ghost use Rattle.catalogue.proofs.Back.{BackTo};
 ghost use Rattle.walk.specs.Packed.{rootOf};
 ghost use Rattle.memory.specs.Memory.{Both};
-ghost use Rattle.levels.specs.Columns.{lefts, Inside, Standing, Moved, Entered};
+ghost use Rattle.levels.specs.Columns.{lefts, Inside, LevelAt, Moved, Entered};
 ghost use Rattle.levels.specs.Levels.{AttemptPre, AttemptPost};
 
 // A level: the pattern row of its variable, the variable, the row where it starts, the row at which the walk goes on with the next
@@ -22,7 +22,7 @@ pub struct Level {
 // What stands at the level d.
 pub fn standing(levels: &[usize; 1536], d: usize) -> Level
     requires { ⌜ Inside (now levels) d ⌝ }
-    ensures { λ r. ⌜ Standing (now (levels .entry)) d (r .place) (r .variable) (r .start) (r .row) (r .next) (r .left) ⌝ }
+    ensures { λ r. ⌜ LevelAt (now (levels .entry)) d (r .place) (r .variable) (r .start) (r .row) (r .next) (r .left) ⌝ }
 {
     let at = 6 * d;
     Level {

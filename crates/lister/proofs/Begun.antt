@@ -1,7 +1,6 @@
 -- The first walk, before any choice, and what the search begins with.
 use Prim.Native.Nat.{ℕ, suc, _+_, _-_, _*_, _<_, _≤_}
 use mathlib.Core.Path.{_≡_, refl, ap, _∙_, sym, subst}
-use mathlib.Core.Bool.{Bool}
 use mathlib.Core.List.{List, []}
 use lib.ListN.{length, take, set, replicate, length-set, length-replicate}
 use lib.Seq.{paste}

@@ -3,16 +3,10 @@ use Prim.Native.Nat.{ℕ, zero, suc, _<_, _≤_}
 use mathlib.Core.Path.{_≡_, refl, ap, _∙_}
 use mathlib.Core.Path.{sym as flip}
 use mathlib.Core.List.{List, [], _∷_, _++_, append-assoc, append-nil}
-use lib.ListN.{length, getD, length-append}
+use lib.ListN.{length, length-append}
 use native.Mathlib.Omega.{arith}
 use Rattle.meaning.specs.Pattern.{old, new, wrong, look}
 use Rattle.meaning.specs.Reached.{Begins}
-
--- beyond its end a list has nothing
-pub none-there : {A : Type 0} (list : List A) (i : ℕ) (d : A) → length list ≤ i → getD list i d ≡ d
-none-there [] i d h = refl
-none-there (x ∷ list) zero d h = absurd (omega arith)
-none-there (x ∷ list) (suc i) d h = none-there list i d (omega arith)
 
 module _ {A : Type 0} where
   pub look-new : (l : List A) (x : ℕ) → look l x ≡ new → x ≡ length l

@@ -1,6 +1,6 @@
 -- Not needed to believe the promise: what is remembered of the readings of the choices' sequences, so that a choice that grows by
 -- one term reads one more letter; and of the last context's path.
-use Prim.Native.Nat.{ℕ, _+_, _-_, _*_, _<_, _≤_}
+use Prim.Native.Nat.{ℕ, _+_, _*_, _<_, _≤_}
 use mathlib.Core.Path.{_≡_}
 use mathlib.Core.Bool.{Bool}
 use mathlib.Core.List.{List}

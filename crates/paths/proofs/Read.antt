@@ -24,7 +24,7 @@ blank L S tables roots = record { long = length-replicate {A = ℕ} 259 0; is = 
 
 -- RECALLED
 module _ {S tables : List ℕ} {root x a b : ℕ} {P : List ℕ} where
-  pub recall-rows : RecallPre S tables root x a b P → getD P 0 0 ≡ x + 1 → HoldingPre S P (getD P 2 0) b
+  pub recall-rows : RecallPre S tables root x a b P → getD P 0 0 ≡ x + 1 → HoldingPre S P (getD P 2 0)
   recall-rows pre e =
       let r = pre .some .4 in
       let p = r .is x e in

@@ -1,6 +1,6 @@
 -- Not needed to believe the promise: what is remembered of the path of a context variable, so that the next hole reads only the labels
 -- that are new to it.
-use Prim.Native.Nat.{ℕ, _+_, _-_, _*_, _<_, _≤_}
+use Prim.Native.Nat.{ℕ, _+_, _*_, _<_, _≤_}
 use mathlib.Core.Path.{_≡_}
 use mathlib.Core.Bool.{Bool}
 use mathlib.Core.List.{List, _++_}
@@ -64,7 +64,7 @@ pub record ChildFromPost (S : List ℕ) (row b u : ℕ) : Type 0 where
   pub ends : u + getD S u 0 ≤ row + getD S row 0
 
 -- holding: the last place whose row's term has the row b; the first has it
-pub record HoldingPre (S P : List ℕ) (m b : ℕ) : Type 0 where
+pub record HoldingPre (S P : List ℕ) (m : ℕ) : Type 0 where
   pub long : length P ≡ 259
   pub few : m < 64
   pub rows : (i : ℕ) → i ≤ m → getD P (4 * i + 3) 0 < length S

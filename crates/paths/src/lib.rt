@@ -44,7 +44,7 @@ fn child(size: &[u32], row: usize, from: usize, b: usize) -> usize
 
 // The last place whose row's term has the row b.
 fn holding(size: &[u32], path: &[usize; 259], m: usize, b: usize) -> usize
-    requires { ⌜ HoldingPre (now size) (now path) m b ⌝ }
+    requires { ⌜ HoldingPre (now size) (now path) m ⌝ }
     ensures { λ r. ⌜ HoldingPost (now (size .entry)) (now (path .entry)) m b r ⌝ }
 {
     let mut i = m;

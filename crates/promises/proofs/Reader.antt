@@ -5,9 +5,7 @@ use mathlib.Core.Logic.{inl, inr}
 use mathlib.Core.List.{List}
 use native.Mathlib.Omega.{arith}
 use Rattle.meaning.specs.Forest.{rows}
-use Rattle.meaning.specs.Lowest.{accept}
 use Rattle.grammar.specs.Grammar.{Bytes, Content, Document}
-use Rattle.grammar.specs.Tree.{shape}
 use Rattle.grammar.proofs.Unique.{one-reading}
 use Rattle.judge.specs.Verdict.{Verdict, long, outside, deep, many}
 use Rattle.judge.specs.Verdict as Judged

@@ -26,7 +26,6 @@ use Rattle.catalogue.specs.Answer.{Result}
 use Rattle.catalogue.specs.Listing.{Listing, joined}
 use Rattle.catalogue.proofs.Back.{fitting}
 use Rattle.catalogue.proofs.Events.{events}
-use Rattle.catalogue.proofs.Run.{run}
 use Rattle.catalogue.proofs.Whole.{walked}
 use Rattle.catalogue.proofs.Stays.{run-stays, fitting-more}
 use Rattle.lister.specs.Listed.{Settled}

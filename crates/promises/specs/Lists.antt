@@ -1,7 +1,7 @@
 -- Demand 3: "For every well-formed problem whose list ends complete, every substitution that solves it is listed once, in the stated
 -- order, and nothing else is. A list is cut short by room or budget exactly when the rules say; it is then the leading part of all
 -- solutions, its tries are those that the rules define, and more room or budget only lengthens it."
-use Prim.Native.Nat.{ℕ, _+_, _≤_, _<_}
+use Prim.Native.Nat.{ℕ, _≤_, _<_}
 use mathlib.Core.Path.{_≡_}
 use mathlib.Core.Logic.{_↔_}
 use mathlib.Core.List.{List, []}

@@ -1,19 +1,19 @@
 -- A turn of the search in the numbers that the code reads off the last level.
-use Prim.Native.Nat.{ℕ, _+_, _-_, _*_, _<_, _≤_}
+use Prim.Native.Nat.{ℕ, _+_, _-_, _<_, _≤_}
 use mathlib.Core.Path.{_≡_, sym, ap, _∙_}
 use mathlib.Core.List.{List}
-use lib.ListN.{length, getD}
+use lib.ListN.{getD}
 use native.Mathlib.Omega.{arith}
 use Rattle.walk.specs.Cycle.{stop-at}
 use Rattle.choice.specs.Stops.{FurtherPre, FurtherPost, LeastPost, MorePre, MorePost}
 use Rattle.choice.specs.Runs.{LevelPre, SkipPost}
 use Rattle.walk.specs.declared.Out.{Out}
 use Rattle.walk.specs.declared.Out.the-variants as answer
-use Rattle.levels.specs.Columns.{places, variables, starts, rows, nexts, lefts, Standing, Moved, Entered}
+use Rattle.levels.specs.Columns.{places, variables, starts, rows, nexts, lefts, LevelAt, Moved, Entered}
 use Rattle.levels.specs.Levels.{AttemptPre, AttemptPost}
 use Rattle.search.proofs.Turns.{Input, Pre, Going, Ready, Passing, Tried, level-asked, passed-small, passed-asked, passed-further, passed-tried, more-asked, tried-need}
 
-module _ {i : Input} {out R A W : List ℕ} {depth cnt tries p x s u v n : ℕ} (e : Standing W (depth - 1) p x s u v n)
+module _ {i : Input} {out R A W : List ℕ} {depth cnt tries p x s u v n : ℕ} (e : LevelAt W (depth - 1) p x s u v n)
     (ready : Ready i out R A (places W) (variables W) (starts W) (rows W) (nexts W) (lefts W) depth cnt tries) (pre : Pre i) where
   pub some-left : 0 < n
   some-left = rw (e .left) (ready .live)

@@ -3,7 +3,7 @@ use Prim.Native.Nat.{ℕ, _+_, _-_, _<_, _≤_}
 use mathlib.Core.Path.{_≡_, refl, _∙_, subst}
 use mathlib.Core.Logic.{_⊎_, inl, inr, ⊎-elim}
 use mathlib.Core.List.{List, [], _∷_}
-use lib.ListN.{length, getD, set, length-set}
+use lib.ListN.{length, getD, length-set}
 use lib.Seq.{getD-set-same, getD-set-other}
 use native.Mathlib.Omega.{arith}
 use native.Mathlib.Nat.{eq-or-lt-of-le, eq-zero-or-pos}
@@ -13,7 +13,7 @@ use Rattle.meaning.proofs.Walk.{Res, andThen, walkF}
 use Rattle.meaning.proofs.Resume.{Frame, frame, run, then-then}
 use Rattle.meaning.proofs.Next.{Any, any?}
 use Rattle.pattern.specs.Places.{PatternAt, at-symbol, at-individual, at-function, at-context, PatternsAt, at-nil, at-cons, at-sequence}
-use Rattle.walk.specs.Packed.{Past, Holds}
+use Rattle.walk.specs.Packed.{Past}
 use Rattle.walk.specs.Above.{Marks, Marked, Came, Unchanged, Behind, at-root, in-list, in-context, Held}
 use Rattle.walk.specs.Cycle.{Needs}
 

@@ -1,6 +1,6 @@
 -- The loop that packs the pattern's lists into one.
 use Prim.Native.Nat.{ℕ, _+_, _-_, _*_, _<_, _≤_}
-use mathlib.Core.Path.{_≡_, refl, sym, ap, _∙_}
+use mathlib.Core.Path.{_≡_, refl, ap, _∙_}
 use mathlib.Core.Logic.{_≢_}
 use mathlib.Core.List.{List}
 use lib.ListN.{length, getD, set, length-set}
@@ -14,7 +14,7 @@ use Rattle.tree.specs.Shape.{Shape}
 use Rattle.tree.proofs.Lists.{sizes-rows}
 use Rattle.pattern.specs.Good.{GoodPattern}
 use Rattle.pattern.proofs.Joint.{good-shape, good-scan, lengths}
-use Rattle.walk.specs.Packed.{Past, Holds, Packed, Bounds, PackPre, Put, Held, HolderPre, HolderPost}
+use Rattle.walk.specs.Packed.{Past, Holds, Packed, Bounds, PackPre, Put, HeldBefore, HolderPre, HolderPost}
 
 root-whole : {Z : List ℕ} → Shape Z → getD Z 0 0 ≡ length Z
 unfolding sizes rows
@@ -135,7 +135,7 @@ pub record Packing (K N Z C M₀ M : List ℕ) (row : ℕ) : Type 0 where
   pub kinds : (p : ℕ) → p < row → getD M (6 * p) 0 ≡ getD K p 0
   pub names : (p : ℕ) → p < row → getD M (6 * p + 1) 0 ≡ getD N p 0
   pub sizes : (p : ℕ) → p < row → getD M (6 * p + 2) 0 ≡ getD Z p 0
-  pub held : Held Z M row
+  pub held : HeldBefore Z M row
   pub starts : (p : ℕ) → p < row → getD M (6 * p + 4) 0 ≡ getD C (getD N p 0 + getD N p 0) 0
   pub flags : (p : ℕ) → p < row → getD M (6 * p + 5) 0 ≡ getD C (getD N p 0 + getD N p 0 + 1) 0
 

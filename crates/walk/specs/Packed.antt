@@ -1,7 +1,6 @@
 -- Not needed to believe the promise: what the walk needs of a pattern, prepared once: six numbers a row in one list.
 use Prim.Native.Nat.{ℕ, _+_, _-_, _*_, _<_, _≤_}
 use mathlib.Core.Path.{_≡_}
-use mathlib.Core.Logic.{_≢_}
 use mathlib.Core.List.{List}
 use lib.ListN.{length, getD}
 
@@ -52,14 +51,14 @@ pub record Put (M : List ℕ) (p k x z h s f : ℕ) (M′ : List ℕ) : Type 0 w
   pub flag : getD M′ (6 * p + 5) 0 ≡ f
 
 -- the rows before p have their holders
-pub record Held (Z M : List ℕ) (p : ℕ) : Type 0 where
+pub record HeldBefore (Z M : List ℕ) (p : ℕ) : Type 0 where
   pub is : (q : ℕ) → 0 < q → q < p → Holds Z (getD M (6 * q + 3) 0) q
 
 pub record HolderPre (Z M : List ℕ) (p : ℕ) : Type 0 where
   pub inside : p < getD Z 0 0
   pub within : getD Z 0 0 ≤ length Z
   pub room : 6 * p ≤ length M
-  pub held : Held Z M p
+  pub held : HeldBefore Z M p
 
 pub record HolderPost (Z : List ℕ) (p h : ℕ) : Type 0 where
   pub least : h ≤ p

@@ -1,6 +1,6 @@
 use Rattle.letters.proofs.Five.{Laid, laid-none, laid-more, laid-whole}
 use native.Mathlib.Omega.{arith}
-use Prim.Native.Nat.{_-_, _<_, _≤_}
+use Prim.Native.Nat.{_-_, _≤_}
 use borrow.Author.Needs.{needs}
 use Rattle.letters.proofs.lay.Statement.{statement}
 use Rattle.letters.proofs.lay.Tie as tie

@@ -13,7 +13,6 @@ use native.Mathlib.Omega.{arith}
 use Prim.Native.Nat.{ℕ, _≤_, _<_, _^_}
 use mathlib.Core.Logic.{⊎-elim}
 use mathlib.Core.Path.{_≡_, refl, sym, _∙_}
-use borrow.Author.Needs.{needs}
 use Rattle.letters.proofs.step.Statement.{statement}
 use Rattle.letters.proofs.step.Tie as tie
 use Rattle.letters.proofs.step.Reads as reads

@@ -6,7 +6,6 @@ use native.Mathlib.Decide.{decLe}
 use native.Mathlib.Omega.{arith}
 use Prim.Native.Nat.{ℕ, _+_, _*_, _≤_, _<_, _-_, zero-le}
 use mathlib.Core.Path.{_≡_, sym, _∙_}
-use borrow.Author.Needs.{needs}
 use Rattle.levels.proofs.back.Statement.{statement}
 use Rattle.levels.proofs.back.Tie as tie
 use Rattle.levels.proofs.back.Reads as reads

@@ -1,5 +1,4 @@
 use Rattle.levels.proofs.Columns.{inside, entered}
-use lib.ListN.{length-set}
 use borrow.Author.Needs.{needs}
 use Rattle.levels.proofs.enter.Statement.{statement}
 use Rattle.levels.proofs.enter.Tie as tie

@@ -1,6 +1,5 @@
 use Rattle.memory.proofs.Growing.{grow-free, grow-forbidden, grow-read, grow-path, grow-asked, path-asks}
-use native.Mathlib.Omega.{arith}
-use mathlib.Core.Path.{_≡_, sym, _∙_}
+use mathlib.Core.Path.{sym, _∙_}
 use borrow.Author.Needs.{needs}
 use Rattle.memory.proofs.allowed.Statement.{statement}
 use Rattle.memory.proofs.allowed.Tie as tie

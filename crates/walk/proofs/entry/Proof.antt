@@ -1,6 +1,6 @@
 use mathlib.Core.Path.{sym}
 use native.Mathlib.Omega.{arith}
-use Rattle.meaning.proofs.Lists.{none-there}
+use lib.ListN.{List·getD-eq-default}
 use borrow.Author.Needs.{needs}
 use Rattle.walk.proofs.entry.Statement.{statement}
 use Rattle.walk.proofs.entry.Tie as tie
@@ -21,7 +21,7 @@ returns c = search needs
 
 -- src/lib.rt:43:1
 returns-2 : tie.Need-returns-2
-returns-2 c = sym (none-there (c .before .args .list .now) _ _ (omega (arith, c .if1 .left)))
+returns-2 c = sym (List·getD-eq-default (c .before .args .list .now) _ (omega (arith, c .if1 .left)))
 
 pub entry-spec : {M : Type 1} → statement M
 entry-spec = tie.close (tie.spec mul-result shared-slice-read-result returns returns-2)

@@ -1,8 +1,6 @@
 use Rattle.walk.proofs.Packs.{climb-first, climb-row, climb-room, climb-more, climb-ends}
 use Rattle.walk.specs.Packed.{Past}
 use native.Mathlib.Omega.{arith}
-use Prim.Native.Nat.{_-_}
-use borrow.Author.Needs.{needs}
 use Rattle.walk.proofs.holder_of.Statement.{statement}
 use Rattle.walk.proofs.holder_of.Tie as tie
 use Rattle.walk.proofs.holder_of.Reads as reads

@@ -1,5 +1,4 @@
 use Prim.Native.Nat.{_≤_, _<_, _-_}
-use native.Mathlib.Omega.{arith}
 use borrow.Author.Needs.{needs}
 use Rattle.readings.proofs.answers.sum_of.Statement.{statement}
 use Rattle.readings.proofs.answers.sum_of.Tie as tie
