@@ -51,7 +51,5 @@ program() {
 # Runs a program; `limit` may hold a command that ends it after some time.
 limit=
 execute() {
-  local emulator=$tools/bin/qemu-x86_64
-  [ -x "$emulator" ] || emulator=
-  $limit ${emulator:+"$emulator"} "$tools/lib/ld-linux-x86-64.so.2" --library-path "$tools/lib" "$out/$1"
+  $limit bin/run "$out/$1"
 }
