@@ -2,3 +2,4 @@ pub mod Columns
 pub mod Pauses
 pub mod Tried
 pub mod Going
+mod Steps

@@ -1,16 +1,17 @@
 // The levels of the search: a choice each, in the order of the pattern's rows, with the values that are left; and one try.
 ghost use mathlib.Core.Path.{_≡_};
-ghost use Prim.Native.Nat.{_≤_};
+ghost use Prim.Native.Nat.{_+_, _<_, _≤_};
 ghost use lib.ListN.{length};
 ghost use Rattle.catalogue.proofs.Back.{BackTo};
 ghost use Rattle.walk.specs.Packed.{rootOf};
 ghost use Rattle.memory.specs.Memory.{Both};
 ghost use Rattle.levels.specs.Columns.{lefts, Inside, LevelAt, Moved, Entered};
 ghost use Rattle.levels.specs.Levels.{AttemptPre, AttemptPost};
+ghost use Rattle.levels.specs.Steps.{NextPre, NextPost, DeeperPre, DeeperPost};
 
 // A level: the pattern row of its variable, the variable, the row where it starts, the row at which the walk goes on with the next
 // value, that value, and how many are left.
-pub struct Level {
+struct Level {
     pub place: usize,
     pub variable: usize,
     pub start: usize,
@@ -20,7 +21,7 @@ pub struct Level {
 }
 
 // What stands at the level d.
-pub fn standing(levels: &[usize; 1536], d: usize) -> Level
+fn standing(levels: &[usize; 1536], d: usize) -> Level
     requires { ⌜ Inside (now levels) d ⌝ }
     ensures { λ r. ⌜ LevelAt (now (levels .entry)) d (r .place) (r .variable) (r .start) (r .row) (r .next) (r .left) ⌝ }
 {
@@ -36,7 +37,7 @@ pub fn standing(levels: &[usize; 1536], d: usize) -> Level
 }
 
 // The level d goes on to its next value.
-pub fn advance(levels: &mut [usize; 1536], d: usize, row: usize, next: usize, left: usize)
+fn advance(levels: &mut [usize; 1536], d: usize, row: usize, next: usize, left: usize)
     requires { ⌜ Inside (now levels) d ⌝ }
     ensures { λ _. ⌜ Moved (now (levels .entry)) d row next left (now (levels .exit)) ⌝ }
 {
@@ -74,13 +75,81 @@ pub fn back(levels: &[usize; 1536], depth: usize) -> usize
 }
 
 // A value to be tried: the variable x at the pattern row p, which starts at the row s, takes the value v, and the walk goes on at the
-// row u.
+// row u. Behind it values are left, and before it some were passed over that fail.
 pub struct Try {
     pub p: usize,
     pub x: usize,
     pub s: usize,
     pub u: usize,
     pub v: usize,
+    pub left: usize,
+    pub failed: u32,
+}
+
+// How many values may be passed over before one is tried: fewer than are left, and than the budget allows.
+fn spare(left: usize, budget: u32, tries: u32) -> usize
+    requires { ⌜ (0 < left) × (tries < budget) ⌝ }
+    ensures { λ r. ⌜ (r < left) × (tries + r < budget) ⌝ }
+{
+    let more = budget - tries;
+    let allowed = more as usize;
+    if left < allowed {
+        return left - 1;
+    }
+    allowed - 1
+}
+
+// The level d goes on to its next value that does not fail at once, as far as the budget allows.
+pub fn next_try(
+    label: &[u32],
+    size: &[u32],
+    pattern: &[u32; 1536],
+    at: &[usize; 256],
+    levels: &mut [usize; 1536],
+    d: usize,
+    budget: u32,
+    tries: u32,
+) -> Try
+    requires { ⌜ NextPre (now label) (now size) (now pattern) (now at) (now levels) d budget tries ⌝ }
+    ensures { λ r. ⌜ NextPost (now (label .entry)) (now (size .entry)) (now (pattern .entry)) (now (at .entry)) (now (levels .entry)) d budget tries (now (levels .exit)) (r .p) (r .x) (r .s) (r .u) (r .v) (r .left) (r .failed) ⌝ }
+{
+    let l = standing(levels, d);
+    let limit = spare(l.left, budget, tries);
+    let run = choice::skip(label, size, pattern, at, l.place, l.row, l.left, limit);
+    let value = l.next + run.count;
+    let left = l.left - run.count - 1;
+    let row = choice::further(size, pattern, l.place, run.row, left);
+    advance(levels, d, row, value + 1, left);
+    Try {
+        p: l.place,
+        x: l.variable,
+        s: l.start,
+        u: run.row,
+        v: value,
+        left,
+        failed: run.count as u32,
+    }
+}
+
+// The level d is for the variable w, at which the walk stopped that had gone on at the row u with a value of the variable at the
+// pattern row q.
+pub fn deeper(
+    size: &[u32],
+    pattern: &[u32; 1536],
+    at: &[usize; 256],
+    levels: &mut [usize; 1536],
+    d: usize,
+    q: usize,
+    u: usize,
+    left: usize,
+    w: walk::Stop,
+)
+    requires { ⌜ DeeperPre (now size) (now pattern) (now at) (now levels) d q u left (w .place) (w .start) ⌝ }
+    ensures { λ _. ⌜ DeeperPost (now (size .entry)) (now (pattern .entry)) (now (at .entry)) (now (levels .entry)) d q u left (w .place) (w .variable) (w .start) (now (levels .exit)) ⌝ }
+{
+    let least = choice::least(pattern, w.place, w.start);
+    let values = choice::more_values(size, pattern, at, q, u, left, w.place, w.start);
+    enter(levels, d, w, least, values);
 }
 
 // One try. The constraint is judged before the walk goes on.

@@ -374,10 +374,6 @@ module _ {i : Input} where
     left-is : getD (set F (depth - 1) (getD F (depth - 1) 0 - failed)) (depth - 1) 0 ≡ getD F (depth - 1) 0 - failed
     left-is = getD-set-same F (depth - 1) (getD F (depth - 1) 0 - failed) 0 (omega (arith, inside, g .ready .going .long .lefts-long))
 
-    -- the numbers of the value that is tried
-    pub passed-small : (failed ≤ limit) × (depth ≤ 256) × (getD N (depth - 1) 0 + getD F (depth - 1) 0 ≤ 2049)
-    passed-small = let q = placed (g .ready) (g .pre) in (g .post .few, q .deep, q .small)
-
     pub passed-asked : AttemptPre (i .L) (i .S) (i .M) (i .tables) R A
         (getD G (depth - 1) 0) (getD X (depth - 1) 0) (getD St (depth - 1) 0) u (getD N (depth - 1) 0 + failed)
     passed-asked = rw (row-is, next-is) at (attempt-asked ready (g .pre))

@@ -4,7 +4,9 @@ ghost use lib.ListN.{length};
 ghost use lib.Seq.{paste};
 ghost use Rattle.levels.specs.Columns.{places, variables, starts, rows, nexts, lefts};
 ghost use Rattle.search.specs.Search.{GoPre, GoPost};
-use levels::Try;
+use levels::attempt;
+use levels::deeper;
+use levels::next_try;
 use meaning::endings::ALL;
 use meaning::endings::BUDGET;
 use meaning::endings::ROOM;
@@ -36,19 +38,6 @@ pub fn put(out: &mut [u32], at: usize, record: &[u32; 32], n: usize)
         out[at + j] = record[j];
         j += 1;
     }
-}
-
-// How many values may be passed over before one is tried: fewer than are left, and than the budget allows.
-fn spare(left: usize, budget: u32, tries: u32) -> usize
-    requires { ⌜ (0 < left) × (tries < budget) ⌝ }
-    ensures { λ r. ⌜ (r < left) × (tries + r < budget) ⌝ }
-{
-    let more = budget - tries;
-    let allowed = more as usize;
-    if left < allowed {
-        return left - 1;
-    }
-    allowed - 1
 }
 
 // How far the search may go: the tries, the records that there is room for, and the numbers of a record.
@@ -91,23 +80,9 @@ pub fn go(
         if tries == budget {
             return ended(BUDGET, count, tries);
         }
-        let last = depth - 1;
-        let l = levels::standing(levels, last);
-        let limit = spare(l.left, budget, tries);
-        let run = choice::skip(label, size, pattern, at, l.place, l.row, l.left, limit);
-        let t = Try {
-            p: l.place,
-            x: l.variable,
-            s: l.start,
-            u: run.row,
-            v: l.next + run.count,
-        };
-        let left = l.left - run.count - 1;
-        let more = run.count as u32;
-        tries = tries + more + 1;
-        let row = choice::further(size, pattern, l.place, run.row, left);
-        levels::advance(levels, last, row, l.next + run.count + 1, left);
-        match levels::attempt(
+        let t = next_try(label, size, pattern, at, levels, depth - 1, budget, tries);
+        tries = tries + t.failed + 1;
+        match attempt(
             label,
             size,
             pattern,
@@ -120,18 +95,7 @@ pub fn go(
         ) {
             walk::Out::Fail => {}
             walk::Out::Need(w) => {
-                let least = choice::least(pattern, w.place, w.start);
-                let values = choice::more_values(
-                    size,
-                    pattern,
-                    at,
-                    l.place,
-                    run.row,
-                    left,
-                    w.place,
-                    w.start,
-                );
-                levels::enter(levels, depth, w, least, values);
+                deeper(size, pattern, at, levels, depth, t.p, t.u, t.left, w);
                 depth += 1;
             }
             walk::Out::Ok(_) => {
