@@ -12,7 +12,7 @@ use Rattle.dictionary.specs.Labels.{placeOf, learn}
 
 -- one of 2,048 numbers for a spelling
 unfoldable pub bucketOf : List ℕ → ℕ
-bucketOf w = hashOf w 0 (length w) / 67108864 % 2048
+bucketOf w = (hashOf w 0 (length w) / 67108864 + length w) % 2048
 
 -- q is one more than the last place below `bound` whose spelling has this bucket, or 0
 pub record Link (known : List (List ℕ)) (bucket bound q : ℕ) : Type 0 where

@@ -25,11 +25,13 @@ fn number(index: &[u16], i: usize) -> usize
     wide(index[i])
 }
 
+// The length counts too: of spellings that agree where the hash looks, each length has a bucket of its own.
 fn bucket_of(text: &[u8], start: usize, end: usize) -> usize
     requires { ⌜ (start ≤ end) × (end ≤ length (now text)) ⌝ }
     ensures { λ r. ⌜ r ≡ bucketOf (range (now (text .entry)) start end) ⌝ }
 {
-    (hash(text, start, end - start) / 67108864 % 2048) as usize
+    let length = end - start;
+    ((hash(text, start, length) / 67108864 + length as u64) % 2048) as usize
 }
 
 // Is the known spelling at `place` that of the document from `start` to `end`?
