@@ -8,7 +8,7 @@ use lib.Count.{trailingZeros, under}
 use lib.Dec.{ltb}
 use lib.ListN.{getD}
 use Rattle.grammar.specs.Classes.{classOf}
-use Rattle.judge.specs.Tokens.{stopOf, stopAt, digits, plainAt}
+use Rattle.judge.specs.Tokens.{stopOf, stopAt, digits, plain, plainAt}
 
 under-same : (d e t u : ℕ) → d ≡ e → t ≡ u → under d t ≡ under e u
 under-same d e t u p q = ap (λ (x : ℕ). under x t) p ∙ ap (under e) q
@@ -67,7 +67,7 @@ unfolding stopAt
 stop-bit w k = one-bit (classOf (getD w k 0))
 
 clear-plain : (w : List ℕ) (k : ℕ) → stopAt w k ≡ 0 → plainAt w k ≡ true
-unfolding stopAt stopOf plainAt
+unfolding stopAt stopOf plain
 clear-plain w k h = go (ltb 1 (classOf (getD w k 0))) h
   where
     go : (t : Bool) → _≡_ {A = ℕ} (cond t 0 1) 0 → t ≡ true

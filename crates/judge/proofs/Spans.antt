@@ -1,17 +1,18 @@
 -- The laws of classes and of the places where tokens end.
-use mathlib.Core.Path.{_≡_, refl, sym, ap, _∙_}
+use mathlib.Core.Path.{_≡_, refl, sym, ap, subst, _∙_}
 use mathlib.Core.Bool.{Bool, true, false, cond, _&&_, _||_, not, true≢false}
 use mathlib.Core.List.{List}
 use Prim.Native.Nat.{ℕ, zero, suc, _+_, _-_, _≤_, _<_}
 use native.Mathlib.Omega.{arith}
+use native.Mathlib.Decide.{ℕ-discrete}
 use lib.Dec.{eqb, ltb}
 use lib.ListN.{length, getD}
 use borrow.Author.Count.{below-more}
-use borrow.Author.Tests.{eqb-true, eq-eqb, ne-eqb, lt-ltb, le-ltb, ltb-true, ltb-false}
+use borrow.Author.Tests.{eqb-true, eq-eqb, ne-eqb, lt-ltb, le-ltb, lt-leb, ltb-true, ltb-false}
 use Rattle.grammar.specs.Classes.{classOf, within, white, nameStart, nameByte, text}
 use Rattle.grammar.specs.Grammar.{Bytes, inner, mayFollow, brackets}
 use Rattle.grammar.proofs.InWords.{brackets-one, brackets-last}
-use Rattle.judge.specs.Tokens.{Passed, Span, SpanTo, bytes, plainAt, runAt, textAt, sameAt}
+use Rattle.judge.specs.Tokens.{Passed, Span, SpanTo, bytes, plain, plainAt, runAt, textAt, sameAt}
 
 -- A CLASS c OF A BYTE b TELLS
 module _ (c b : ℕ) (is : c ≡ classOf b) where
@@ -100,6 +101,60 @@ white-is b =
         simp (ne-eqb b 9 (λ q. omega (arith, q)), ne-eqb b 10 (λ q. omega (arith, q)), ne-eqb b 32 (λ q. omega (arith, q)))
     go false e w x y z = one-of (eqb b 9) (eqb b 10) (eqb b 32) w x y z
 
+-- the bytes of plain text: two of white space, and from 32 to 127 all but three
+abbrev plainly : ℕ → Bool
+plainly b = (eqb b 9 || eqb b 10) || ((((ltb 31 b && ltb b 128) && not (eqb b 38)) && not (eqb b 60)) && not (eqb b 62))
+
+pub plain-is : (b : ℕ) → plain b ≡ plainly b
+unfolding plain classOf
+plain-is b = elim (ℕ-discrete b 9) [
+  | yes e ↦ rw e refl
+  | no e9 ↦ elim (ℕ-discrete b 10) [
+    | yes e ↦ rw e refl
+    | no e10 ↦ elim (ℕ-discrete b 38) [
+      | yes e ↦ rw e refl
+      | no e38 ↦ elim (ℕ-discrete b 60) [
+        | yes e ↦ rw e refl
+        | no e60 ↦ elim (ℕ-discrete b 62) [ yes e ↦ rw e refl | no e62 ↦ go e9 e10 e38 e60 e62 (ltb b 32) refl (ltb 127 b) refl ]
+      ]
+    ]
+  ]
+]
+  where
+    seen : (v w x : Bool) → ltb 1 (cond v 3 (cond w 5 (cond x 4 2))) ≡ true
+    seen true w x = refl
+    seen false true x = refl
+    seen false false true = refl
+    seen false false false = refl
+
+    go : (b ≡ 9 → ⊥) → (b ≡ 10 → ⊥) → (b ≡ 38 → ⊥) → (b ≡ 60 → ⊥) → (b ≡ 62 → ⊥) → (low : Bool) → ltb b 32 ≡ low → (high : Bool) → ltb 127 b ≡ high → plain b ≡ plainly b
+    go e9 e10 e38 e60 e62 low l true h =
+        let q : 127 < b = ltb-true 127 b h in
+        simp (h, ne-eqb b 9 e9, ne-eqb b 10 e10, lt-ltb 31 b (omega arith), le-ltb b 128 (omega arith))
+    go e9 e10 e38 e60 e62 true l false h =
+        let q : b < 32 = ltb-true b 32 l in
+        simp (
+          h,
+          l,
+          ne-eqb b 9 e9,
+          ne-eqb b 10 e10,
+          ne-eqb b 38 e38,
+          ne-eqb b 60 e60,
+          ne-eqb b 32 (λ e. omega (arith, e)),
+          ne-eqb b 95 (λ e. omega (arith, e)),
+          ne-eqb b 58 (λ e. omega (arith, e)),
+          ne-eqb b 45 (λ e. omega (arith, e)),
+          ne-eqb b 46 (λ e. omega (arith, e)),
+          lt-leb 65 b (omega arith),
+          lt-leb 97 b (omega arith),
+          lt-leb 48 b (omega arith),
+          le-ltb 31 b (omega arith),
+        )
+    go e9 e10 e38 e60 e62 false l false h =
+        let p : 32 ≤ b = ltb-false b 32 l in
+        let q : b ≤ 127 = ltb-false 127 b h in
+        simp (h, l, ne-eqb b 9 e9, ne-eqb b 10 e10, ne-eqb b 38 e38, ne-eqb b 60 e60, ne-eqb b 62 e62, lt-ltb 31 b (omega arith), lt-ltb b 128 (omega arith), seen)
+
 pub few-classes : (b : ℕ) → classOf b ≤ 5
 unfolding classOf
 few-classes b = go (ltb 127 b) (eqb b 9 || eqb b 10 || eqb b 32) (within 65 90 b || within 97 122 b || eqb b 95 || eqb b 58) (within 48 57 b || eqb b 45 || eqb b 46) (eqb b 60 || eqb b 38 || ltb b 32) (eqb b 62)
@@ -127,6 +182,10 @@ passed-more {test} {w} {a} {i} h p e = record {
     go : (k : ℕ) → a ≤ k → k < i + 1 → (t : Bool) → ltb k i ≡ t → test k ≡ true
     go k q r true u = h .each k q (ltb-true k i u)
     go k q r false u = let z : k ≡ i = omega (arith, ltb-false k i u) in rw z e
+
+-- n places of a turn are behind
+pub passed-next : {test : ℕ → Bool} {w : List ℕ} {a : ℕ} (i n : ℕ) → Passed test w a (i + n) → i + n < length w → test (i + n) ≡ true → Passed test w a (i + (n + 1))
+passed-next {test} {w} {a} i n h p e = let z : i + n + 1 ≡ i + (n + 1) = omega arith in subst (λ (k : ℕ). Passed test w a k) z (passed-more h p e)
 
 -- many places at once
 pub passed-block : {test : ℕ → Bool} {w : List ℕ} {a i : ℕ} (n : ℕ) → Passed test w a i → i + n ≤ length w → ((k : ℕ) → k < n → test (i + k) ≡ true) → Passed test w a (i + n)
@@ -234,5 +293,5 @@ less-stops w a k e = text-at-not w a k (classOf (getD w k 0)) refl (ap classOf e
 
 -- plain text is text
 pub plain-text : (w : List ℕ) (a k : ℕ) → plainAt w k ≡ true → textAt w a k ≡ true
-unfolding plainAt
+unfolding plain
 plain-text w a k h = text-at-yes w a k (classOf (getD w k 0)) refl (ltb-true 1 (classOf (getD w k 0)) h)

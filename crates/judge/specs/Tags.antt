@@ -1,10 +1,11 @@
 -- Not needed to believe the promise: what a run and a tag of the document do to the byte machine.
 use mathlib.Core.Path.{_≡_}
-use mathlib.Core.Bool.{cond}
+use mathlib.Core.Bool.{true, cond}
 use mathlib.Core.List.{List, [], _∷_}
 use Prim.Native.Nat.{ℕ, _+_, _-_, _≤_, _<_}
 use lib.Dec.{eqb}
 use lib.ListN.{length, getD}
+use Rattle.grammar.specs.Classes.{nameStart}
 use Rattle.grammar.specs.Grammar.{Bytes, ε, _⊲_, less, slash, Content, nothing, emptyElement, element, noElement}
 use Rattle.grammar.specs.Place.{OutsideAt}
 use Rattle.grammar.specs.Tree.{inked}
@@ -71,6 +72,10 @@ Ends w a o f t (Closes e) = (a < e) × Closed w e o f t
 abbrev pub Started : List ℕ → ℕ → Tag → Type 0
 Started w a r =
     (o : List Open) (f : Content) (t : Bytes) → At w a (afterLess o f t) → (getD w a 0 ≡ slash → o ≡ []) → Does w a o f t r
+
+-- .. whatever the name that ends at e, behind which it is looked on
+abbrev pub Shut : List ℕ → ℕ → Tag → Type 0
+Shut w e r = (a : ℕ) → nameStart (getD w a 0) ≡ true → Span (nameAt w) w (a + 1) e → Started w a r
 
 abbrev pub Ended : List ℕ → ℕ → ℕ → Tag → Type 0
 Ended w name a r =

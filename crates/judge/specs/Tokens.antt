@@ -80,9 +80,13 @@ unfoldable pub digits : (ℕ → ℕ) → ℕ → ℕ → ℕ → ℕ
 digits s i zero m = m
 digits s i (suc n) m = s i + 2 * digits s (i + 1) n m
 
--- the byte at k is text whatever stands before it
-unfoldable pub plainAt : List ℕ → ℕ → Bool
-plainAt w k = ltb 1 (classOf (getD w k 0))
+-- a byte that is text whatever stands before it
+unfoldable pub plain : ℕ → Bool
+plain b = ltb 1 (classOf b)
+
+-- .. stands at k
+abbrev pub plainAt : List ℕ → ℕ → Bool
+plainAt w k = plain (getD w k 0)
 
 -- the byte at k goes on with the name that starts at name and stands again from a on
 unfoldable pub sameAt : List ℕ → ℕ → ℕ → ℕ → Bool

@@ -2,7 +2,7 @@
 ghost use Prim.Native.Nat.{_≤_, _<_};
 ghost use lib.ListN.{length};
 ghost use Rattle.judge.specs.Tokens.{Classed};
-ghost use Rattle.judge.specs.Tags.{Started, Ended, Tagged, KindOf};
+ghost use Rattle.judge.specs.Tags.{Shut, Started, Ended, Tagged, KindOf};
 use super::class::FIRST;
 use super::class::WHITE;
 use super::class::byte_at;
@@ -19,15 +19,11 @@ pub enum Tag {
     Closes(usize),
 }
 
-// The tag whose `<` stands before `at`.
-pub fn start_tag(document: &[u8], class: &[u8; 512], at: usize) -> Tag
-    requires { ⌜ Classed (now class) × (at ≤ length (now document)) ⌝ }
-    ensures { λ r. ⌜ Started (now (document .entry)) at r ⌝ }
+// What stands behind a start tag's name, which ends at `end`.
+pub fn shut(document: &[u8], class: &[u8; 512], end: usize) -> Tag
+    requires { ⌜ Classed (now class) × (end ≤ length (now document)) ⌝ }
+    ensures { λ r. ⌜ Shut (now (document .entry)) end r ⌝ }
 {
-    if class_of(class, byte_at(document, at)) < FIRST {
-        return Tag::Refused(at);
-    }
-    let end = name_end(document, class, at + 1);
     let shut = white_end(document, class, end);
     let b = byte_at(document, shut);
     if b == b'>' {
@@ -40,6 +36,17 @@ pub fn start_tag(document: &[u8], class: &[u8; 512], at: usize) -> Tag
         return Tag::Refused(shut + 1);
     }
     Tag::Refused(shut)
+}
+
+// The tag whose `<` stands before `at`.
+fn start_tag(document: &[u8], class: &[u8; 512], at: usize) -> Tag
+    requires { ⌜ Classed (now class) × (at ≤ length (now document)) ⌝ }
+    ensures { λ r. ⌜ Started (now (document .entry)) at r ⌝ }
+{
+    if class_of(class, byte_at(document, at)) < FIRST {
+        return Tag::Refused(at);
+    }
+    shut(document, class, name_end(document, class, at + 1))
 }
 
 // The end tag whose `</` stands before `at`; the innermost open element's name starts at `name`.

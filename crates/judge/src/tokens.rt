@@ -5,7 +5,7 @@ ghost use Prim.Native.Nat.{ℕ, _+_, _-_, _≤_, _<_, min};
 ghost use lib.ListN.{length};
 ghost use Rattle.grammar.specs.Classes.{white};
 ghost use Rattle.grammar.specs.Grammar.{brackets};
-ghost use Rattle.judge.specs.Tokens.{Classed, Passed, Span, SpanTo, bytes, digits, stopAt, whiteAt, nameAt, plainAt, textAt, sameAt};
+ghost use Rattle.judge.specs.Tokens.{Classed, Passed, Span, SpanTo, bytes, digits, stopAt, whiteAt, nameAt, plain, plainAt, textAt, sameAt};
 use super::class::GREATER;
 use super::class::IN_NAME;
 use super::class::NONE;
@@ -104,6 +104,30 @@ pub fn name_end(document: &[u8], class: &[u8; 512], from: usize) -> usize
     i
 }
 
+// The same, four bytes a turn, each with a branch of its own: where names come back, the processor guesses where they end.
+pub fn long_name_end(document: &[u8], class: &[u8; 512], from: usize) -> usize
+    requires { ⌜ Classed (now class) × (from ≤ length (now document)) ⌝ }
+    ensures { λ r. ⌜ Span (nameAt (now (document .entry))) (now (document .entry)) from r ⌝ }
+{
+    let mut i = from;
+    while i + 4 <= document.len() {
+        if class_of(class, document[i]) < IN_NAME {
+            return i;
+        }
+        if class_of(class, document[i + 1]) < IN_NAME {
+            return i + 1;
+        }
+        if class_of(class, document[i + 2]) < IN_NAME {
+            return i + 2;
+        }
+        if class_of(class, document[i + 3]) < IN_NAME {
+            return i + 3;
+        }
+        i += 4;
+    }
+    name_end(document, class, i)
+}
+
 // Do the bytes from the run's start up to k end with `]]`?
 fn bracketed(document: &[u8], start: usize, k: usize) -> bool
     requires { ⌜ (start ≤ k) × (k ≤ length (now document)) ⌝ }
@@ -155,20 +179,57 @@ fn plain_count(document: &[u8], class: &[u8; 512], i: usize) -> usize
     u32::trailing_zeros(found) as usize
 }
 
-// Plain text, eight bytes at a time.
+// Is the byte of class 2 or more? By comparisons of the byte itself, since the compiler makes vectors of those and not of a table.
+fn is_plain(b: u8) -> bool
+    ensures { λ r. ⌜ r ≡ plain b ⌝ }
+{
+    (b == b'\t') | (b == b'\n') | ((31 < b) & (b < 128) & (b != b'&') & (b != b'<') & (b != b'>'))
+}
+
+// Are the 16 bytes from i on plain text?
+fn plain_block(document: &[u8], i: usize) -> bool
+    requires { ⌜ i + 16 ≤ length (now document) ⌝ }
+    ensures { λ r. ⌜ (r ≡ true → (k : ℕ) → k < 16 → plainAt (now (document .entry)) (i + k) ≡ true) ⌝ }
+{
+    let mut all = true;
+    let mut k: usize = 0;
+    while k < 16 {
+        all = all & is_plain(document[i + k]);
+        k += 1;
+    }
+    all
+}
+
+// Plain text, sixteen bytes at a time.
+fn plain_blocks_end(document: &[u8], from: usize) -> usize
+    requires { ⌜ from ≤ length (now document) ⌝ }
+    ensures { λ r. ⌜ Passed (plainAt (now (document .entry))) (now (document .entry)) from r ⌝ }
+{
+    let mut i = from;
+    while i + 16 <= document.len() {
+        if !plain_block(document, i) {
+            return i;
+        }
+        i += 16;
+    }
+    i
+}
+
+// Plain text, eight bytes at a time; what is longer than 64 bytes is likely to be much longer.
 fn plain_end(document: &[u8], class: &[u8; 512], from: usize) -> usize
     requires { ⌜ Classed (now class) × (from ≤ length (now document)) ⌝ }
     ensures { λ r. ⌜ Passed (plainAt (now (document .entry))) (now (document .entry)) from r ⌝ }
 {
+    let near = least(from + 64, document.len());
     let mut i = from;
-    while i + 8 <= document.len() {
+    while i + 8 <= near {
         let count = plain_count(document, class, i);
         if count < 8 {
             return i + count;
         }
         i += 8;
     }
-    i
+    plain_blocks_end(document, i)
 }
 
 // The run that starts at `start` is text up to `from`: the first place before `limit` where it is not, or `limit`.
@@ -200,17 +261,18 @@ pub fn long_text_end(document: &[u8], class: &[u8; 512], start: usize, from: usi
     requires { ⌜ Classed (now class) × Passed (textAt (now document) start) (now document) start from ⌝ }
     ensures { λ r. ⌜ Span (textAt (now (document .entry)) start) (now (document .entry)) start r ⌝ }
 {
-    let mut i = plain_end(document, class, from);
+    let mut i = from;
     while i < document.len() {
-        if document[i] == b'<' {
-            return i;
+        let plain = plain_end(document, class, i);
+        if byte_at(document, plain) == b'<' {
+            return plain;
         }
-        let near = least(i + 16, document.len());
-        let end = text_to(document, class, start, i, near);
+        let near = least(plain + 16, document.len());
+        let end = text_to(document, class, start, plain, near);
         if end < near {
             return end;
         }
-        i = plain_end(document, class, end);
+        i = end;
     }
     i
 }

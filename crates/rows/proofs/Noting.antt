@@ -19,6 +19,7 @@ use Rattle.judge.proofs.Turns.{count, less}
 use Rattle.judge.proofs.Judging.{rowsO as countO, deepO, Walked, Finished, made, to-tag, refused, finished}
 use Rattle.labels.specs.Lists.{Holds, Long, Put}
 use Rattle.rows.specs.Notes.{RowsNoted, TooLarge, Notes, LastOf, ended, early}
+use Rattle.rows.specs.Turns.{RunPut, noted, passed-over}
 use Rattle.rows.specs.declared.note.Noted.{Noted}
 use Rattle.labels.proofs.Holding.{holds-beside, holds-more, holds-again}
 use Rattle.rows.proofs.Sizes.{leafSizes, sizesOn, sizesO, beforeO, sizes-long, open-long, before-long, own-size, sizes-tree}
@@ -164,27 +165,57 @@ module _ {w S L Z H : List ℕ} {i x depth n : ℕ} (k : Noting w S L Z H i x de
   rows-run : length (atRun O F) ≡ n
   rows-run = run-count O F ∙ sym (k .walked .rows-are)
 
-  -- its row is put
-  module _ {S' L' Z' : List ℕ} (put : Put n i (a - i) S L Z S' L' Z') where
-    pub leaf-long : Long S' L' Z'
-    leaf-long = long-put (k .long) put
+  -- what is noted once the run is behind
+  record Leaf (S' L' Z' : List ℕ) : Type 0 where
+    pub long : Long S' L' Z'
+    pub starts : Holds (map start-of (atTag O F T)) S'
+    pub lengths : Holds (map length-of (atTag O F T)) L'
+    pub sizes : Holds (leafSizes (sizesOn (sizesO O) F) T) Z'
+    pub held : Held w S' L' H x O
+
+  leaf-put : {S' L' Z' : List ℕ} → Put n i (a - i) S L Z S' L' Z' → Leaf S' L' Z'
+  unfolding leafOn leafSizes
+  leaf-put {S'} {L'} {Z'} put = record {
+    long = long-put (k .long) put;
+    starts = row-put start-of (inked T) (atRun O F) _ S S' n i rows-run (omega (arith, few, k .long .starts-long)) (k .starts-are) start-is (put .start-put);
+    lengths = row-put length-of (inked T) (atRun O F) _ L L' n (a - i) rows-run (omega (arith, few, k .long .lengths-long)) (k .lengths-are) (count w i (a - i)) (put .length-put);
+    sizes = size-put (inked T) (sizesOn (sizesO O) F) Z Z' n 1 (sizes-long (sizesO O) F ∙ omega (arith, open-long O, k .walked .rows-are))
+        (omega (arith, few, k .long .sizes-long)) (k .sizes-are) (put .size-put);
+    held = rw (put .start-put, put .length-put) (held-put w S L H x n i (a - i) O (omega (arith, k .walked .rows-are)) (k .held));
+  }
+
+  -- a run that makes no row
+  blank : m ≡ 0 → inked T ≡ false
+  blank e = go (inked T) (run .makes)
+    where
+      go : (y : Bool) → m ≡ cond y 1 0 → y ≡ false
+      go true q = absurd (omega (arith, e, q))
+      go false q = refl
+
+  leaf-none : m ≡ 0 → Leaf S L Z
+  unfolding leafOn leafSizes
+  leaf-none e = record { long = k .long; starts = rw (blank e) (k .starts-are); lengths = rw (blank e) (k .lengths-are); sizes = rw (blank e) (k .sizes-are); held = k .held }
+
+  leaf : {S' L' Z' : List ℕ} → RunPut n i a m S L Z S' L' Z' → Leaf S' L' Z'
+  leaf (noted put) = leaf-put put
+  leaf (passed-over e) = leaf-none e
+
+  -- its row is put, if it makes one
+  module _ {S' L' Z' : List ℕ} (put : RunPut n i a m S L Z S' L' Z') where
+    leaf-long : Long S' L' Z'
+    leaf-long = leaf put .long
 
     leaf-starts : Holds (map start-of (atTag O F T)) S'
-    unfolding leafOn
-    leaf-starts = row-put start-of (inked T) (atRun O F) _ S S' n i rows-run (omega (arith, few, k .long .starts-long)) (k .starts-are) start-is (put .start-put)
+    leaf-starts = leaf put .starts
 
     leaf-lengths : Holds (map length-of (atTag O F T)) L'
-    unfolding leafOn
-    leaf-lengths = row-put length-of (inked T) (atRun O F) _ L L' n (a - i) rows-run (omega (arith, few, k .long .lengths-long)) (k .lengths-are) (count w i (a - i)) (put .length-put)
+    leaf-lengths = leaf put .lengths
 
     leaf-sizes-are : Holds (leafSizes (sizesOn (sizesO O) F) T) Z'
-    unfolding leafSizes
-    leaf-sizes-are =
-        size-put (inked T) (sizesOn (sizesO O) F) Z Z' n 1 (sizes-long (sizesO O) F ∙ omega (arith, open-long O, k .walked .rows-are))
-        (omega (arith, few, k .long .sizes-long)) (k .sizes-are) (put .size-put)
+    leaf-sizes-are = leaf put .sizes
 
     leaf-held : Held w S' L' H x O
-    leaf-held = rw (put .start-put, put .length-put) (held-put w S L H x n i (a - i) O (omega (arith, k .walked .rows-are)) (k .held))
+    leaf-held = leaf put .held
 
     pub low-top : x < 2052
     low-top = held-low w S' L' H x n O (omega (arith, k .walked .rows-are)) (omega (arith, few)) leaf-held
@@ -337,17 +368,11 @@ module _ {w S L Z H : List ℕ} {i x depth n : ℕ} (k : Noting w S L Z H i x de
 
     -- THE END
     finish : length w ≤ a → depth ≡ 0 → 0 < n + m → RowsNoted w S' L' Z' (n + m)
-    unfolding deepO rowsO offO sizesO
+    unfolding deepO rowsO offO sizesO leafOn leafSizes
     finish q d r =
-        let D : Finished w F (n + m) = finished (k .walked) run q d r in
-        let e : n + m ≡ n = omega (arith, run .outside d) in
-        go O (k .walked .depth-is) (k .shallow) (beside start-of S S' i (k .long .starts-long) (k .starts-are) (put .start-put))
-        (beside length-of L L' (a - i) (k .long .lengths-long) (k .lengths-are) (put .length-put))
-        (rw (put .size-put) (holds-beside (sizesOn (sizesO O) F) Z n 1 (sizes-long (sizesO O) F ∙ omega (arith, open-long O, k .walked .rows-are)) (omega (arith, few, k .long .sizes-long)) (k .sizes-are))) D
+        let none : inked T ≡ false = blank (run .outside d) in
+        go O (k .walked .depth-is) (k .shallow) (rw none at leaf-starts) (rw none at leaf-lengths) (rw none at leaf-sizes-are) (finished (k .walked) run q d r)
       where
-        beside : (g : Row → ℕ) (l l' : List ℕ) (v : ℕ) → length l ≡ 2052 → Holds (map g (atRun O F)) l → l' ≡ set l n v → Holds (map g (atRun O F)) l'
-        beside g l l' v h z e = rw e (holds-beside (map g (atRun O F)) l n v (length-map (atRun O F) g ∙ rows-run) (omega (arith, few, h)) z)
-
         go : (o : List Open) → depth ≡ length o → max (deepO o) (length o + contentDepth F) ≤ 64 → Holds (map start-of (atRun o F)) S' → Holds (map length-of (atRun o F)) L' →
             Holds (sizesOn (sizesO o) F) Z' → Finished w F (n + m) → RowsNoted w S' L' Z' (n + m)
         go [] z s starts lengths sizes D = record {

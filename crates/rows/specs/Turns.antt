@@ -12,6 +12,8 @@ use Rattle.labels.specs.Lists.{Put}
 use Rattle.rows.specs.Notes.{LastOf}
 use Rattle.rows.specs.declared.note.Noted.{Noted}
 use Rattle.rows.specs.declared.note.Noted.the-variants.{Outside, Beyond}
+use Rattle.rows.specs.declared.note.Ran.{Ran}
+use Rattle.rows.specs.declared.note.Ran.the-variants.{Over, Tag}
 use Rattle.rows.specs.declared.note.Turn.{Turn}
 use Rattle.rows.specs.declared.note.Turn.the-variants.{Ends, Opens, Empty, Closes}
 
@@ -34,20 +36,30 @@ pub data TagDone (w S L Z : List ℕ) (depth row a : ℕ) (o : List Open) (f : C
       TagDone w S L Z depth row a o f t S' L' Z' (Empty row r)
   closes : {r : ℕ} → a + 1 < r → Closed w r o f t → TagDone w S L Z depth row a o f t S L Z (Closes row r)
 
+-- the row of the run from i to a is put; or nothing is, where it makes no row
+pub data RunPut (row i a m : ℕ) (S L Z : List ℕ) : List ℕ → List ℕ → List ℕ → Type 0 where
+  noted : {S' L' Z' : List ℕ} → Put row i (a - i) S L Z S' L' Z' → RunPut row i a m S L Z S' L' Z'
+  passed-over : m ≡ 0 → RunPut row i a m S L Z S L Z
+
+-- what the run that starts at i comes to
+pub data RunDone (w S L Z : List ℕ) (depth row i : ℕ) : List ℕ → List ℕ → List ℕ → Ran → Type 0 where
+  many : 2048 < row → RunDone w S L Z depth row i S L Z (Over Beyond)
+  last-run : {a m : ℕ} {S' L' Z' : List ℕ} {r : Noted} → row ≤ 2048 → RunTo w depth i a m → RunPut row i a m S L Z S' L' Z' → (getD w a 0 ≡ less → ⊥) →
+      LastOf (length w) a depth (row + m) r → RunDone w S L Z depth row i S' L' Z' (Over r)
+  deep-text : {a m : ℕ} {S' L' Z' : List ℕ} → row ≤ 2048 → RunTo w depth i a m → RunPut row i a m S L Z S' L' Z' → getD w a 0 ≡ less →
+      64 < depth + m → RunDone w S L Z depth row i S' L' Z' (Over Beyond)
+  to-tag : {a m : ℕ} {S' L' Z' : List ℕ} → row ≤ 2048 → RunTo w depth i a m → RunPut row i a m S L Z S' L' Z' → getD w a 0 ≡ less →
+      depth + m ≤ 64 → RunDone w S L Z depth row i S' L' Z' (Tag (row + m) a)
+
 -- a turn may begin at i: once the run is noted, a tag may be read
 pub record MayTurn (w S L Z : List ℕ) (x depth row i : ℕ) (o : List Open) (f : Content) : Type 0 where
   pub short : length w ≤ 32768
   pub here : i ≤ length w
   pub shallow : depth ≤ 64
-  pub tag : {a m : ℕ} {S' L' Z' : List ℕ} → row ≤ 2048 → RunTo w depth i a m → Put row i (a - i) S L Z S' L' Z' → getD w a 0 ≡ less →
-      MayTag w S' L' x depth (row + m) a o f (bytes w i (a - i))
+  pub tag : {a n : ℕ} {S' L' Z' : List ℕ} → RunDone w S L Z depth row i S' L' Z' (Tag n a) → MayTag w S' L' x depth n a o f (bytes w i (a - i))
 
 -- what it does
 pub data TurnDone (w S L Z : List ℕ) (depth row i : ℕ) (o : List Open) (f : Content) : List ℕ → List ℕ → List ℕ → Turn → Type 0 where
-  many : 2048 < row → TurnDone w S L Z depth row i o f S L Z (Ends Beyond)
-  last-run : {a m : ℕ} {S' L' Z' : List ℕ} {r : Noted} → row ≤ 2048 → RunTo w depth i a m → Put row i (a - i) S L Z S' L' Z' → (getD w a 0 ≡ less → ⊥) →
-      LastOf (length w) a depth (row + m) r → TurnDone w S L Z depth row i o f S' L' Z' (Ends r)
-  deep-text : {a m : ℕ} {S' L' Z' : List ℕ} → row ≤ 2048 → RunTo w depth i a m → Put row i (a - i) S L Z S' L' Z' → getD w a 0 ≡ less →
-      64 < depth + m → TurnDone w S L Z depth row i o f S' L' Z' (Ends Beyond)
-  tagged : {a m : ℕ} {S' L' Z' S₂ L₂ Z₂ : List ℕ} {u : Turn} → row ≤ 2048 → RunTo w depth i a m → Put row i (a - i) S L Z S' L' Z' → getD w a 0 ≡ less →
-      depth + m ≤ 64 → TagDone w S' L' Z' depth (row + m) a o f (bytes w i (a - i)) S₂ L₂ Z₂ u → TurnDone w S L Z depth row i o f S₂ L₂ Z₂ u
+  over : {S' L' Z' : List ℕ} {r : Noted} → RunDone w S L Z depth row i S' L' Z' (Over r) → TurnDone w S L Z depth row i o f S' L' Z' (Ends r)
+  tagged : {a n : ℕ} {S' L' Z' S₂ L₂ Z₂ : List ℕ} {u : Turn} → RunDone w S L Z depth row i S' L' Z' (Tag n a) →
+      TagDone w S' L' Z' depth n a o f (bytes w i (a - i)) S₂ L₂ Z₂ u → TurnDone w S L Z depth row i o f S₂ L₂ Z₂ u

@@ -8,7 +8,7 @@ ghost use Rattle.judge.specs.Tokens.{Classed};
 ghost use Rattle.judge.specs.Tags.{RunTo};
 ghost use Rattle.labels.specs.Lists.{Long};
 ghost use Rattle.rows.specs.Notes.{LastOf, Notes};
-ghost use Rattle.rows.specs.Turns.{MayTag, TagDone, MayTurn, TurnDone};
+ghost use Rattle.rows.specs.Turns.{MayTag, TagDone, RunDone, MayTurn, TurnDone};
 use super::tags::next_tag;
 use judge::Run;
 use judge::class::byte_at;
@@ -31,17 +31,11 @@ pub enum Noted {
     Beyond,
 }
 
-// The run that starts at `start`: most are empty or white space only.
+// The run that starts at `start`. What stands between tags is mostly white space.
 fn run(document: &[u8], class: &[u8; 512], depth: usize, start: usize) -> Run
     requires { ⌜ Classed (now class) × (start ≤ length (now document)) ⌝ }
     ensures { λ r. ⌜ RunTo (now (document .entry)) depth start (r .end) (r .rows) ⌝ }
 {
-    if byte_at(document, start) == b'<' {
-        return Run {
-            end: start,
-            rows: 0,
-        };
-    }
     let white = long_white_end(document, class, start);
     if byte_at(document, white) == b'<' {
         return Run {
@@ -124,7 +118,48 @@ fn read_tag(
     }
 }
 
-// One turn: the run that starts at `i`, and the tag behind it. What is put at `row` is a row only where it is counted.
+// What a run comes to: the answer; or a tag behind so many rows, at this place.
+enum Ran {
+    Over(Noted),
+    Tag(usize, usize),
+}
+
+// The run that starts at `i`, behind `row` rows. Most are empty, since a tag stands there, and nothing is put. What is put at `row` is a row
+// only where it is counted.
+fn read_run(
+    document: &[u8],
+    class: &[u8; 512],
+    starts: &mut [u16; 2052],
+    lengths: &mut [u16; 2052],
+    sizes: &mut [u16; 2052],
+    depth: usize,
+    row: usize,
+    i: usize,
+) -> Ran
+    requires { ⌜ Classed (now class) × (lib.ListN.length (now document) ≤ 32768) × (i ≤ lib.ListN.length (now document)) × (depth ≤ 64) ⌝ }
+    ensures { λ r. ⌜ RunDone (now (document .entry)) (now (starts .entry)) (now (lengths .entry)) (now (sizes .entry)) depth row i (now (starts .exit)) (now (lengths .exit)) (now (sizes .exit)) r ⌝ }
+{
+    if MOST_ROWS < row {
+        return Ran::Over(Noted::Beyond);
+    }
+    if byte_at(document, i) == b'<' {
+        return Ran::Tag(row, i);
+    }
+    let text = run(document, class, depth, i);
+    let at = text.end;
+    let leaves = text.rows;
+    put(starts, lengths, sizes, row, i, at - i);
+    let row = row + leaves;
+    if byte_at(document, at) != b'<' {
+        return Ran::Over(last(document.len(), at, depth, row));
+    }
+    if DEEPEST < depth + leaves {
+        return Ran::Over(Noted::Beyond);
+    }
+    Ran::Tag(row, at)
+}
+
+// One turn: the run that starts at `i`, and the tag behind it.
 fn read_turn(
     document: &[u8],
     class: &[u8; 512],
@@ -139,21 +174,20 @@ fn read_turn(
     requires { ⌜ Classed (now class) × ((o : List Open) × (f : Content) × MayTurn (now document) (now starts) (now lengths) (now sizes) top depth row i o f) ⌝ }
     ensures { λ r. ⌜ ((o : List Open) (f : Content) → MayTurn (now (document .entry)) (now (starts .entry)) (now (lengths .entry)) (now (sizes .entry)) top depth row i o f → TurnDone (now (document .entry)) (now (starts .entry)) (now (lengths .entry)) (now (sizes .entry)) depth row i o f (now (starts .exit)) (now (lengths .exit)) (now (sizes .exit)) r) ⌝ }
 {
-    if MOST_ROWS < row {
-        return Turn::Ends(Noted::Beyond);
+    match read_run(document, class, starts, lengths, sizes, depth, row, i) {
+        Ran::Over(answer) => Turn::Ends(answer),
+        Ran::Tag(behind, at) => read_tag(
+            document,
+            class,
+            starts,
+            lengths,
+            sizes,
+            top,
+            depth,
+            behind,
+            at,
+        ),
     }
-    let text = run(document, class, depth, i);
-    let at = text.end;
-    let leaves = text.rows;
-    put(starts, lengths, sizes, row, i, at - i);
-    let row = row + leaves;
-    if byte_at(document, at) != b'<' {
-        return Turn::Ends(last(document.len(), at, depth, row));
-    }
-    if DEEPEST < depth + leaves {
-        return Turn::Ends(Noted::Beyond);
-    }
-    read_tag(document, class, starts, lengths, sizes, top, depth, row, at)
 }
 
 // The pass. `around` has the rows of the elements around the innermost open one, `top`.

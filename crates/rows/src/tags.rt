@@ -3,14 +3,32 @@
 ghost use Prim.Native.Nat.{_+_, _≤_, _<_};
 ghost use lib.ListN;
 ghost use Rattle.judge.specs.Tokens.{Classed, Span, nameAt};
-ghost use Rattle.judge.specs.Tags.{Ended, Tagged};
+ghost use Rattle.judge.specs.Tags.{Started, Ended, Tagged};
+use judge::class::FIRST;
 use judge::class::byte_at;
+use judge::class::class_of;
 use judge::tags::Kind;
 use judge::tags::Tag;
+use judge::tags::shut;
 use judge::tags::stands;
-use judge::tags::start_tag;
+use judge::tokens::long_name_end;
 use judge::tokens::white_end;
 use words::stands_again;
+
+// The tag whose `<` stands before `at`. Most end behind the name at once.
+fn start_tag(document: &[u8], class: &[u8; 512], at: usize) -> Tag
+    requires { ⌜ Classed (now class) × (at ≤ ListN.length (now document)) ⌝ }
+    ensures { λ r. ⌜ Started (now (document .entry)) at r ⌝ }
+{
+    if class_of(class, byte_at(document, at)) < FIRST {
+        return Tag::Refused(at);
+    }
+    let end = long_name_end(document, class, at + 1);
+    if byte_at(document, end) == b'>' {
+        return Tag::Opens(end, end + 1);
+    }
+    shut(document, class, end)
+}
 
 // The end tag whose `</` stands before `at`. Where the name does not stand again, the judge says how far it does.
 fn end_tag(document: &[u8], class: &[u8; 512], name: usize, length: usize, at: usize) -> Tag

@@ -1,3 +1,4 @@
+use mathlib.Core.Path.{sym, _∙_}
 use Prim.Native.Nat.{_-_}
 use native.Mathlib.Omega.{arith}
 use lib.ListN.{length}
@@ -13,51 +14,49 @@ Inv-loop document class start from i₀ i = Passed (textAt document start) docum
 abbrev μ-loop : tie.MeasureT-loop
 μ-loop document class start from i₀ i = length document - i
 
--- THE PLACES: back from a byte that is no `<` to the turn's head, and from there to the function's start
-abbrev head : tie.Else1 Inv-loop μ-loop → tie.At-loop Inv-loop μ-loop
-head c = c .before .before .before
+-- THE PLACES: back from behind the plain text to the function's start
+abbrev begun : tie.After-plain-end Inv-loop μ-loop → tie.Start Inv-loop μ-loop
+begun p = p .before .before .before .before
 
-abbrev begun : tie.At-loop Inv-loop μ-loop → tie.Start Inv-loop μ-loop
-begun h = h .before .before .before
-
-plain-end-requires : tie.Need-plain-end-requires Inv-loop μ-loop
-plain-end-requires c κs = (c .before .pre .0, c .before .pre .1 .within)
+-- the run is text up to where its plain part ends
+passed : (p : tie.After-plain-end Inv-loop μ-loop) →
+    Passed (textAt (begun p .args .document .now) (begun p .args .start)) (begun p .args .document .now) (begun p .args .start) (p .plain-end .result)
+passed p = passed-then (p .before .before .loop .inv) (p .plain-end .ensures) (plain-text (begun p .args .document .now) (begun p .args .start))
 
 loop-holds : tie.Need-loop-holds Inv-loop μ-loop
-loop-holds c = let s = c .before .before in passed-then (s .pre .1) (c .plain-end .ensures) (plain-text (s .args .document .now) (s .args .start))
+loop-holds c = c .before .pre .1
 
-shared-slice-read-if1 : tie.Need-shared-slice-read-if1 Inv-loop μ-loop
-shared-slice-read-if1 c = search needs
+plain-end-requires : tie.Need-plain-end-requires Inv-loop μ-loop
+plain-end-requires c κs = (c .before .before .before .pre .0, c .before .loop .inv .within)
+
+byte-at-requires : tie.Need-byte-at-requires Inv-loop μ-loop
+byte-at-requires c κs = search needs
 
 returns : tie.Need-returns Inv-loop μ-loop
-returns c = stops (c .before .before .before .loop .inv) (less-stops _ _ _ (c .if1 .taken))
+returns c = stops (passed (c .before .before)) (less-stops _ _ _ (sym (c .before .byte-at .ensures) ∙ c .if1 .taken))
 
 add-least : tie.Need-add-least Inv-loop μ-loop
-add-least c = search needs
+add-least c = omega (arith, passed (c .before .before) .within, begun (c .before .before) .good)
 
 least-requires : tie.Need-least-requires Inv-loop μ-loop
 least-requires c κs = search needs
 
 text-to-requires : tie.Need-text-to-requires Inv-loop μ-loop
 text-to-requires c κs =
-    let h = head (c .before) in
-    (begun h .pre .0, h .loop .inv, omega (arith, c .least .ensures, c .before .before .before .loop-test .taken), omega (arith, c .least .ensures))
+    let p = c .before .before .before in
+    (begun p .pre .0, passed p, omega (arith, c .least .ensures, passed p .within), omega (arith, c .least .ensures))
 
 returns-2 : tie.Need-returns-2 Inv-loop μ-loop
 returns-2 c = stopped-early (c .before .text-to .ensures) (c .if2 .taken)
 
-plain-end-requires-2 : tie.Need-plain-end-requires-2 Inv-loop μ-loop
-plain-end-requires-2 c κs = (begun (head (c .before .before .before)) .pre .0, c .before .text-to .ensures .passed .within)
-
 loop-less : tie.Need-loop-less Inv-loop μ-loop
 loop-less c =
-    let n = c .before .before .before in
-    omega (arith, c .plain-end2 .ensures .from, c .before .if2 .left, n .least .ensures, n .before .before .before .loop-test .taken)
+    let n = c .before .before in
+    let p = n .before .before .before in
+    omega (arith, c .if2 .left, n .least .ensures, p .plain-end .ensures .from, p .before .loop-test .taken)
 
 loop-again : tie.Need-loop-again Inv-loop μ-loop
-loop-again c =
-    let s = begun (head (c .before .before .before .before)) in
-    passed-then (c .before .before .text-to .ensures .passed) (c .plain-end2 .ensures) (plain-text (s .args .document .now) (s .args .start))
+loop-again c = c .before .text-to .ensures .passed
 
 returns-3 : tie.Need-returns-3 Inv-loop μ-loop
 returns-3 c = at-end (c .before .loop .inv) (c .loop-test .left)
@@ -68,15 +67,14 @@ long-text-end-spec =
     (tie.spec
     Inv-loop
     μ-loop
-    plain-end-requires
     loop-holds
-    shared-slice-read-if1
+    plain-end-requires
+    byte-at-requires
     returns
     add-least
     least-requires
     text-to-requires
     returns-2
-    plain-end-requires-2
     loop-less
     loop-again
     returns-3)

@@ -1,95 +1,65 @@
-use mathlib.Core.Path.{sym, _∙_}
-use native.Mathlib.Omega.{arith}
-use Rattle.rows.specs.Turns.{many, last-run, deep-text, tagged}
+use mathlib.Core.Path.{subst}
+use mathlib.Core.List.{List}
+use Prim.Native.Nat.{ℕ}
+use Rattle.rows.specs.Turns.{RunDone, over, tagged}
+use Rattle.rows.specs.declared.note.Ran.{Ran}
+use Rattle.rows.specs.declared.note.Ran.the-variants.{Over, Tag}
 use borrow.Author.Needs.{needs}
 use Rattle.rows.proofs.note.read_turn.Statement.{statement}
 use Rattle.rows.proofs.note.read_turn.Tie as tie
 
--- THE PLACES: back from where the run's row is put to the run, to the look at the number of rows, and to the function's start
-abbrev ran : tie.After-put → tie.After-run
-ran p = p .before .before .before .before
+-- THE PLACES: back from the run to the function's start, and from the arms to the run
+abbrev begun : tie.After-read-run → tie.Start
+begun r = r .before .before .before .before .before
 
-abbrev few : tie.After-put → tie.Else1
-few p = ran p .before
+abbrev ending : tie.After-known-told → tie.After-read-run
+ending c = c .before .before .before
 
-abbrev begun : tie.Else1 → tie.Start
-begun e = e .before .before
+abbrev tagging : tie.After-known-told2 → tie.After-read-run
+tagging c = c .before .before .before
 
--- .. and from behind the tag to where it begins
-abbrev at-tag : tie.After-read-tag-arg3 → tie.Else3
-at-tag c = c .before .before .before
+-- WHAT IS KNOWN THERE
+-- what the run did to the three lists
+abbrev done : tie.After-read-run → Ran → Type 0
+done r =
+    let a = begun r .args in
+    let l = r .read-run .last .1 .1 in
+    RunDone (a .document .now) (a .starts .now) (a .lengths .now) (a .sizes .now) (a .depth) (a .row) (a .i) (l .0) (l .1 .0) (l .1 .1 .0)
+
+to-tag : (c : tie.After-known-told2) → done (tagging c) (Tag (c .before .behind .given .0 .0) (c .before .behind .given .0 .1 .0))
+to-tag c = subst (done (tagging c)) (c .before .behind .given .1) (tagging c .read-run .ensures)
 
 -- THE NEEDS
-returns : tie.Need-returns
-returns c = λ o f h. many (c .if1 .taken)
+read-run-requires : tie.Need-read-run-requires
+read-run-requires c κs = let h = c .before .before .before .before .pre in (h .0, h .1 .2 .short, h .1 .2 .here, h .1 .2 .shallow)
 
-run-requires : tie.Need-run-requires
-run-requires c κs = (begun c .pre .0, begun c .pre .1 .2 .here)
+enum-known-answer : tie.Need-enum-known-answer
+enum-known-answer c = search needs
 
-sub-put : tie.Need-sub-put
-sub-put c = omega (arith, c .before .before .before .run .ensures .span .passed .from)
-
-put-requires : tie.Need-put-requires
-put-requires c κs =
-    let r = c .before .before .before in
-    let h = begun (r .before) .pre .1 .2 in
-    (omega (arith, r .before .if1 .left), omega (arith, h .here, h .short), omega (arith, r .run .ensures .span .passed .within, h .short))
-
-add-row : tie.Need-add-row
-add-row c = omega (arith, few c .if1 .left, ran c .run .ensures .few)
-
-byte-at-requires : tie.Need-byte-at-requires
-byte-at-requires c κs = search needs
-
-last-requires : tie.Need-last-requires
-last-requires c κs = search needs
-
-returns-2 : tie.Need-returns-2
-returns-2 c =
-    let b = c .before .before in
-    let p = b .before in
-    λ o f h. last-run (few p .if1 .left) (ran p .run .ensures) (p .put .ensures) (λ e. c .before .if2 .taken (b .byte-at .ensures ∙ e)) (c .last .ensures)
-
-add-if3 : tie.Need-add-if3
-add-if3 c = let p = c .before .before in omega (arith, begun (few p) .pre .1 .2 .shallow, ran p .run .ensures .few)
-
-returns-3 : tie.Need-returns-3
-returns-3 c =
-    let b = c .before .before in
-    let p = b .before in
-    λ o f h. deep-text (few p .if1 .left) (ran p .run .ensures) (p .put .ensures) (sym (b .byte-at .ensures) ∙ c .before .if2 .left) (c .if3 .taken)
+enum-known-behind : tie.Need-enum-known-behind
+enum-known-behind c = search needs
 
 read-tag-requires : tie.Need-read-tag-requires
 read-tag-requires c κs =
-    let e = at-tag c .before in
-    let b = e .before in
-    let p = b .before in
-    let h = begun (few p) .pre in
-    (h .0, (h .1 .0, h .1 .1, _, h .1 .2 .tag (few p .if1 .left) (ran p .run .ensures) (p .put .ensures) (sym (b .byte-at .ensures) ∙ e .if2 .left)))
+    let t = c .before .before .before in
+    let h = begun (tagging t) .pre in
+    (h .0, (h .1 .0, h .1 .1, _, h .1 .2 .tag (to-tag t)))
 
-returns-4 : tie.Need-returns-4
-returns-4 c =
-    let d = at-tag (c .before) in
-    let e = d .before in
-    let b = e .before in
-    let p = b .before in
-    let less = sym (b .byte-at .ensures) ∙ e .if2 .left in
-    λ o f h. tagged (few p .if1 .left) (ran p .run .ensures) (p .put .ensures) less (d .if3 .left)
-    (c .read-tag .ensures o f _ (h .tag (few p .if1 .left) (ran p .run .ensures) (p .put .ensures) less))
+returns : tie.Need-returns
+returns c = λ o f h. over (subst (done (ending c)) (c .before .answer .given .1) (ending c .read-run .ensures))
+
+returns-2 : tie.Need-returns-2
+returns-2 c =
+    let t = c .before .before .before .before in
+    λ o f h. tagged (to-tag t) (c .read-tag .ensures o f _ (h .tag (to-tag t)))
 
 pub read-turn-spec : {M : Type 1} → statement M
 read-turn-spec =
     tie.close
     (tie.spec
-    returns
-    run-requires
-    sub-put
-    put-requires
-    add-row
-    byte-at-requires
-    last-requires
-    returns-2
-    add-if3
-    returns-3
+    read-run-requires
+    enum-known-answer
+    enum-known-behind
     read-tag-requires
-    returns-4)
+    returns
+    returns-2)
