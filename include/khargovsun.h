@@ -10,7 +10,7 @@
  * and signal handlers may call at the same time, as long as none writes a list that another call reads or writes.
  *
  * Stack, the most that was measured, in bytes (bench/stack/README.md: painted, on the deepest inputs; Arm, -O3): check 40,960; read
- * 57,488 (35,776 where the document is read); list 57,632; test 30,480; instance 28,656; spelling 10,416. Give a thread 128 kB.
+ * 57,488 (35,792 where the document is read); list 57,632; test 30,480; instance 28,656; spelling 10,416. Give a thread 128 kB.
  *
  * In a refusal the lowest code that applies is given, every other number is 0 (but the place of code 3), and nothing is written. */
 #ifndef KHARGOVSUN_H
