@@ -9,15 +9,15 @@ use native.Mathlib.Omega.{arith}
 use native.Mathlib.Decide.{ℕ-discrete}
 use Rattle.meaning.specs.Forest.{Term, size}
 use Rattle.meaning.specs.Pattern.{Pattern, Kind, Numbered}
-use Rattle.meaning.specs.Value.{Value}
-use Rattle.meaning.specs.Lowest.{accept}
+use Rattle.meaning.specs.Matcher.{Value}
+use Rattle.meaning.specs.Calls.{accept}
 use Rattle.meaning.proofs.Tame.{count}
 use Rattle.constraint.specs.Obeys.{Allowed}
 use Rattle.constraint.proofs.Allowed.{allowed?}
 use Rattle.problem.proofs.Posed.{posed}
 use Rattle.problem.specs.Problem as problem
 use Rattle.catalogue.specs.Answer.{Result, roomOf}
-use Rattle.catalogue.specs.Meant.{Meant}
+use Rattle.catalogue.specs.Listing.{Meant}
 use Rattle.catalogue.proofs.Events.{Outcome, fail, need, done, Event, tried, matched, snoc, branch, after, events}
 use Rattle.catalogue.proofs.Run.{run}
 use Rattle.catalogue.proofs.Whole.{walked, meant}

@@ -4,7 +4,7 @@ use mathlib.Core.Logic.{_⊎_, inl, inr, ⊎-elim}
 use mathlib.Core.List.{List, [], _∷_, _++_, append-assoc, append-nil}
 use Prim.Native.Nat.{ℕ, zero, suc}
 use native.Mathlib.Omega.{arith}
-use Rattle.catalogue.specs.Order.{_⊏_, Mem, Ascending}
+use Rattle.meaning.specs.Order.{_⊏_, Mem, Ascending}
 use Rattle.catalogue.proofs.Events.{Outcome, fail, need, done, Event, tried, matched, key, snoc, branch, after, events, mem-cases, Some, Found, FoundAmong, sound, branch-found}
 
 infix 30 _≪_

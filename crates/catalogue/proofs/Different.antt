@@ -7,15 +7,13 @@ use lib.ListN.{length, getD, List·getD-append, length-append}
 use native.Mathlib.Omega.{arith}
 use Rattle.meaning.specs.Forest.{none, Term, _◂_}
 use Rattle.meaning.specs.Pattern.{Pattern, Kind, Numbered}
-use Rattle.meaning.specs.Value.{Value}
-use Rattle.meaning.specs.Record.{recordOf}
+use Rattle.meaning.specs.Matcher.{Value}
+use Rattle.meaning.specs.Record.{recordOf, IsRecord}
 use Rattle.meaning.specs.Read.{readOff}
-use Rattle.meaning.specs.Matcher.{IsRecord}
-use Rattle.meaning.specs.Order.{seconds}
+use Rattle.meaning.specs.Order.{seconds, _⊏_, Mem, Ascending}
 use Rattle.meaning.proofs.Round.{round}
-use Rattle.catalogue.specs.Order.{_⊏_, Mem, Ascending}
 use Rattle.catalogue.specs.Answer.{Room, Result}
-use Rattle.catalogue.specs.Meant.{Meant}
+use Rattle.catalogue.specs.Listing.{Meant}
 use Rattle.catalogue.proofs.Ascent.{⊏-irrefl}
 use Rattle.catalogue.proofs.Facts.{leading}
 

@@ -6,7 +6,7 @@ use Prim.Native.Nat.{ℕ, zero, suc, _+_, _≤_, _<_}
 use native.Mathlib.Omega.{arith}
 use native.Mathlib.Decide.{ℕ-discrete, decLt}
 use lib.ListN.{length, length-append}
-use Rattle.catalogue.specs.Order.{Mem}
+use Rattle.meaning.specs.Order.{Mem}
 
 -- what a walk answers: no match here; a choice is needed, lo .. lo + count - 1; a match, with its record
 pub data Outcome : Type 0 where

@@ -11,19 +11,14 @@ use native.Mathlib.Omega.{arith}
 use borrow.Author.Tests.{le-ltb}
 use Rattle.meaning.specs.Forest.{Term}
 use Rattle.meaning.specs.Pattern.{Pattern, Kind, Numbered}
-use Rattle.meaning.specs.Value.{Value}
-use Rattle.meaning.specs.Solves.{Solves}
-use Rattle.meaning.specs.Record.{recordOf}
-use Rattle.meaning.specs.Order.{seconds}
+use Rattle.meaning.specs.Matcher.{Value, Solves}
+use Rattle.meaning.specs.Record.{recordOf, IsRecord}
+use Rattle.meaning.specs.Order.{seconds, _⊏_, Mem, Ascending}
 use Rattle.meaning.specs.Reached.{Begins}
 use Rattle.meaning.proofs.Theorems.{complete}
 use Rattle.meaning.proofs.Tame.{count, tame-ok}
-use Rattle.catalogue.specs.Order.{_⊏_, Mem, Ascending}
-use Rattle.meaning.specs.Matcher.{IsRecord}
-use Rattle.catalogue.specs.Solutions.{Solutions}
-use Rattle.catalogue.specs.Tries.{Tries}
+use Rattle.catalogue.specs.Listing.{Solutions, Tries, Meant}
 use Rattle.catalogue.specs.Answer.{Result, pick, places, within, Room, atMost, unlimited, byBudget, answer}
-use Rattle.catalogue.specs.Meant.{Meant}
 use Rattle.catalogue.proofs.Events.{Event, tried, matched, events}
 use Rattle.catalogue.proofs.Ascent.{⊏-irrefl, ⊏-trans, unique}
 use Rattle.catalogue.proofs.Run.{run, more}

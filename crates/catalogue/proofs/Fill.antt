@@ -11,7 +11,7 @@ use lib.Seq.{take-at, drop-at, drop-drop, length-take-le, take-suc-set, take-set
 use borrow.Author.Tests.{lt-ltb, le-ltb}
 use native.Mathlib.Nat.{add-zero, suc-mul, sub-zero, add-assoc, mul-le-mul-right, zero-mul, zero-add, div-mul-le-self}
 use native.Mathlib.Numerals.{add-one}
-use Rattle.catalogue.specs.Order.{Mem}
+use Rattle.meaning.specs.Order.{Mem}
 use Rattle.catalogue.specs.Answer.{Result, pick}
 use Rattle.catalogue.specs.Listing.{joined}
 use Rattle.catalogue.proofs.Back.{BackTo, fitting}

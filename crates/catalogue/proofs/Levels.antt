@@ -8,7 +8,7 @@ use native.Mathlib.Omega.{arith}
 use native.Mathlib.Decide.{decLt}
 use Rattle.meaning.specs.Forest.{Term}
 use Rattle.meaning.specs.Pattern.{Pattern, Kind, anIndividual, aSequence, aFunction, aContext, old, look, Numbered}
-use Rattle.meaning.specs.Value.{Value, kinds}
+use Rattle.meaning.specs.Matcher.{Value, kinds}
 use Rattle.meaning.specs.Record.{Entry, values}
 use Rattle.meaning.specs.Reached.{Begins}
 use Rattle.meaning.proofs.Walk.{need, walk}

@@ -7,14 +7,12 @@ use lib.ListN.{length}
 use native.Mathlib.Omega.{arith}
 use Rattle.meaning.specs.Forest.{Term}
 use Rattle.meaning.specs.Pattern.{Pattern, Kind, anIndividual, aSequence, aFunction, aContext, Numbered}
-use Rattle.meaning.specs.Value.{Value, ofIndividual, ofSequence, ofFunction, ofContext, kind, kinds}
-use Rattle.meaning.specs.Solves.{Solves}
+use Rattle.meaning.specs.Matcher.{Value, ofIndividual, ofSequence, ofFunction, ofContext, kind, kinds, Solves}
 use Rattle.meaning.specs.Record.{Entry, values, second, numbers, firsts, recordOf}
-use Rattle.meaning.specs.Order.{seconds, choices}
+use Rattle.meaning.specs.Order.{seconds, choices, _⊏_}
 use Rattle.meaning.proofs.Steps.{picked}
 use Rattle.meaning.proofs.Tame.{count, picked-many}
 use Rattle.meaning.proofs.Theorems.{complete}
-use Rattle.catalogue.specs.Order.{_⊏_}
 
 abbrev spread : List Kind → List ℕ → List ℕ
 spread [] v = []

@@ -9,7 +9,7 @@ use lib.Dec.{leb, ltb, leb·suc-suc}
 use lib.ListN.{length, take}
 use borrow.Author.Tests.{le-leb, lt-leb, lt-ltb, le-ltb, eq-eqb, ne-eqb}
 use Rattle.meaning.specs.Reached.{Begins}
-use Rattle.catalogue.specs.Order.{_⊏_, Mem, Ascending}
+use Rattle.meaning.specs.Order.{_⊏_, Mem, Ascending}
 use Rattle.catalogue.specs.Answer.{Result, pick, upto, place}
 use Rattle.catalogue.proofs.Events.{Outcome, need, done, Event, tried, matched, events, Within, Leads, Some, sound, complete, short}
 use Rattle.catalogue.proofs.Ascent.{_≪_, ascending}

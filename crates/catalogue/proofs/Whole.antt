@@ -8,10 +8,9 @@ use native.Mathlib.Omega.{arith}
 use native.Mathlib.Decide.{decLe}
 use Rattle.meaning.specs.Forest.{Term, size}
 use Rattle.meaning.specs.Pattern.{Pattern, Kind, Numbered}
-use Rattle.meaning.specs.Value.{Value, kinds}
-use Rattle.meaning.specs.Solves.{Solves}
+use Rattle.meaning.specs.Matcher.{Value, kinds, Solves}
 use Rattle.meaning.specs.Record.{values, numbers, recordOf}
-use Rattle.meaning.specs.Order.{seconds, choices}
+use Rattle.meaning.specs.Order.{seconds, choices, _⊏_, Mem, Ascending}
 use Rattle.meaning.proofs.Walk as W
 use Rattle.meaning.proofs.Walk.{Res, ok, walk}
 use Rattle.meaning.proofs.Theorems.{complete}
@@ -19,11 +18,8 @@ use Rattle.meaning.proofs.Theorems.{sound as walk-sound}
 use Rattle.meaning.proofs.Asked.{asked-reached, reached-asked}
 use Rattle.meaning.proofs.Honest.{Asked, honest}
 use Rattle.meaning.proofs.Tame.{count, tame-need, tame-ok}
-use Rattle.catalogue.specs.Order.{_⊏_, Mem, Ascending}
-use Rattle.catalogue.specs.Tries.{Try}
-use Rattle.catalogue.specs.Answer.{places, within, atMost}
-use Rattle.catalogue.specs.Answer.{answer as answerOf}
-use Rattle.catalogue.specs.Meant.{Meant}
+use Rattle.catalogue.specs.Listing.{Try, Meant}
+use Rattle.catalogue.specs.Answer.{places, within, atMost, answer as answerOf}
 use Rattle.catalogue.proofs.Events.{Outcome, fail, need, done, snoc, events, Within}
 use Rattle.catalogue.proofs.Run.{run, Match, placed, reached, values-of, tries-at, answer, IsTry, IsMatch, answers, Tame, _before_}
 use Rattle.catalogue.proofs.Plain.{plain-try, plain-match, try-plain}

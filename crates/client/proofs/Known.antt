@@ -7,16 +7,11 @@ use native.Mathlib.Nat.{div-self}
 use native.Mathlib.Omega.{arith}
 use Rattle.meaning.specs.Forest.{Term}
 use Rattle.meaning.specs.Pattern.{Pattern, Kind}
-use Rattle.meaning.specs.Value.{Value}
-use Rattle.meaning.specs.Solves.{Solves}
-use Rattle.meaning.specs.Record.{recordOf}
-use Rattle.meaning.specs.Order.{choices}
-use Rattle.meaning.specs.Matcher.{IsRecord}
-use Rattle.catalogue.specs.Order.{Mem}
-use Rattle.catalogue.specs.Tries.{Tries}
+use Rattle.meaning.specs.Matcher.{Value, Solves}
+use Rattle.meaning.specs.Record.{recordOf, IsRecord}
+use Rattle.meaning.specs.Order.{choices, Mem}
+use Rattle.catalogue.specs.Listing.{Tries, Meant, Listing}
 use Rattle.catalogue.specs.Answer.{Result, places, within, atMost, roomOf}
-use Rattle.catalogue.specs.Meant.{Meant}
-use Rattle.catalogue.specs.Listing.{Listing}
 use Rattle.catalogue.proofs.Facts.{one-answer}
 use Rattle.client.specs.Solvable.{Found, Absent, Unknown}
 use Rattle.client.specs.Promises.{ForOne}

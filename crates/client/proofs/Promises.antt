@@ -7,17 +7,15 @@ use lib.ListN.{length}
 use native.Mathlib.Omega.{arith}
 use Rattle.meaning.specs.Forest.{Term}
 use Rattle.meaning.specs.Pattern.{Pattern, Kind, Numbered}
-use Rattle.meaning.specs.Value.{Value}
-use Rattle.meaning.specs.Solves.{Solves}
-use Rattle.meaning.specs.Lowest.{accept}
+use Rattle.meaning.specs.Matcher.{Value, Solves}
+use Rattle.meaning.specs.Calls.{accept}
 use Rattle.meaning.proofs.OneCode.{one-accept}
 use Rattle.constraint.specs.Obeys.{Constraint, Allowed}
 use Rattle.constraint.proofs.Allowed.{allowed?}
 use Rattle.problem.specs.Problem.{Lists}
 use Rattle.problem.proofs.Posed.{Posed, posed, codes-high, one-codes}
-use Rattle.catalogue.specs.Solutions.{Solutions}
+use Rattle.catalogue.specs.Listing.{Solutions, Listing}
 use Rattle.catalogue.specs.Answer.{atMost, roomOf}
-use Rattle.catalogue.specs.Listing.{Listing}
 use Rattle.catalogue.proofs.Facts.{at-most-one}
 use Rattle.client.specs.Solvable.{codeOf, Settled}
 use Rattle.client.specs.Promises.{ForOne, RoomForOne, Decides, Client}

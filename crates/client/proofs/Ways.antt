@@ -9,8 +9,7 @@ use lib.Dec.{leb, ltb}
 use native.Mathlib.Omega.{arith}
 use borrow.Author.Tests.{ltb-true, ltb-false, leb-true, le-leb}
 use Rattle.meaning.specs.Pattern.{Kind}
-use Rattle.meaning.specs.Order.{choices}
-use Rattle.catalogue.specs.Order.{Mem}
+use Rattle.meaning.specs.Order.{choices, Mem}
 use Rattle.catalogue.specs.Answer.{Result, pick, upto, place, places, within, Room, atMost, unlimited, byBudget, answer}
 
 pub place-few : (ts : List (List ℕ)) (w : List ℕ) → place ts w ≤ length ts

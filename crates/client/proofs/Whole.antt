@@ -5,7 +5,7 @@ use mathlib.Core.Bool.{Bool, true, false}
 use mathlib.Core.List.{List}
 use lib.ListN.{length}
 use native.Mathlib.Omega.{arith}
-use Rattle.meaning.specs.Lowest.{accept}
+use Rattle.meaning.specs.Calls.{accept}
 use Rattle.pattern.specs.Answer as Pattern
 use Rattle.pattern.specs.declared.Checked.{Checked}
 use Rattle.problem.specs.Problem.{Lists, Codes}

@@ -7,12 +7,11 @@ use mathlib.Core.List.{List}
 use lib.ListN.{length}
 use Rattle.meaning.specs.Forest.{Term}
 use Rattle.meaning.specs.Pattern.{Pattern, Kind}
-use Rattle.meaning.specs.Value.{Value}
-use Rattle.meaning.specs.Solves.{Solves}
+use Rattle.meaning.specs.Matcher.{Value, Solves}
 use Rattle.expression.specs.Expression.{Expression}
 use Rattle.constraint.specs.Obeys.{Constraint, Allowed}
 use Rattle.problem.specs.Problem.{Lists, Poses}
-use Rattle.catalogue.specs.Tries.{Tries}
+use Rattle.catalogue.specs.Listing.{Tries}
 use Rattle.catalogue.specs.Answer.{atMost, roomOf}
 use Rattle.lister.specs.Listed as Lister
 use Rattle.lister.specs.declared.Listed.{Listed}

@@ -6,15 +6,14 @@ use mathlib.Core.List.{List}
 use lib.ListN.{length}
 use Rattle.meaning.specs.Forest.{Term}
 use Rattle.meaning.specs.Pattern.{Pattern, Kind}
-use Rattle.meaning.specs.Value.{Value}
-use Rattle.meaning.specs.Solves.{Solves}
+use Rattle.meaning.specs.Matcher.{Value, Solves}
 use Rattle.meaning.specs.Record.{recordOf}
 use Rattle.meaning.specs.Order.{choices}
-use Rattle.meaning.specs.Lowest.{accept}
+use Rattle.meaning.specs.Calls.{accept}
 use Rattle.expression.specs.Expression.{Expression}
 use Rattle.constraint.specs.Obeys.{Constraint, Allowed}
 use Rattle.problem.specs.Problem.{Lists, Poses, Codes}
-use Rattle.catalogue.specs.Tries.{Tries}
+use Rattle.catalogue.specs.Listing.{Tries}
 use Rattle.catalogue.specs.Answer.{place}
 use Rattle.client.specs.declared.Answer.{Answer}
 use Rattle.client.specs.declared.Answer.the-variants.{Refused, Yes, No, Open}

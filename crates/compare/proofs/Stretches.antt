@@ -6,7 +6,7 @@ use mathlib.Core.Bool.{Bool, false}
 use mathlib.Core.List.{List}
 use lib.ListN.{length}
 use native.Mathlib.Omega.{arith}
-use Rattle.meaning.specs.Says.{Says}
+use Rattle.meaning.specs.Calls.{Says}
 use Rattle.tree.specs.Places.{SameRows}
 use Rattle.tree.proofs.Terms.{terms-le, terms-end}
 use Rattle.tree.proofs.Compare.{compared, unlike}

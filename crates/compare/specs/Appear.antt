@@ -5,7 +5,7 @@ use mathlib.Core.Bool.{Bool}
 use mathlib.Core.List.{List}
 use mathlib.Core.Logic.{_≢_}
 use lib.ListN.{getD}
-use Rattle.meaning.specs.Says.{Says}
+use Rattle.meaning.specs.Calls.{Says}
 use Rattle.meaning.specs.Forest.{Forest, Term, term, terms, Context, hole, node, plug, holeRow}
 use Rattle.meaning.specs.Read.{takeT}
 use Rattle.meaning.proofs.Laws.{dropT}

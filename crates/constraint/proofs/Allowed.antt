@@ -5,9 +5,8 @@ use mathlib.Core.List.{List, [], _∷_}
 use native.Mathlib.Decide.{ℕ-discrete}
 use native.Mathlib.Omega.{arith}
 use Rattle.meaning.specs.Pattern.{look}
-use Rattle.meaning.specs.Value.{Value}
-use Rattle.constraint.specs.Word.{word}
-use Rattle.constraint.specs.Obeys.{Constraint, free, bound, Obeys, givenTo, Allowed}
+use Rattle.meaning.specs.Matcher.{Value}
+use Rattle.constraint.specs.Obeys.{word, Constraint, free, bound, Obeys, givenTo, Allowed}
 use Rattle.constraint.proofs.Decide.{when?}
 use Rattle.constraint.proofs.Language.{in?}
 

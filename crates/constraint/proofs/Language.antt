@@ -6,9 +6,8 @@ use mathlib.Core.List.{List, [], _∷_, _++_}
 use lib.ListN.{length, length-append}
 use native.Mathlib.Omega.{arith}
 use native.Mathlib.Decide.{ℕ-discrete, decLt}
-use Rattle.expression.specs.Expression.{Expression, symbol, empty, concatenation, choice, repetition}
+use Rattle.expression.specs.Expression.{Expression, symbol, empty, concatenation, choice, repetition, in-symbol, in-empty, in-concatenation, in-first, in-second, in-none, in-more, In}
 use Rattle.constraint.proofs.Decide.{when?, by?, either?}
-use Rattle.expression.specs.Language.{in-symbol, in-empty, in-concatenation, in-first, in-second, in-none, in-more, In}
 
 -- a word in two parts, the first of one kind and the second of another
 abbrev Parts : (List ℕ → Type 0) → (List ℕ → Type 0) → List ℕ → Type 0

@@ -3,7 +3,7 @@ use Prim.Native.Nat.{ℕ}
 use mathlib.Core.Path.{_≡_, sym}
 use mathlib.Core.Bool.{Bool, true, false}
 use mathlib.Core.List.{List}
-use Rattle.meaning.specs.Says.{Says}
+use Rattle.meaning.specs.Calls.{Says}
 use Rattle.meaning.specs.Pattern.{Pattern, Kind}
 use Rattle.meaning.proofs.Answers.{said-no}
 use Rattle.pattern.specs.Answer.{Settled}
@@ -11,12 +11,10 @@ use Rattle.pattern.specs.declared.Checked.{Checked}
 use Rattle.pattern.proofs.Unique.{one-pattern, one-list}
 use Rattle.pattern.proofs.Settle.{variables-known}
 use Rattle.expression.specs.Expression.{Expression}
-use Rattle.expression.specs.Rows.{sizeRows}
-use Rattle.expression.specs.Good.{GoodTable}
+use Rattle.expression.specs.Rows.{sizeRows, GoodTable}
 use Rattle.expression.proofs.Unique.{unique}
 use Rattle.constraint.specs.Obeys.{Constraint}
-use Rattle.constraint.specs.Good.{GoodConstraints}
-use Rattle.constraint.specs.Whole.{Means, Good}
+use Rattle.constraint.specs.Good.{GoodConstraints, Means, Good}
 use Rattle.pattern.specs.Known.{KindsAre}
 use Rattle.constraint.specs.Pair.{GivenPre}
 use Rattle.constraint.proofs.Constraints.{one-constraints}

@@ -8,13 +8,13 @@ use lib.Dec.{eqb}
 use native.Mathlib.Omega.{arith}
 use Rattle.meaning.specs.Forest.{Forest, terms, Context}
 use Rattle.meaning.specs.Pattern.{Kind}
-use Rattle.meaning.specs.Value.{Value}
+use Rattle.meaning.specs.Matcher.{Value}
 use Rattle.meaning.specs.Read.{takeT}
 use Rattle.meaning.proofs.Answers.{says-yes, says-no, says-equal, said-no}
 use Rattle.tree.specs.Places.{TermsAt, ContextAt}
 use Rattle.tree.proofs.Ways.{hole-here}
 use Rattle.pattern.specs.Rows.{code}
-use Rattle.constraint.specs.Word.{heads, path, word}
+use Rattle.constraint.specs.Obeys.{heads, path, word}
 use Rattle.constraint.specs.Good.{MayHave}
 use Rattle.constraint.specs.Reading.{ValueAt, a-sequence, a-context, another, HeadsPre, PathPre, After, ObeysPre, ObeysPost, ForbiddenPost}
 use Rattle.constraint.proofs.Pairs.{pair-free, pair-bound, pair-may}

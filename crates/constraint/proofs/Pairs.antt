@@ -6,11 +6,11 @@ use mathlib.Core.Bool.{Bool}
 use mathlib.Core.List.{List}
 use lib.Dec.{eqb}
 use native.Mathlib.Omega.{arith}
-use Rattle.meaning.specs.Says.{Says}
+use Rattle.meaning.specs.Calls.{Says}
 use Rattle.meaning.specs.Pattern.{Kind, anIndividual, aSequence, aFunction, aContext}
 use Rattle.pattern.specs.Rows.{code}
 use Rattle.expression.specs.Expression.{Expression}
-use Rattle.expression.specs.Starts.{StartsAt}
+use Rattle.expression.specs.Rows.{StartsAt}
 use Rattle.meaning.proofs.Answers.{says-equal}
 use Rattle.constraint.specs.Obeys.{Constraint, free, bound}
 use Rattle.constraint.specs.Good.{MayHave}

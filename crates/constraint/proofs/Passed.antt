@@ -6,7 +6,7 @@ use mathlib.Core.List.{List}
 use lib.ListN.{length, getD}
 use native.Mathlib.Omega.{arith}
 use native.Mathlib.Decide.{ℕ-discrete}
-use Rattle.meaning.specs.Says.{Says}
+use Rattle.meaning.specs.Calls.{Says}
 use Rattle.meaning.specs.Pattern.{Kind, old, look}
 use Rattle.meaning.proofs.Answers.{said-no}
 use Rattle.meaning.proofs.Lists.{look-old, look-some}

@@ -6,18 +6,17 @@ use mathlib.Core.Bool.{Bool}
 use mathlib.Core.List.{List, [], _∷_, _++_}
 use lib.ListN.{length, getD}
 use native.Mathlib.Omega.{arith}
-use Rattle.meaning.specs.Says.{Says}
+use Rattle.meaning.specs.Calls.{Says}
 use Rattle.meaning.specs.Forest.{Forest, terms, Context}
 use Rattle.meaning.specs.Read.{takeT}
 use Rattle.meaning.proofs.Laws.{dropT}
 use Rattle.tree.specs.Places.{TermsAt, ContextAt}
 use Rattle.tree.specs.Helpers.{ChildPre, ChildPost}
-use Rattle.expression.specs.Expression.{Expression}
-use Rattle.expression.specs.Language.{In}
-use Rattle.expression.specs.Starts.{StartsAt}
+use Rattle.expression.specs.Expression.{Expression, In}
+use Rattle.expression.specs.Rows.{StartsAt}
 use Rattle.letters.specs.State.{StateOf, TablesOf}
 use Rattle.letters.proofs.Decide.{decides}
-use Rattle.constraint.specs.Word.{heads, path}
+use Rattle.constraint.specs.Obeys.{heads, path}
 use Rattle.constraint.specs.Reading.{MorePre, ReadTo, ReadOn, PathPre, After}
 use Rattle.constraint.proofs.Words.{none-heads, heads-row, heads-rest, drop-more, heads-more, PathLeft, path-begin, path-row, path-child, path-read, path-end}
 

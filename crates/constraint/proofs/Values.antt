@@ -6,12 +6,11 @@ use mathlib.Core.List.{List}
 use lib.ListN.{getD}
 use native.Mathlib.Omega.{arith}
 use native.Mathlib.Decide.{decLt}
-use Rattle.meaning.specs.Says.{Says}
+use Rattle.meaning.specs.Calls.{Says}
 use Rattle.meaning.specs.Forest.{Forest, none, rows, terms, size}
 use Rattle.meaning.specs.Pattern.{Kind, anIndividual, aSequence, aFunction, aContext, old, look}
-use Rattle.meaning.specs.Value.{Value, ofSequence, ofContext}
-use Rattle.meaning.specs.Read.{takeT, fromRow, headTerm, cut, valueAt}
-use Rattle.meaning.specs.GoodRecord.{Fits}
+use Rattle.meaning.specs.Matcher.{Value, ofSequence, ofContext}
+use Rattle.meaning.specs.Read.{takeT, fromRow, headTerm, cut, valueAt, Fits}
 use Rattle.meaning.proofs.Laws.{no-rows}
 use Rattle.meaning.proofs.From.{from-past}
 use Rattle.tree.specs.Places.{TermsAt, ContextAt}
@@ -19,7 +18,7 @@ use Rattle.tree.proofs.Terms.{terms-end, terms-rows, nothing-at, FirstAt, first
 use Rattle.tree.proofs.Cuts.{from-row, cut-at}
 use Rattle.pattern.specs.Rows.{code}
 use Rattle.expression.specs.Expression.{Expression}
-use Rattle.expression.specs.Good.{GoodTable}
+use Rattle.expression.specs.Rows.{GoodTable}
 use Rattle.expression.proofs.Places.{start-below}
 use Rattle.letters.specs.State.{TablesOf}
 use Rattle.constraint.specs.Obeys.{Constraint, Allowed}

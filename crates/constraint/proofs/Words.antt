@@ -12,7 +12,7 @@ use Rattle.tree.specs.Places.{TermsAt, stop, step, Next, ContextAt, at-hole, at
 use Rattle.tree.specs.Helpers.{ChildPre, ChildPost}
 use Rattle.tree.proofs.Terms.{terms-le, terms-end}
 use Rattle.tree.proofs.Ways.{context-le, hole-here}
-use Rattle.constraint.specs.Word.{heads, path}
+use Rattle.constraint.specs.Obeys.{heads, path}
 
 -- as many terms, as many letters; only the bare hole has none
 pub heads-none : (c : ℕ) (f : Forest) → c ≤ terms f → heads (takeT c f) ≡ [] → c ≡ 0

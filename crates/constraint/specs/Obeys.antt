@@ -1,13 +1,28 @@
 -- 01, "Patterns and constraints": a variable's constraint, an expression and "the flag of 000 (1 forbids the empty sequence or bare
 -- hole)"; and "What a matcher is": "every constraint holds".
 use Prim.Native.Nat.{ℕ}
+use mathlib.Core.List.{List, [], _∷_}
 use mathlib.Core.Path.{_≡_}
-use mathlib.Core.List.{List, []}
+use Rattle.meaning.specs.Forest.{Forest, none, some, Context, hole, node}
+use Rattle.meaning.specs.Matcher.{Value, ofIndividual, ofSequence, ofFunction, ofContext}
 use Rattle.meaning.specs.Pattern.{Look, old, new, wrong, look}
-use Rattle.meaning.specs.Value.{Value}
-use Rattle.expression.specs.Expression.{Expression}
-use Rattle.expression.specs.Language.{In}
-use Rattle.constraint.specs.Word.{word}
+use Rattle.expression.specs.Expression.{Expression, In}
+
+-- "A sequence is judged by the heads of its terms, a context by the labels on its path from its head to the hole, hole left out."
+unfoldable pub heads : Forest → List ℕ
+heads none = []
+heads (some l us rest) = l ∷ heads rest
+
+unfoldable pub path : Context → List ℕ
+path hole = []
+path (node l left c right) = l ∷ path c
+
+-- the word by which a value is judged (the others are never judged)
+abbrev pub word : Value → List ℕ
+word (ofIndividual l us) = []
+word (ofSequence f) = heads f
+word (ofFunction l) = []
+word (ofContext c) = path c
 
 pub data Constraint : Type 0 where
   free : Constraint

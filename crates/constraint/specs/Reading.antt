@@ -4,19 +4,18 @@ use Prim.Native.Nat.{ℕ, _+_, _<_, _≤_}
 use mathlib.Core.Path.{_≡_}
 use mathlib.Core.Bool.{Bool}
 use mathlib.Core.List.{List, []}
-use Rattle.meaning.specs.Says.{Says}
+use Rattle.meaning.specs.Calls.{Says}
 use Rattle.meaning.specs.Forest.{Forest, terms, Context}
 use Rattle.meaning.specs.Pattern.{Kind, aSequence, aContext}
-use Rattle.meaning.specs.Value.{Value, ofSequence, ofContext}
+use Rattle.meaning.specs.Matcher.{Value, ofSequence, ofContext}
 use Rattle.meaning.specs.Read.{takeT}
 use Rattle.meaning.proofs.Laws.{dropT}
 use Rattle.tree.specs.Places.{TermsAt, ContextAt}
 use Rattle.pattern.specs.Rows.{code}
 use Rattle.expression.specs.Expression.{Expression}
-use Rattle.expression.specs.Starts.{StartsAt}
+use Rattle.expression.specs.Rows.{StartsAt}
 use Rattle.letters.specs.State.{StateOf, TablesOf}
-use Rattle.constraint.specs.Word.{heads, word}
-use Rattle.constraint.specs.Obeys.{Constraint, Obeys}
+use Rattle.constraint.specs.Obeys.{heads, word, Constraint, Obeys}
 use Rattle.constraint.specs.Good.{MayHave}
 use Rattle.constraint.specs.Pair.{Pair}
 

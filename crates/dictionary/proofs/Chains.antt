@@ -6,7 +6,7 @@ use Prim.Native.Nat.{ℕ, _+_, _-_, _*_, _≤_, _<_}
 use native.Mathlib.Omega.{arith}
 use native.Mathlib.Decide.{ℕ-discrete}
 use lib.ListN.{length, getD}
-use Rattle.meaning.specs.Says.{Says}
+use Rattle.meaning.specs.Calls.{Says}
 use Rattle.dictionary.specs.Scan.{range}
 use Rattle.dictionary.specs.Labels.{placeOf}
 use Rattle.dictionary.specs.Index.{bucketOf, Link, Indexed, MayLabel}

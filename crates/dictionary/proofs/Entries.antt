@@ -6,7 +6,7 @@ use Prim.Native.Nat.{ℕ, _+_, _-_, _*_, _≤_, _<_}
 use native.Mathlib.Omega.{arith}
 use lib.ListN.{length, getD}
 use borrow.Author.Tests.{lt-ltb, le-ltb}
-use Rattle.meaning.specs.Says.{Says}
+use Rattle.meaning.specs.Calls.{Says}
 use Rattle.dictionary.specs.Scan.{range}
 use Rattle.dictionary.specs.Index.{sourceOf, Entry, MayLabel}
 use Rattle.dictionary.proofs.Ranges.{range-length}

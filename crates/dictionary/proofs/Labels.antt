@@ -8,7 +8,12 @@ use lib.Dec.{eqb, ltb}
 use lib.ListN.{length, getD, take, length-append}
 use lib.Seq.{length-take-le, getD-take}
 use borrow.Author.Tests.{eqb-true, eq-eqb, ltb-true, ltb-false, lt-ltb, le-ltb}
-use Rattle.dictionary.specs.Labels.{sameBytes, placeOf, learn, knownAfter, labelsOf}
+use Rattle.dictionary.specs.Labels.{sameBytes, placeOf, learn, labelsOf}
+
+-- what is known after all of these: the names of the dictionary, then each new spelling where it first appears
+abbrev pub knownAfter : List (List ℕ) → List (List ℕ) → List (List ℕ)
+knownAfter known [] = known
+knownAfter known (w ∷ ws) = knownAfter (learn known w) ws
 
 -- the test of equality
 same-bytes : (v : List ℕ) → sameBytes v v ≡ true

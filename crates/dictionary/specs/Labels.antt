@@ -20,11 +20,6 @@ placeOf (n ∷ ns) w = cond (sameBytes n w) 0 (suc (placeOf ns w))
 abbrev pub learn : List (List ℕ) → List ℕ → List (List ℕ)
 learn known w = cond (ltb (placeOf known w) (length known)) known (known ++ (w ∷ []))
 
--- what is known after all of these: the names of the dictionary, then each new spelling where it first appears
-abbrev pub knownAfter : List (List ℕ) → List (List ℕ) → List (List ℕ)
-knownAfter known [] = known
-knownAfter known (w ∷ ws) = knownAfter (learn known w) ws
-
 -- the labels of the rows whose spellings in preorder are given; at first the names are known.
 -- Elements and texts alike: a label depends on the spelling alone.
 abbrev pub labelsOf : List (List ℕ) → List (List ℕ) → List ℕ

@@ -4,7 +4,7 @@ ghost use mathlib.Core.Path.{_≡_};
 ghost use mathlib.Core.List.{List, []};
 ghost use Prim.Native.Nat.{ℕ, _+_, _-_, _*_, _≤_, _<_};
 ghost use lib.ListN.{length, getD};
-ghost use Rattle.meaning.specs.Says.{Says};
+ghost use Rattle.meaning.specs.Calls.{Says};
 ghost use Rattle.dictionary.specs.Scan.{range};
 ghost use Rattle.dictionary.specs.Labels.{placeOf};
 ghost use Rattle.dictionary.specs.Index.{bucketOf, MayLabel, Labelled, inserted};

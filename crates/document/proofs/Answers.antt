@@ -9,26 +9,21 @@ use lib.ListN.{length, length-map}
 use borrow.Author.Tests.{ltb-true, ltb-false}
 use Rattle.tree.specs.Rows.{depth}
 use Rattle.tree.proofs.Lists.{sizes-rows}
-use Rattle.grammar.specs.Grammar.{Bytes, _⊲_, Content, Document}
-use Rattle.grammar.specs.Place.{OutsideAt}
-use Rattle.grammar.specs.Tree.{shape}
-use Rattle.grammar.specs.Rows.{#, Row, rowsOf}
+use Rattle.grammar.specs.Grammar.{Bytes, _⊲_, Content, Document, OutsideAt}
+use Rattle.grammar.specs.Rows.{shape, #, Row, rowsOf, starts, lengths}
 use Rattle.grammar.proofs.Trees.{shape-rows}
 use Rattle.judge.specs.Verdict.{Verdict, long as long-document, outside, deep, many, read}
 use Rattle.dictionary.specs.Names.{GoodDictionary, DictionaryChecked}
 use Rattle.dictionary.specs.Index.{Indexed, NamesLearnt}
-use Rattle.document.specs.Reading.{Unchanged, shortest, Read, badDictionary, badDocument, noRoom, filled}
+use Rattle.document.specs.Reading.{Unchanged, shortest, Read, badDictionary, badDocument, noRoom, filled, Checked, bad, judged, spellingsOf}
 use Rattle.document.specs.Learnt.{MayRead}
-use Rattle.document.specs.Checked.{Checked, bad, judged}
-use Rattle.document.specs.Labels.{spellingsOf}
-use Rattle.labels.specs.Filled.{Filled}
+use Rattle.meaning.specs.Calls.{Filled}
 use Rattle.labels.specs.Lists.{Copied}
 use Rattle.labels.specs.Labelling.{MayLabelRows, LabelsRows}
 use Rattle.labels.proofs.Copies.{copied, copied-long}
-use Rattle.rows.specs.Places.{starts, lengths}
 use Rattle.rows.specs.Notes.{RowsNoted, TooLarge}
 use Rattle.rows.proofs.Large.{rows-count}
-use Rattle.document.proofs.Filling.{tree-labels, rows-spell, tree-sizes}
+use Rattle.document.proofs.Filling.{rows-spell}
 
 -- THE DICTIONARY
 pub not-good : {d : List ℕ} {good : Bool} {k : ℕ} → DictionaryChecked d good k → good ≡ false → (names : List (List ℕ)) → GoodDictionary d names → ⊥
@@ -166,8 +161,8 @@ module _ {d w clear index : List ℕ} (label size start width : List ℕ) {k : �
         (c ≡ 0) × (p ≡ 0) × (m ≡ n) → Read d w label size start width label' size' start' width' c p m
     answers-read h e =
         rw (e .0, e .1, e .2) (filled good-names (noted-verdict (may .short) noted) (omega (arith, room)) (noted .document) (record {
-          label-is = rw (tree-labels names (noted .f)) (h names (spellingsOf (noted .f)) labelling);
-          size-is = rw (← (tree-sizes names (noted .f))) (copied size (noted .sizes-are) (sizes-rows (shape (noted .f)) ∙ noted .rows-are) (copies .size-copy));
+          label-is = h names (spellingsOf (noted .f)) labelling;
+          size-is = copied size (noted .sizes-are) (sizes-rows (shape (noted .f)) ∙ noted .rows-are) (copies .size-copy);
           start-is = start-is;
           width-is = width-is;
         }))

@@ -5,21 +5,28 @@ use Prim.Native.Nat.{ℕ, zero, suc, _+_, _-_, _<_}
 use native.Mathlib.Omega.{arith}
 use lib.ListN.{length, getD, drop, length-map, List·getD-map, List·getD-append}
 use lib.Seq.{ext-getD}
+use Rattle.meaning.specs.Forest.{Forest, none}
 use Rattle.tree.specs.Rows.{labels, sizes}
 use Rattle.grammar.specs.Grammar.{Bytes, _⊲_, Content, Document}
-use Rattle.grammar.specs.Tree.{shape}
-use Rattle.grammar.specs.Rows.{#, Row, rowsOf}
+use Rattle.grammar.specs.Rows.{forest, shape, #, Row, rowsOf, starts, lengths}
 use Rattle.grammar.proofs.Rows.{labels-are, Spelled, rows-spelled, all-at}
-use Rattle.labels.specs.Filled.{Filled}
+use Rattle.meaning.specs.Calls.{Filled}
 use Rattle.labels.specs.Labelling.{Spells}
-use Rattle.rows.specs.Places.{starts, lengths}
 use Rattle.rows.proofs.Large.{no-row}
 use Rattle.rows.proofs.Sizes.{sizes-tree}
-use Rattle.dictionary.specs.Labels.{placeOf, knownAfter, labelsOf}
-use Rattle.dictionary.proofs.Labels.{label-place, length-labels}
-use Rattle.document.specs.Labels.{spellingsOf, labelOf, treeOf}
+use Rattle.dictionary.specs.Labels.{placeOf, labelsOf}
+use Rattle.dictionary.proofs.Labels.{knownAfter, label-place, length-labels}
+use Rattle.document.specs.Reading.{spellingsOf}
 
 -- THE LABELS, in 01's words and as the tree's
+-- a spelling's label: its place among the names of the dictionary and then the other spellings by first appearance
+abbrev pub labelOf : List (List ℕ) → Content → Bytes → ℕ
+labelOf names f s = placeOf (knownAfter names (spellingsOf f)) (s ⊲ [])
+
+-- the tree of a document
+abbrev pub treeOf : List (List ℕ) → Content → Forest
+treeOf names f = forest (labelOf names f) f none
+
 map-twice : (g : List ℕ → ℕ) (h : Row → List ℕ) (R : List Row) → map g (map h R) ≡ map (λ (x : Row). g (h x)) R
 map-twice g h [] = refl
 map-twice g h (x ∷ R) = ap (λ (l : List ℕ). g (h x) ∷ l) (map-twice g h R)

@@ -10,17 +10,14 @@ use lib.Seq.{getD-take}
 use borrow.Author.Tests.{ltb-true, lt-ltb, le-leb}
 use Rattle.tree.specs.Rows.{labels}
 use Rattle.grammar.specs.Grammar.{_⊲_, Content}
-use Rattle.grammar.specs.Rows.{#, Row, rowsOf}
-use Rattle.rows.specs.Places.{starts, lengths}
+use Rattle.grammar.specs.Rows.{#, Row, rowsOf, starts, lengths}
 use Rattle.dictionary.specs.Names.{GoodDictionary}
-use Rattle.dictionary.specs.Labels.{labelsOf, knownAfter}
+use Rattle.dictionary.specs.Labels.{labelsOf}
+use Rattle.dictionary.proofs.Labels.{knownAfter, length-labels, label-spelling, known-at}
 use Rattle.dictionary.specs.Spelling.{partOfDictionary, partOfDocument, spellingOf, bytesOf, SpellingAnswered}
-use Rattle.dictionary.proofs.Labels.{length-labels, label-spelling, known-at}
 use Rattle.dictionary.proofs.Parts.{name-bytes}
-use Rattle.document.specs.Labels.{spellingsOf, treeOf}
-use Rattle.document.specs.Reading.{Read, badDictionary, badDocument, noRoom, filled}
+use Rattle.document.specs.Reading.{spellingsOf, Read, badDictionary, badDocument, noRoom, filled}
 use Rattle.document.specs.Promises.{Spelt, LookupIsRead}
-use Rattle.document.proofs.Filling.{tree-labels}
 use Rattle.document.proofs.Promises.{spelt}
 
 module _ {d w label start width : List ℕ} {names : List (List ℕ)} {f : Content} {rows row : ℕ} (g : GoodDictionary d names) (s : Spelt w label start width rows names f)
@@ -74,7 +71,7 @@ lookup-is-read d w _ _ _ _ _ _ _ _ p n row dAt wAt at bytes r l x = go r refl l 
         let s = spelt g v y u in
         let k : length (rowsOf f) ≡ _ = sym (length-map (rowsOf f) (λ (x : Row). x .spelling ⊲ [])) ∙ s .all in
         looked-up g s l
-        (begun (labels (treeOf names f)) label label' (u .label-is) (ap length (tree-labels names f) ∙ length-labels names (spellingsOf f) ∙ s .all) l)
+        (begun (labelsOf names (spellingsOf f)) label label' (u .label-is) (length-labels names (spellingsOf f) ∙ s .all) l)
         (begun (starts f) start start' (u .start-is) (length-map (rowsOf f) (λ (x : Row). x .start) ∙ k) l)
         (begun (lengths f) width width' (u .width-is) (length-map (rowsOf f) (λ (x : Row). # (x .spelling)) ∙ k) l)
         x

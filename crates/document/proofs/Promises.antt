@@ -6,12 +6,10 @@ use native.Mathlib.Omega.{arith}
 use lib.ListN.{length, getD, take, drop, length-map}
 use lib.Seq.{take-at}
 use Rattle.meaning.specs.Forest.{none, Term, _◂_}
-use Rattle.tree.specs.Good.{Good}
-use Rattle.tree.specs.Rows.{labels, sizes, depth}
+use Rattle.tree.specs.Rows.{Good, labels, sizes, depth}
 use Rattle.tree.proofs.Lists.{labels-rows, sizes-rows}
 use Rattle.grammar.specs.Grammar.{Bytes, _⊲_, Content, Document}
-use Rattle.grammar.specs.Tree.{shape}
-use Rattle.grammar.specs.Rows.{Row, rowsOf}
+use Rattle.grammar.specs.Rows.{shape, Row, rowsOf}
 use Rattle.grammar.proofs.Unique.{one-reading}
 use Rattle.grammar.proofs.Trees.{one-term, depth-is, shape-depth}
 use Rattle.judge.specs.Verdict.{Verdict}
@@ -21,11 +19,9 @@ use Rattle.dictionary.specs.Names.{GoodDictionary}
 use Rattle.dictionary.specs.Labels.{labelsOf}
 use Rattle.dictionary.proofs.Names.{good-unique}
 use Rattle.dictionary.proofs.Labels.{length-labels, label-below}
-use Rattle.document.specs.Labels.{spellingsOf, labelOf, treeOf}
-use Rattle.document.specs.Reading.{Unchanged, Written, Read, badDictionary, badDocument, noRoom, filled}
-use Rattle.document.specs.Checked.{Checked, bad, judged}
+use Rattle.document.specs.Reading.{spellingsOf, Unchanged, Written, Read, badDictionary, badDocument, noRoom, filled, Checked, bad, judged}
+use Rattle.document.proofs.Filling.{labelOf, treeOf, tree-labels, tree-sizes, rows-spell}
 use Rattle.document.specs.Promises.{CheckIsRead, TreeIsGood, Spelt, SpellingsInside}
-use Rattle.document.proofs.Filling.{tree-labels, rows-spell}
 use Rattle.document.proofs.Answers.{whole}
 
 -- ONE ANSWER
@@ -117,10 +113,13 @@ module _ {d w label size start width label' size' start' width' : List ℕ} {nam
   labels-n = length-labels names (spellingsOf f) ∙ spellings-n
 
   pub first-labels : take n label' ≡ labels (treeOf names f)
-  first-labels = ap (take n) (u .label-is) ∙ take-at (labels (treeOf names f)) _ n (ap length (tree-labels names f) ∙ labels-n)
+  first-labels = ap (take n) (u .label-is) ∙ take-at (labelsOf names (spellingsOf f)) _ n labels-n ∙ sym (tree-labels names f)
 
   pub first-sizes : take n size' ≡ sizes (treeOf names f)
-  first-sizes = ap (take n) (u .size-is) ∙ take-at (sizes (treeOf names f)) _ n (sizes-rows (treeOf names f) ∙ sym (labels-rows (treeOf names f)) ∙ ap length (tree-labels names f) ∙ labels-n)
+  first-sizes =
+      ap (take n) (u .size-is)
+      ∙ take-at (sizes (shape f)) _ n (ap length (tree-sizes names f) ∙ sizes-rows (treeOf names f) ∙ sym (labels-rows (treeOf names f)) ∙ ap length (tree-labels names f) ∙ labels-n)
+      ∙ tree-sizes names f
 
   deep : depth (treeOf names f) ≤ 64
   unfolding depth

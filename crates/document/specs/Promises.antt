@@ -3,14 +3,12 @@ use mathlib.Core.Path.{_≡_}
 use mathlib.Core.List.{List, []}
 use Prim.Native.Nat.{ℕ, _+_, _*_, _≤_, _<_}
 use lib.ListN.{length, getD, take, drop}
-use Rattle.tree.specs.Good.{Good}
+use Rattle.tree.specs.Rows.{Good}
 use Rattle.grammar.specs.Grammar.{Bytes, Content, Document}
 use Rattle.dictionary.specs.Names.{GoodDictionary}
 use Rattle.dictionary.specs.Labels.{labelsOf}
 use Rattle.dictionary.specs.Spelling.{SpellingAnswered}
-use Rattle.document.specs.Labels.{spellingsOf}
-use Rattle.document.specs.Reading.{Read, shortest}
-use Rattle.document.specs.Checked.{Checked}
+use Rattle.document.specs.Reading.{spellingsOf, Read, shortest, Checked}
 
 -- with room enough `read` does not give 6, and then `check` gives its code, place and rows
 abbrev pub CheckIsRead : Type 0

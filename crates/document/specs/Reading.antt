@@ -1,17 +1,21 @@
 -- 01, "From document to tree": "The reader answers code, place (0 unless the code is 3) and rows, and fills four lent lists: label, size, and
 -- the start and length of the row's spelling in the document." Codes 1 to 6 of "Numbers and order of checks"; 6: "rows don't fit the
 -- shortest of four lists". "The lowest that applies is given." "A refusal writes nothing."
+use mathlib.Core.List.{List, [], map}
+use Prim.Native.Nat.{ℕ, _≤_, _<_, min, _+_, _*_}
 use mathlib.Core.Path.{_≡_}
-use mathlib.Core.List.{List}
-use Prim.Native.Nat.{ℕ, _≤_, _<_, min}
 use lib.ListN.{length}
-use Rattle.tree.specs.Rows.{labels, sizes}
-use Rattle.grammar.specs.Grammar.{Bytes, Content, Document}
+use Rattle.grammar.specs.Grammar.{Bytes, _⊲_, Content, Document}
+use Rattle.grammar.specs.Rows.{shape, Row, rowsOf, starts, lengths}
+use Rattle.dictionary.specs.Labels.{labelsOf}
+use Rattle.tree.specs.Rows.{sizes}
 use Rattle.judge.specs.Verdict.{Verdict}
-use Rattle.document.specs.Labels.{treeOf}
-use Rattle.labels.specs.Filled.{Filled}
-use Rattle.rows.specs.Places.{starts, lengths}
+use Rattle.meaning.specs.Calls.{Filled}
 use Rattle.dictionary.specs.Names.{GoodDictionary}
+
+-- the spellings of a document's rows in preorder
+abbrev pub spellingsOf : Content → List (List ℕ)
+spellingsOf f = map (λ (x : Row). x .spelling ⊲ []) (rowsOf f)
 
 -- the four lists before and after; `width` is 01's length list, since `length` is that of a list
 pub record Unchanged (label size start width label' size' start' width' : List ℕ) : Type 0 where
@@ -21,8 +25,8 @@ pub record Unchanged (label size start width label' size' start' width' : List �
   pub width-kept : width' ≡ width
 
 pub record Written (names : List (List ℕ)) (f : Content) (label size start width label' size' start' width' : List ℕ) : Type 0 where
-  pub label-is : Filled (labels (treeOf names f)) label label'
-  pub size-is : Filled (sizes (treeOf names f)) size size'
+  pub label-is : Filled (labelsOf names (spellingsOf f)) label label'
+  pub size-is : Filled (sizes (shape f)) size size'
   pub start-is : Filled (starts f) start start'
   pub width-is : Filled (lengths f) width width'
 
@@ -41,3 +45,11 @@ pub data Read (d w label size start width label' size' start' width' : List ℕ)
   filled : {names : List (List ℕ)} {f : Content} {t : Bytes} {rows : ℕ} → GoodDictionary d names → Verdict w 0 0 rows →
       rows ≤ shortest label size start width → Document w f t → Written names f label size start width label' size' start' width' →
       Read d w label size start width label' size' start' width' 0 0 rows
+
+-- 01: "The site's server, written in C, calls a check of dictionary bytes and document bytes and gets one 64-bit number:
+-- code times 4,294,967,296 plus the place (code 3), the rows (code 0) or 0. It has no room limit, so it never gives 6."
+-- The place is 0 unless the code is 3, and the rows are 0 unless it is 0: so their sum is the one that counts
+pub data Checked (d w : List ℕ) : ℕ → Type 0 where
+  bad : ((names : List (List ℕ)) → GoodDictionary d names → ⊥) → Checked d w (1 * 4294967296)
+  judged : {names : List (List ℕ)} {code place rows : ℕ} → GoodDictionary d names → Verdict w code place rows →
+      Checked d w (code * 4294967296 + (place + rows))

@@ -2,11 +2,10 @@
 ghost use mathlib.Core.Path.{_≡_};
 ghost use mathlib.Core.List.{List};
 ghost use Prim.Native.Nat.{ℕ, _≤_, _<_};
-ghost use Rattle.meaning.specs.Says.{Says};
+ghost use Rattle.meaning.specs.Calls.{Says};
 ghost use Rattle.judge.specs.Verdict.{Verdict};
 ghost use Rattle.document.specs.Learnt.{MayRead};
-ghost use Rattle.document.specs.Reading.{Read};
-ghost use Rattle.document.specs.Checked.{Checked};
+ghost use Rattle.document.specs.Reading.{Read, Checked};
 use judge::Judged;
 use judge::codes::BAD_DICTIONARY;
 use judge::codes::MOST_BYTES;

@@ -7,9 +7,7 @@ use native.Mathlib.Nat.{add-assoc, add-zero, zero-add}
 use lib.ListN.{length, getD}
 use lib.Seq.{getD-append-add}
 use Rattle.expression.specs.Expression.{Expression, symbol, empty, concatenation, choice, repetition}
-use Rattle.expression.specs.Rows.{rows, preorder, sizeRows}
-use Rattle.expression.specs.Good.{GoodTable}
-use Rattle.expression.specs.Starts.{StartsAt}
+use Rattle.expression.specs.Rows.{rows, preorder, sizeRows, GoodTable, StartsAt}
 use Rattle.expression.proofs.Placed.{rows-positive, rows-many, total, all-many, Placed, Laid}
 use Rattle.expression.proofs.Table.{PlacedIn, kind-length, good-laid}
 use Rattle.expression.specs.Rule.{numberAt}

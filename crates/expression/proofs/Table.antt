@@ -6,8 +6,7 @@ use native.Mathlib.Numerals.{add-one}
 use native.Mathlib.Omega.{arith}
 use lib.ListN.{length}
 use Rattle.expression.specs.Expression.{Expression, symbol, empty, concatenation, choice, repetition}
-use Rattle.expression.specs.Rows.{kindOf, nameOf, rows}
-use Rattle.expression.specs.Good.{SymbolsFit, AllFit, GoodTable}
+use Rattle.expression.specs.Rows.{kindOf, nameOf, rows, SymbolsFit, AllFit, GoodTable}
 use Rattle.expression.specs.Rule.{leftOf, rightOf, sizeFrom, NameFits, SizeFits, numberAt}
 use Rattle.expression.proofs.Ways.{two-ways, three-ways}
 use Rattle.expression.proofs.Stands.{stands-self, stands-alone}

@@ -1,6 +1,3 @@
 pub mod Expression
-pub mod Language
 pub mod Rows
-pub mod Good
-pub mod Starts
 pub mod Rule

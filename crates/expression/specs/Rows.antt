@@ -1,7 +1,9 @@
 -- 01, "Patterns and constraints": "An expression table is three lists, kind, name, size, of whole expressions one after another
 -- (possibly none): 0 symbol, 1 empty, 2 concatenation of two, 3 choice of two, 4 repetition of one. Names of kinds 1 to 4 are 0."
 use mathlib.Core.List.{List, [], _∷_, _++_}
-use Prim.Native.Nat.{ℕ, suc, _+_}
+use Prim.Native.Nat.{ℕ, suc, _+_, _≤_, _<_}
+use mathlib.Core.Path.{_≡_}
+use lib.ListN.{length}
 use Rattle.expression.specs.Expression.{Expression, symbol, empty, concatenation, choice, repetition}
 
 abbrev pub kindOf : Expression → ℕ
@@ -47,3 +49,30 @@ nameRows es = allRows nameOf es
 
 abbrev pub sizeRows : List Expression → List ℕ
 sizeRows es = allRows rows es
+
+-- "first row of a top-level expression": e is one of es, and as many rows stand before it
+pub record StartsAt (es : List Expression) (e : Expression) (row : ℕ) : Type 0 where
+  pub before : List Expression
+  pub behind : List Expression
+  pub among : es ≡ before ++ (e ∷ behind)
+  pub place : row ≡ length (sizeRows before)
+
+-- 01, "Numbers and order of checks": "Expression table: equal lengths, 0 to 64 rows, symbols below 65,536."
+abbrev pub SymbolsFit : Expression → Type 0
+SymbolsFit (symbol f) = f < 65536
+SymbolsFit empty = Unit {0}
+SymbolsFit (concatenation a b) = SymbolsFit a × SymbolsFit b
+SymbolsFit (choice a b) = SymbolsFit a × SymbolsFit b
+SymbolsFit (repetition a) = SymbolsFit a
+
+abbrev pub AllFit : List Expression → Type 0
+AllFit [] = Unit {0}
+AllFit (e ∷ es) = SymbolsFit e × AllFit es
+
+-- the three lists are the rows of these expressions, within the limits
+pub record GoodTable (kind name size : List ℕ) (es : List Expression) : Type 0 where
+  pub kinds : kind ≡ kindRows es
+  pub names : name ≡ nameRows es
+  pub sizes : size ≡ sizeRows es
+  pub most : length kind ≤ 64
+  pub fit : AllFit es

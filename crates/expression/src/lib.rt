@@ -2,11 +2,9 @@ ghost use mathlib.Core.Path.{_≡_};
 ghost use mathlib.Core.List.{List};
 ghost use Prim.Native.Nat.{_<_, _≤_};
 ghost use lib.ListN.{length};
-ghost use Rattle.meaning.specs.Says.{Says};
+ghost use Rattle.meaning.specs.Calls.{Says};
 ghost use Rattle.expression.specs.Expression.{Expression};
-ghost use Rattle.expression.specs.Rows.{sizeRows};
-ghost use Rattle.expression.specs.Good.{GoodTable};
-ghost use Rattle.expression.specs.Starts.{StartsAt};
+ghost use Rattle.expression.specs.Rows.{sizeRows, GoodTable, StartsAt};
 ghost use Rattle.expression.specs.Rule.{numberAt, NameFits, SizeFits};
 
 pub mod kinds;

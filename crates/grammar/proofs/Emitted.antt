@@ -8,10 +8,10 @@ use lib.Dec.{eqb}
 use lib.ListN.{length, getD, take, drop, length-append, take-append-drop}
 use lib.Seq.{getD-append-seam}
 use Rattle.grammar.specs.Classes.{white, nameStart, nameByte}
-use Rattle.grammar.specs.Grammar.{Bytes, ε, Content, nothing, emptyElement, element, mayFollow, mayOpen, Document}
-use Rattle.grammar.specs.Tree.{inked}
-use Rattle.grammar.specs.Rows.{#, width, Row, row, leafRow, rowsFrom, rowsOf, ofElement, ofText}
-use Rattle.grammar.specs.Machine.{Open, State, dead, inRun, afterLess, inName, inSpace, afterSlash, inEndName, inEndSpace, level, endTag, tag, tail, step, runs, initial, At}
+use Rattle.grammar.specs.Grammar.{Bytes, ε, Content, nothing, emptyElement, element, Document}
+use Rattle.grammar.specs.Tokens.{mayOpen}
+use Rattle.grammar.specs.Machine.{mayFollow, Open, State, dead, inRun, afterLess, inName, inSpace, afterSlash, inEndName, inEndSpace, level, endTag, tag, tail, step, runs, initial, At}
+use Rattle.grammar.specs.Rows.{inked, #, width, Row, row, leafRow, rowsFrom, rowsOf, ofElement, ofText}
 use Rattle.grammar.proofs.Theory.{Live, by-cond, accepts, live-step, runs-append}
 use Rattle.grammar.proofs.Positions.{offO}
 

@@ -1,3 +1,4 @@
+pub mod InWords
 pub mod Theory
 pub mod Unique
 pub mod Trees
@@ -5,4 +6,3 @@ pub mod Positions
 pub mod Rows
 pub mod Emitted
 pub mod Told
-pub mod InWords

@@ -5,7 +5,8 @@ use mathlib.Core.List.{List, [], _∷_, _++_, append-nil}
 use Prim.Native.Nat.{ℕ, _+_, _*_, _≤_}
 use native.Mathlib.Omega.{arith}
 use lib.ListN.{length, take, length-take}
-use Rattle.grammar.specs.Grammar.{Bytes, ε, _▸_, _⊲_, Content, nothing, emptyElement, element, print, Name}
+use Rattle.grammar.specs.Grammar.{Bytes, ε, _▸_, _⊲_, Content, nothing, emptyElement, element, print}
+use Rattle.grammar.specs.Tokens.{ReadsName}
 use Rattle.grammar.specs.Rows.{#, width}
 use Rattle.grammar.specs.Machine.{Open, State, dead, inRun, afterLess, inName, inSpace, afterSlash, inEndName, inEndSpace, runs, initial, At}
 use Rattle.grammar.proofs.Theory.{GoodS, GoodO, Live, printS, printO, reads}
@@ -63,7 +64,7 @@ pos-is (inEndSpace p o f t h) l =
     len-printO (p ∷ o) (print f (t ⊲ 60 ∷ 47 ∷ (p .name ⊲ h ⊲ []))) ∙ simp (len-⊲, len-print f (t ⊲ 60 ∷ 47 ∷ (p .name ⊲ h ⊲ []))) (omega arith)
 
 -- each open element took three bytes or more: so a stack for n bytes has n / 3 places
-name-some : (n : Bytes) → Name n → 1 ≤ # n
+name-some : (n : Bytes) → ReadsName n → 1 ≤ # n
 name-some ε h = absurd (true≢false (sym (h .1)))
 name-some (s ▸ b) h = omega arith
 

@@ -9,8 +9,7 @@ use lib.Seq.{take-at, drop-at}
 use Rattle.meaning.specs.Forest.{Forest, none, some}
 use Rattle.tree.specs.Rows.{labels}
 use Rattle.grammar.specs.Grammar.{Bytes, _⊲_, Content, nothing, emptyElement, element, print, Document}
-use Rattle.grammar.specs.Tree.{inked, leaf, forest}
-use Rattle.grammar.specs.Rows.{#, width, Kind, ofElement, ofText, Row, row, leafRow, rowsFrom, rowsOf}
+use Rattle.grammar.specs.Rows.{inked, leaf, forest, #, width, Kind, ofElement, ofText, Row, row, leafRow, rowsFrom, rowsOf}
 use Rattle.grammar.proofs.Theory.{⊲-append}
 use Rattle.grammar.proofs.Positions.{len-⊲, len-print}
 

@@ -9,9 +9,10 @@ use lib.Seq.{take-length}
 use lib.Dec.{eqb}
 use borrow.Author.Tests.{eqb-true, eq-eqb}
 use Rattle.grammar.specs.Classes.{white, nameStart, nameByte, text, classOf}
-use Rattle.grammar.specs.Grammar.{Bytes, ε, _▸_, _⊲_, Content, nothing, emptyElement, element, print, White, Name, Run, mayFollow, Level, outer, inner, mayOpen, WellFormed, Document}
-use Rattle.grammar.specs.Place.{Begins, OutsideAt}
-use Rattle.grammar.specs.Machine.{Open, State, dead, inRun, afterLess, inName, inSpace, afterSlash, inEndName, inEndSpace, level, endTag, tag, tail, step, runs, initial, Final}
+use Rattle.grammar.specs.Grammar.{Bytes, ε, _▸_, _⊲_, Content, nothing, emptyElement, element, print, Document, Opening, OutsideAt}
+use Rattle.grammar.specs.Tokens.{ReadsWhite, ReadsName, Run, Level, outer, inner, mayOpen, WellFormed}
+use Rattle.grammar.proofs.InWords.{white-reads, reads-white, root-formed, root-one, formed-root}
+use Rattle.grammar.specs.Machine.{mayFollow, Open, State, dead, inRun, afterLess, inName, inSpace, afterSlash, inEndName, inEndSpace, level, endTag, tag, tail, step, runs, initial, Final}
 
 -- what a state has read, and what follows it
 abbrev pub printO : List Open → List ℕ → List ℕ
@@ -30,7 +31,7 @@ printS (inEndSpace p o f t h) v = printO (p ∷ o) (print f (t ⊲ 60 ∷ 47 ∷
 
 -- what stands before a tag that may open an element, and its name and white space
 abbrev pub GoodTag : Level → Content → Bytes → Bytes → Bytes → Type 0
-GoodTag k f t n g = WellFormed k f × Run k t × (mayOpen k f ≡ true) × Name n × White g
+GoodTag k f t n g = WellFormed k f × Run k t × (mayOpen k f ≡ true) × ReadsName n × ReadsWhite g
 
 abbrev pub GoodO : List Open → Type 0
 GoodO [] = Unit {0}
@@ -44,7 +45,7 @@ GoodS (inName o f t n) = GoodO o × GoodTag (level o) f t n ε
 GoodS (inSpace o f t n g) = GoodO o × GoodTag (level o) f t n g
 GoodS (afterSlash o f t n g) = GoodO o × GoodTag (level o) f t n g
 GoodS (inEndName p o f t m r) = GoodO (p ∷ o) × WellFormed inner f × Run inner t × (m ⊲ r ≡ p .name ⊲ [])
-GoodS (inEndSpace p o f t h) = GoodO (p ∷ o) × WellFormed inner f × Run inner t × White h
+GoodS (inEndSpace p o f t h) = GoodO (p ∷ o) × WellFormed inner f × Run inner t × ReadsWhite h
 
 abbrev pub Live : State → Type 0
 Live dead = ⊥
@@ -72,7 +73,7 @@ pub ⊲-append : (s : Bytes) (v w : List ℕ) → (s ⊲ v) ++ w ≡ s ⊲ (v ++
 ⊲-same : (s t : Bytes) (v : List ℕ) → s ⊲ [] ≡ t ⊲ [] → s ⊲ v ≡ t ⊲ v
 ⊲-same s t v e = sym (⊲-append s [] v) ∙ ap (λ (l : List ℕ). l ++ v) e ∙ ⊲-append t [] v
 
-name-more : (n : Bytes) (b : ℕ) → Name n → nameByte b ≡ true → Name (n ▸ b)
+name-more : (n : Bytes) (b : ℕ) → ReadsName n → nameByte b ≡ true → ReadsName (n ▸ b)
 name-more ε b h e = absurd (true≢false (sym (h .1)))
 name-more (s ▸ a) b h e = ((h .0, e), refl)
 
@@ -179,18 +180,18 @@ run-read : (o : List Open) (f : Content) (t : Bytes) (v : List ℕ) → Run (lev
 run-read o f ε v h = refl
 run-read o f (t ▸ b) v h = run-read o f t (b ∷ v) (h .0) ∙ simp (not-less (level o) t b (h .1), h .1)
 
-name-read : (o : List Open) (f : Content) (t n : Bytes) (v : List ℕ) → Name n → runs (afterLess o f t) (n ⊲ v) ≡ runs (inName o f t n) v
+name-read : (o : List Open) (f : Content) (t n : Bytes) (v : List ℕ) → ReadsName n → runs (afterLess o f t) (n ⊲ v) ≡ runs (inName o f t n) v
 name-read o f t ε v h = absurd (true≢false (sym (h .1)))
 name-read o f t (ε ▸ b) v h = then (afterLess o f t) (inName o f t (ε ▸ b)) b v (simp (h .0 .1))
 name-read o f t (s ▸ a ▸ b) v h = name-read o f t (s ▸ a) (b ∷ v) (h .0 .0, refl) ∙ simp (h .0 .1)
 
-gap-read : (o : List Open) (f : Content) (t n s : Bytes) (b : ℕ) (v : List ℕ) → White (s ▸ b) →
+gap-read : (o : List Open) (f : Content) (t n s : Bytes) (b : ℕ) (v : List ℕ) → ReadsWhite (s ▸ b) →
     runs (inName o f t n) ((s ▸ b) ⊲ v) ≡ runs (inSpace o f t n (s ▸ b)) v
 gap-read o f t n ε b v h = then (inName o f t n) (inSpace o f t n (ε ▸ b)) b v (simp (white-no-name b (h .1), h .1))
 gap-read o f t n (s ▸ a) b v h = gap-read o f t n s a (b ∷ v) (h .0) ∙ simp (h .1)
 
 -- a start tag's end: the white space and the byte that follows it
-tag-read : (o : List Open) (f : Content) (t n g : Bytes) (b : ℕ) (v : List ℕ) → White g → nameByte b ≡ false →
+tag-read : (o : List Open) (f : Content) (t n g : Bytes) (b : ℕ) (v : List ℕ) → ReadsWhite g → nameByte b ≡ false →
     runs (inName o f t n) (g ⊲ b ∷ v) ≡ runs (tag o f t n g b) v
 tag-read o f t n ε b v h e = then (inName o f t n) (tag o f t n ε b) b v (simp e)
 tag-read o f t n (s ▸ a) b v h e = gap-read o f t n s a (b ∷ v) h
@@ -200,12 +201,12 @@ end-read : (p : Open) (o : List Open) (f : Content) (t n : Bytes) (r v : List �
 end-read p o f t ε r v = refl
 end-read p o f t (n ▸ b) r v = end-read p o f t n (b ∷ r) (b ∷ v) ∙ simp (eq-eqb b b refl)
 
-tail-gap : (p : Open) (o : List Open) (f : Content) (t m s : Bytes) (b : ℕ) (v : List ℕ) → White (s ▸ b) →
+tail-gap : (p : Open) (o : List Open) (f : Content) (t m s : Bytes) (b : ℕ) (v : List ℕ) → ReadsWhite (s ▸ b) →
     runs (inEndName p o f t m []) ((s ▸ b) ⊲ v) ≡ runs (inEndSpace p o f t (s ▸ b)) v
 tail-gap p o f t m ε b v h = then (inEndName p o f t m []) (inEndSpace p o f t (ε ▸ b)) b v (simp (h .1))
 tail-gap p o f t m (s ▸ a) b v h = tail-gap p o f t m s a (b ∷ v) (h .0) ∙ simp (h .1)
 
-tail-read : (p : Open) (o : List Open) (f : Content) (t m h : Bytes) (b : ℕ) (v : List ℕ) → White h →
+tail-read : (p : Open) (o : List Open) (f : Content) (t m h : Bytes) (b : ℕ) (v : List ℕ) → ReadsWhite h →
     runs (inEndName p o f t m []) (h ⊲ b ∷ v) ≡ runs (tail p o f t h b) v
 tail-read p o f t m ε b v k = refl
 tail-read p o f t m (s ▸ a) b v k = tail-gap p o f t m s a (b ∷ v) k
@@ -235,7 +236,7 @@ content-read o (element f t n g i l k) v h =
 -- THE MACHINE ACCEPTS EXACTLY THE DOCUMENTS, with their content
 pub accepts : {w : List ℕ} {f : Content} {t : Bytes} → Document w f t → runs initial w ≡ inRun [] f t
 accepts {w} {f} {t} d =
-    ap (runs initial) (d .printed) ∙ content-read [] f (t ⊲ []) (d .wellFormed) ∙ run-read [] f t [] (d .after)
+    ap (runs initial) (d .printed) ∙ content-read [] f (t ⊲ []) (root-formed f (d .root)) ∙ run-read [] f t [] (white-reads t (d .after))
 
 pub accepted : (w : List ℕ) → Final (runs initial w) → (f : Content) × (t : Bytes) × Document w f t
 accepted w h = go (runs initial w) refl h
@@ -246,7 +247,7 @@ accepted w h = go (runs initial w) refl h
         let r : GoodS (runs initial w) × ((u : List ℕ) → printS (runs initial w) u ≡ w ++ u) = reads initial w (tt, tt, tt) (rw e tt) in
         let g : GoodS (inRun [] f t) = rw e at (r .0) in
         let q : printS (inRun [] f t) [] ≡ w ++ [] = rw e at (r .1 []) in
-        (f, t, record { printed = sym (append-nil w) ∙ sym q; wellFormed = g .1; after = g .2; one = k })
+        (f, t, record { printed = sym (append-nil w) ∙ sym q; root = formed-root f (g .1) k; after = reads-white t (g .2) })
     go (inRun (p ∷ o) f t) e k = absurd k
     go (afterLess o f t) e k = absurd k
     go (inName o f t n) e k = absurd k
@@ -292,10 +293,10 @@ completes (inEndName p o f t m r) l = after (inEndName p o f t m r) (inRun o (el
 completes (inEndSpace p o f t g) l = after (inEndSpace p o f t g) (inRun o (element (p .before) (p .run) (p .name) (p .space) f t g) ε) (62 ∷ []) refl (complete-run o (element (p .before) (p .run) (p .name) (p .space) f t g) ε)
 
 -- WHERE THE MACHINE LIVES, AND ONLY THERE, A DOCUMENT MAY GO ON
-pub lives : (u : List ℕ) → Begins u → Live (runs initial u)
+pub lives : (u : List ℕ) → Opening u → Live (runs initial u)
 lives u h = live-step (runs initial u) (h .0) (rw (← (runs-append initial u (h .0)), accepts (h .3)) tt)
 
-pub begins : (u : List ℕ) → Live (runs initial u) → Begins u
+pub begins : (u : List ℕ) → Live (runs initial u) → Opening u
 begins u l =
     let c : Completes (runs initial u) = completes (runs initial u) l in
     let d : (f : Content) × (t : Bytes) × Document (u ++ c .0) f t = accepted (u ++ c .0) (rw (runs-append initial u (c .0)) (c .1)) in
@@ -315,5 +316,5 @@ ends-early w l n = record {
   within = omega arith;
   before = rw take-length (begins w l);
   there = λ k. absurd (omega arith);
-  early = λ f t k. n (rw (accepts k) (k .one));
+  early = λ f t k. n (rw (accepts k) (root-one f (k .root)));
 }

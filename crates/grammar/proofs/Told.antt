@@ -6,10 +6,20 @@ use Prim.Native.Nat.{ℕ, suc, _+_, _-_, _<_}
 use native.Mathlib.Omega.{arith}
 use lib.ListN.{length, getD}
 use lib.Seq.{getD-append-seam}
-use Rattle.grammar.specs.Grammar.{Bytes, ε, _▸_, _⊲_, Content, nothing, emptyElement, element, print, Level, outer, inner, Run, WellFormed, Document}
-use Rattle.grammar.specs.Tree.{inked}
-use Rattle.grammar.specs.Rows.{#, width, ofElement, ofText, Row, row, leafRow, rowsFrom, rowsOf, Preceded, before}
+use Rattle.grammar.specs.Grammar.{Bytes, ε, _▸_, _⊲_, less, greater, Content, nothing, emptyElement, element, print, Document}
+use Rattle.grammar.specs.Tokens.{Level, outer, inner, Run, WellFormed}
+use Rattle.grammar.specs.Rows.{inked, #, width, Kind, ofElement, ofText, Row, row, leafRow, rowsFrom, rowsOf}
+use Rattle.grammar.proofs.InWords.{root-formed}
 use Rattle.grammar.proofs.Rows.{All, Stands, behind-byte, behind-bytes, behind-content}
+
+-- the byte before a row's spelling tells what the row is of: it is the < of an element's tag, or the > of the tag before a text
+abbrev pub before : Kind → ℕ
+before ofElement = less
+before ofText = greater
+
+pub record Preceded (w : List ℕ) (x : Row) : Type 0 where
+  pub some : 0 < x .start
+  pub is : getD w (x .start - 1) 0 ≡ before (x .kind)
 
 -- the byte before a is a >
 record Ended (w : List ℕ) (a : ℕ) : Type 0 where
@@ -75,7 +85,7 @@ module _ (w : List ℕ) where
       ))
 
 pub rows-told : {w : List ℕ} {f : Content} {t : Bytes} → Document w f t → All (Preceded w) (rowsOf f)
-rows-told {w} {f} {t} d = told-on w outer 1 0 f (t ⊲ []) [] (d .wellFormed) (record { before = []; is = d .printed; long = refl }) (λ q. absurd (apart q)) tt
+rows-told {w} {f} {t} d = told-on w outer 1 0 f (t ⊲ []) [] (root-formed f (d .root)) (record { before = []; is = d .printed; long = refl }) (λ q. absurd (apart q)) tt
   where
     apart : outer ≡ inner → ⊥
     apart q = true≢false (ap is-outer q)

@@ -6,8 +6,10 @@ use Prim.Native.Nat.{ℕ, suc, _+_, _≤_, max}
 use native.Mathlib.Omega.{arith}
 use Rattle.meaning.specs.Forest.{Forest, none, some, rows, Term, term, _◂_}
 use Rattle.tree.specs.Rows.{depth}
-use Rattle.grammar.specs.Grammar.{Bytes, ε, _▸_, Content, nothing, emptyElement, element, Run, outer, WellFormed, noElement, Document}
-use Rattle.grammar.specs.Tree.{inked, leaf, forest, shape}
+use Rattle.grammar.specs.Grammar.{Bytes, ε, _▸_, Content, nothing, emptyElement, element, Document}
+use Rattle.grammar.specs.Tokens.{Run, outer, WellFormed, noElement}
+use Rattle.grammar.proofs.InWords.{root-formed, root-one}
+use Rattle.grammar.specs.Rows.{inked, leaf, forest, shape}
 
 unfoldable pub leafRows : Bytes → ℕ
 leafRows t = cond (inked t) 1 0
@@ -105,7 +107,7 @@ white-run (t ▸ b) h = simp (h .1) (white-run t (h .0))
 
 pub one-term : (label : Bytes → ℕ) {w : List ℕ} {f : Content} {t : Bytes} → Document w f t → (T : Term) × (forest label f none ≡ (T ◂ none))
 unfolding forest
-one-term label {w} {f} {t} d = go f (d .wellFormed) (d .one)
+one-term label {w} {f} {t} d = go f (root-formed f (d .root)) (root-one f (d .root))
   where
     go : (f : Content) → WellFormed outer f → noElement f ≡ false → (T : Term) × (forest label f none ≡ (T ◂ none))
     go nothing h e = absurd (true≢false e)

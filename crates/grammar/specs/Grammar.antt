@@ -4,13 +4,36 @@
 --   document ::= S? element S?        element ::= '<' Name S? '/>' | '<' Name S? '>' content '</' Name S? '>'
 --   content ::= CharData? (element CharData?)*
 use mathlib.Core.Path.{_≡_}
-use mathlib.Core.Bool.{Bool, true, false}
-use mathlib.Core.List.{List, [], _∷_}
-use Prim.Native.Nat.{ℕ}
-use lib.Dec.{eqb}
+use mathlib.Core.Bool.{true}
+use mathlib.Core.List.{List, [], _∷_, _++_}
+use Prim.Native.Nat.{ℕ, suc, _≤_, _<_}
+use lib.ListN.{length, take}
 use Rattle.grammar.specs.Classes.{white, nameStart, nameByte, text}
-use Rattle.grammar.specs.Tokens.{Automaton, after, Reads, Token, spaces, names, texts}
-pub use Rattle.grammar.specs.Bytes.{Bytes, ε, _▸_, _⊲_, less, greater, slash}
+
+infixl 60 _▸_
+-- bytes in the order in which they stand, grown at the right
+pub data Bytes : Type 0 where
+  ε : Bytes
+  _▸_ : Bytes → ℕ → Bytes
+
+infixr 50 _⊲_
+-- the bytes, and what follows them
+abbrev pub _⊲_ : Bytes → List ℕ → List ℕ
+ε ⊲ v = v
+(s ▸ b) ⊲ v = s ⊲ (b ∷ v)
+
+-- the bytes that markup is made of, and the one that may not stand twice before its >
+abbrev pub less : ℕ
+less = 60
+
+abbrev pub greater : ℕ
+greater = 62
+
+abbrev pub slash : ℕ
+slash = 47
+
+abbrev pub bracket : ℕ
+bracket = 93
 
 -- runs and elements in turn, up to the last element; the run behind it stands beside
 pub data Content : Type 0 where
@@ -25,57 +48,47 @@ print nothing v = v
 print (emptyElement f t n g) v = print f (t ⊲ less ∷ (n ⊲ g ⊲ slash ∷ greater ∷ v))
 print (element f t n g i l h) v = print f (t ⊲ less ∷ (n ⊲ g ⊲ greater ∷ print i (l ⊲ less ∷ slash ∷ (n ⊲ h ⊲ greater ∷ v))))
 
--- the subset's tokens, by 01's classes
-abbrev pub spaceToken : Automaton
-spaceToken = spaces white
-
-abbrev pub nameToken : Automaton
-nameToken = names nameStart nameByte
-
+-- the three kinds of tokens, by 01's classes
 abbrev pub White : Bytes → Type 0
-White s = Reads spaceToken s
+White ε = Unit {0}
+White (s ▸ b) = White s × (white b ≡ true)
 
 abbrev pub Name : Bytes → Type 0
-Name s = Token nameToken s
+Name ε = ⊥
+Name (ε ▸ b) = nameStart b ≡ true
+Name (s ▸ a ▸ b) = Name (s ▸ a) × (nameByte b ≡ true)
 
--- outside the root element only white space may stand; inside, text without "]]>"
-pub data Level : Type 0 where
-  outer inner : Level
+abbrev pub Text : Bytes → Type 0
+Text ε = Unit {0}
+Text (s ▸ b) = Text s × (text b ≡ true) × ((u : Bytes) → s ▸ b ≡ u ▸ bracket ▸ bracket ▸ greater → ⊥)
 
-abbrev pub runToken : Level → Automaton
-runToken outer = spaceToken
-runToken inner = texts text
+-- inside an element: text and elements in turn
+abbrev pub Inside : Content → Type 0
+Inside nothing = Unit {0}
+Inside (emptyElement f t n g) = Inside f × Text t × Name n × White g
+Inside (element f t n g i l h) = Inside f × Text t × Name n × White g × Inside i × Text l × White h
 
--- behind the bytes s of a run
-abbrev pub mayFollow : Level → Bytes → ℕ → Bool
-mayFollow k s b = runToken k .goes (after (runToken k) s) b
-
-abbrev pub Run : Level → Bytes → Type 0
-Run k s = Reads (runToken k) s
-
--- the bytes of a text end with "]]"
-abbrev pub brackets : Bytes → Bool
-brackets s = eqb (after (runToken inner) s) 2
-
-abbrev pub noElement : Content → Bool
-noElement nothing = true
-noElement (emptyElement f t n g) = false
-noElement (element f t n g i l h) = false
-
--- outside there is one element only
-abbrev pub mayOpen : Level → Content → Bool
-mayOpen outer f = noElement f
-mayOpen inner f = true
-
-abbrev pub WellFormed : Level → Content → Type 0
-WellFormed k nothing = Unit {0}
-WellFormed k (emptyElement f t n g) = WellFormed k f × Run k t × (mayOpen k f ≡ true) × Name n × White g
-WellFormed k (element f t n g i l h) =
-    (WellFormed k f × Run k t × (mayOpen k f ≡ true) × Name n × White g) × WellFormed inner i × Run inner l × White h
+-- white space and one element
+abbrev pub Root : Content → Type 0
+Root nothing = ⊥
+Root (emptyElement f s n g) = (f ≡ nothing) × White s × Name n × White g
+Root (element f s n g i l h) = (f ≡ nothing) × White s × Name n × White g × Inside i × Text l × White h
 
 -- the bytes w are a document of the subset: white space and one element, which are f, and the white space t
 pub record Document (w : List ℕ) (f : Content) (t : Bytes) : Type 0 where
   pub printed : w ≡ print f (t ⊲ [])
-  pub wellFormed : WellFormed outer f
-  pub after : Run outer t
-  pub one : noElement f ≡ false
+  pub root : Root f
+  pub after : White t
+
+-- some document begins with the bytes u
+abbrev pub Opening : List ℕ → Type 0
+Opening u = (v : List ℕ) × (f : Content) × (t : Bytes) × Document (u ++ v) f t
+
+-- 01, "Numbers and order of checks", code 3: "not in the subset; place: first byte that no subset document could have after the bytes
+-- before it, or the length if it ends early". w is no document; some document begins with the bytes before p, and none with these
+-- and the byte at p, if w has one there.
+pub record OutsideAt (w : List ℕ) (p : ℕ) : Type 0 where
+  pub within : p ≤ length w
+  pub before : Opening (take p w)
+  pub there : p < length w → Opening (take (suc p) w) → ⊥
+  pub early : (f : Content) (t : Bytes) → Document w f t → ⊥

@@ -1,11 +1,20 @@
 -- Not needed to believe the promise: a machine that reads the subset byte by byte; its state is what it has read.
 use mathlib.Core.Path.{_≡_}
-use mathlib.Core.Bool.{false, cond}
+use mathlib.Core.Bool.{Bool, false, cond}
 use mathlib.Core.List.{List, [], _∷_}
 use Prim.Native.Nat.{ℕ, _≤_}
 use lib.Dec.{eqb}
 use lib.ListN.{length, take}
-use Rattle.grammar.specs.Grammar.{Bytes, ε, _▸_, _⊲_, less, greater, slash, Content, nothing, emptyElement, element, spaceToken, nameToken, mayFollow, Level, outer, inner, noElement, mayOpen}
+use Rattle.grammar.specs.Grammar.{Bytes, ε, _▸_, _⊲_, less, greater, slash, Content, nothing, emptyElement, element}
+use Rattle.grammar.specs.Tokens.{spaceToken, nameToken, runToken, Level, outer, inner, noElement, mayOpen, after}
+
+-- behind the bytes s of a run
+abbrev pub mayFollow : Level → Bytes → ℕ → Bool
+mayFollow k s b = runToken k .goes (after (runToken k) s) b
+
+-- the bytes of a text end with "]]"
+abbrev pub brackets : Bytes → Bool
+brackets s = eqb (after (runToken inner) s) 2
 
 -- an open element: what stands before it at its level, and its start tag
 pub record Open : Type 0 where

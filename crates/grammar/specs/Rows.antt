@@ -1,12 +1,31 @@
--- 01, "From document to tree": "A tree is two lists of numbers in preorder", and beside them "the start and length of the row's spelling in
--- the document". "a row deeper than 64 (root is 1; dropped text is no row)".
-use mathlib.Core.Path.{_≡_}
-use mathlib.Core.Bool.{cond}
-use mathlib.Core.List.{List, [], _∷_}
-use Prim.Native.Nat.{ℕ, suc, _+_, _-_, _<_}
-use lib.ListN.{getD}
-use Rattle.grammar.specs.Grammar.{Bytes, ε, _▸_, less, greater, Content, nothing, emptyElement, element}
-use Rattle.grammar.specs.Tree.{inked}
+-- 01, "From document to tree": the tree of a document, and for each of its rows "the start and length of the row's spelling in the document".
+-- "A run is all text between two neighbouring tags; one of white space only is dropped, another becomes a
+-- leaf, bytes kept. As in 000, an element and a text of equal spelling have the same label." So a label is a function of the spelling.
+use mathlib.Core.Bool.{Bool, true, false, cond}
+use Prim.Native.Nat.{ℕ, suc, _+_}
+use mathlib.Core.List.{List, [], _∷_, map}
+use Rattle.meaning.specs.Forest.{Forest, none, some}
+use Rattle.grammar.specs.Classes.{white}
+use Rattle.grammar.specs.Grammar.{Bytes, ε, _▸_, Content, nothing, emptyElement, element}
+
+-- not white space only
+abbrev pub inked : Bytes → Bool
+inked ε = false
+inked (s ▸ b) = cond (white b) (inked s) true
+
+-- the leaf of a run, if it is not dropped, and then r
+abbrev pub leaf : (Bytes → ℕ) → Bytes → Forest → Forest
+leaf label t r = cond (inked t) (some (label t) none r) r
+
+-- the terms of the content, and then r
+unfoldable pub forest : (Bytes → ℕ) → Content → Forest → Forest
+forest label nothing r = r
+forest label (emptyElement f t n g) r = forest label f (leaf label t (some (label n) none r))
+forest label (element f t n g i l h) r = forest label f (leaf label t (some (label n) (forest label i (leaf label l none)) r))
+
+-- a document's tree but for its labels
+abbrev pub shape : Content → Forest
+shape f = forest (λ s. 0) f none
 
 -- how many bytes
 abbrev pub # : Bytes → ℕ
@@ -50,11 +69,8 @@ rowsFrom k a (element f t n g i l h) r =
 abbrev pub rowsOf : Content → List Row
 rowsOf f = rowsFrom 1 0 f []
 
--- the byte before a row's spelling tells what the row is of: it is the < of an element's tag, or the > of the tag before a text
-abbrev pub before : Kind → ℕ
-before ofElement = less
-before ofText = greater
+abbrev pub starts : Content → List ℕ
+starts f = map (λ (x : Row). x .start) (rowsOf f)
 
-pub record Preceded (w : List ℕ) (x : Row) : Type 0 where
-  pub some : 0 < x .start
-  pub is : getD w (x .start - 1) 0 ≡ before (x .kind)
+abbrev pub lengths : Content → List ℕ
+lengths f = map (λ (x : Row). # (x .spelling)) (rowsOf f)

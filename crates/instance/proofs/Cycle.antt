@@ -7,8 +7,7 @@ use lib.ListN.{length, getD}
 use native.Mathlib.Omega.{arith}
 use Rattle.meaning.specs.Forest.{Forest, none, _◂_, rows, _⊕_}
 use Rattle.meaning.specs.Pattern.{Patterns, Kind}
-use Rattle.meaning.specs.Value.{at, asForest, asContext}
-use Rattle.meaning.specs.Apply.{apply, applyAll}
+use Rattle.meaning.specs.Matcher.{at, asForest, asContext, apply, applyAll}
 use Rattle.meaning.proofs.Laws.{rows-of}
 use Rattle.pattern.specs.Places.{PatternsAt}
 use Rattle.instance.specs.Places.{Ground, meant, Room, Written}

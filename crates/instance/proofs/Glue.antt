@@ -8,8 +8,7 @@ use lib.Seq.{sets}
 use native.Mathlib.Omega.{arith}
 use Rattle.meaning.specs.Forest.{Forest, none, Term, term, _◂_, rows, size, _⊕_, Context, hole, node, plug, holeRow}
 use Rattle.meaning.specs.Pattern.{Pattern, individual, context, Patterns, nil, cons, sequence, Kind, anIndividual, aSequence, aContext}
-use Rattle.meaning.specs.Value.{Value, at, asSymbol}
-use Rattle.meaning.specs.Apply.{apply, applyAll}
+use Rattle.meaning.specs.Matcher.{Value, at, asSymbol, apply, applyAll}
 use Rattle.meaning.proofs.Laws.{rows-of}
 use Rattle.tree.specs.Rows.{labels, sizes}
 use Rattle.tree.proofs.Lists.{labels-rows, sizes-rows}

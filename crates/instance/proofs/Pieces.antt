@@ -7,7 +7,7 @@ use lib.Seq.{sets}
 use native.Mathlib.Omega.{arith}
 use Rattle.meaning.specs.Forest.{Forest, none, Term, _◂_, rows, size, plug, holeRow}
 use Rattle.meaning.specs.Pattern.{Kind, anIndividual, aSequence, aContext}
-use Rattle.meaning.specs.Value.{at, asTerm, asForest, asContext}
+use Rattle.meaning.specs.Matcher.{at, asTerm, asForest, asContext}
 use Rattle.tree.specs.Rows.{labels, sizes}
 use Rattle.tree.specs.Places.{TermsAt}
 use Rattle.tree.specs.Helpers.{PastPost}

@@ -8,17 +8,15 @@ use native.Mathlib.Omega.{arith}
 use native.Mathlib.Decide.{ℕ-discrete}
 use Rattle.meaning.specs.Forest.{none, Term, _◂_, rows, size}
 use Rattle.meaning.specs.Pattern.{Pattern, Kind}
-use Rattle.meaning.specs.Value.{Value}
-use Rattle.meaning.specs.Apply.{apply}
+use Rattle.meaning.specs.Matcher.{Value, apply}
 use Rattle.meaning.specs.Read.{readOff}
-use Rattle.meaning.specs.Matcher.{IsRecord}
-use Rattle.meaning.specs.Lowest.{accept}
+use Rattle.meaning.specs.Record.{IsRecord}
+use Rattle.meaning.specs.Calls.{accept}
 use Rattle.meaning.proofs.OneCode.{one-refuse, one-accept}
 use Rattle.meaning.proofs.Round.{round, round-good}
-use Rattle.tree.specs.Rows.{labels, sizes}
-use Rattle.tree.specs.Good.{GoodTree}
+use Rattle.tree.specs.Rows.{labels, sizes, GoodTree}
 use Rattle.tree.proofs.Unique.{good-lengths}
-use Rattle.pattern.specs.Good.{GoodPattern}
+use Rattle.pattern.specs.Rows.{GoodPattern}
 use Rattle.instance.specs.declared.Made.{Made}
 use Rattle.instance.specs.declared.Made.the-variants.{Refused, Rows}
 use Rattle.instance.specs.Instance.{codeGiven, rowsGiven, Lists, Instance, Codes, Settled}

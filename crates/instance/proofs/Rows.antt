@@ -6,7 +6,7 @@ use lib.ListN.{length, getD}
 use native.Mathlib.Omega.{arith}
 use Rattle.meaning.specs.Forest.{none, Term, term}
 use Rattle.meaning.specs.Pattern.{Kind, anIndividual, aSequence, aFunction, aContext}
-use Rattle.meaning.specs.Value.{Value, at, asContext}
+use Rattle.meaning.specs.Matcher.{Value, at, asContext}
 use Rattle.tree.specs.Helpers.{PastPre, PastPost}
 use Rattle.tree.proofs.Terms.{terms-end, terms-le, terms-rows, term-next}
 use Rattle.pattern.specs.Rows.{code}

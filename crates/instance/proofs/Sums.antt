@@ -7,8 +7,7 @@ use native.Mathlib.Omega.{arith}
 use native.Mathlib.Decide.{decLt, ℕ-discrete}
 use Rattle.meaning.specs.Forest.{Forest, Term, _◂_, rows, size, _⊕_, Context, hole, node, plug}
 use Rattle.meaning.specs.Pattern.{Pattern, Patterns, Kind, anIndividual, aSequence, aFunction, aContext}
-use Rattle.meaning.specs.Value.{Value, at, asTerm, asForest, asContext}
-use Rattle.meaning.specs.Apply.{apply, applyAll}
+use Rattle.meaning.specs.Matcher.{Value, at, asTerm, asForest, asContext, apply, applyAll}
 use Rattle.meaning.proofs.Laws.{rows-of}
 use Rattle.pattern.specs.Rows.{code}
 use Rattle.pattern.specs.Places.{Variable, PatternAt, at-symbol, at-individual, at-function, at-context, PatternsAt, at-nil, at-cons, at-sequence}

@@ -7,9 +7,8 @@ use native.Mathlib.Omega.{arith}
 use native.Mathlib.Decide.{decLt}
 use Rattle.meaning.specs.Forest.{Forest, Term, rows, Context, holeRow}
 use Rattle.meaning.specs.Pattern.{Kind, anIndividual, aSequence, aFunction, aContext, old, look}
-use Rattle.meaning.specs.Value.{Value, given as valueOf, at, asTerm, asForest, asSymbol, asContext}
-use Rattle.meaning.specs.Read.{fromRow, headTerm, valueAt, readOff}
-use Rattle.meaning.specs.GoodRecord.{Fits, GoodRecord}
+use Rattle.meaning.specs.Matcher.{Value, given as valueOf, at, asTerm, asForest, asSymbol, asContext}
+use Rattle.meaning.specs.Read.{fromRow, headTerm, valueAt, readOff, Fits, GoodRecord}
 use Rattle.meaning.proofs.Lists.{look-old}
 use Rattle.meaning.proofs.Laws.{no-rows, cut-holds}
 use Rattle.meaning.proofs.From.{from-past}

@@ -7,17 +7,14 @@ use mathlib.Core.List.{List}
 use lib.ListN.{length, getD}
 use native.Mathlib.Omega.{arith}
 use Rattle.meaning.specs.Forest.{none, Term, _◂_, rows, size}
-use Rattle.meaning.specs.Apply.{apply}
+use Rattle.meaning.specs.Matcher.{apply}
 use Rattle.meaning.specs.Read.{readOff}
-use Rattle.meaning.specs.Lowest.{refuse, accept}
-use Rattle.meaning.specs.Says.{Says}
+use Rattle.meaning.specs.Calls.{refuse, accept, Says}
 use Rattle.meaning.proofs.Answers.{said-no}
-use Rattle.tree.specs.Rows.{labels, sizes}
-use Rattle.tree.specs.Good.{Good as GoodRows}
+use Rattle.tree.specs.Rows.{labels, sizes, Good as GoodRows}
 use Rattle.tree.proofs.Lists.{labels-rows, sizes-rows}
 use Rattle.tree.proofs.Unique.{unique, good-lengths}
-use Rattle.pattern.specs.Rows.{kindTree, nameTree}
-use Rattle.pattern.specs.Good.{Good as GoodPatternRows}
+use Rattle.pattern.specs.Rows.{kindTree, nameTree, Good as GoodPatternRows}
 use Rattle.pattern.proofs.Unique.{kind-sizes, one-pattern, one-list}
 use Rattle.pattern.proofs.Placed.{good-placed}
 use Rattle.record.specs.Good.{Good as GoodRecordRows}

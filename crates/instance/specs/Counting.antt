@@ -5,8 +5,7 @@ use mathlib.Core.List.{List}
 use lib.ListN.{length, getD}
 use Rattle.meaning.specs.Forest.{Forest, rows, size, Context, hole, node}
 use Rattle.meaning.specs.Pattern.{Pattern, Kind}
-use Rattle.meaning.specs.Value.{Value, ofIndividual, ofSequence, ofFunction, ofContext, at}
-use Rattle.meaning.specs.Apply.{apply}
+use Rattle.meaning.specs.Matcher.{Value, ofIndividual, ofSequence, ofFunction, ofContext, at, apply}
 use Rattle.pattern.specs.Rows.{code}
 use Rattle.pattern.specs.Places.{Variable, PatternAt}
 use Rattle.instance.specs.Places.{Ground, meant}

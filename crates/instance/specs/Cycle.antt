@@ -6,7 +6,7 @@ use mathlib.Core.List.{List}
 use lib.ListN.{getD}
 use Rattle.meaning.specs.Forest.{Forest, none, _◂_, size}
 use Rattle.meaning.specs.Pattern.{Pattern, Kind}
-use Rattle.meaning.specs.Apply.{apply}
+use Rattle.meaning.specs.Matcher.{apply}
 use Rattle.pattern.specs.Places.{PatternAt}
 use Rattle.instance.specs.Places.{Ground, meant, Room, Written}
 use Rattle.instance.specs.Packed.{namesOf, sizesOf}

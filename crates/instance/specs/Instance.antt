@@ -6,15 +6,11 @@ use mathlib.Core.List.{List, _++_}
 use lib.ListN.{length, drop}
 use Rattle.meaning.specs.Forest.{none, Term, _◂_, size}
 use Rattle.meaning.specs.Pattern.{Pattern, Kind}
-use Rattle.meaning.specs.Apply.{apply}
-use Rattle.meaning.specs.Read.{readOff}
-use Rattle.meaning.specs.GoodRecord.{GoodRecord}
-use Rattle.meaning.specs.Lowest.{refuse, accept}
-use Rattle.tree.specs.Rows.{labels, sizes}
-use Rattle.tree.specs.Good.{GoodTree}
-use Rattle.tree.specs.Good.{Good as GoodRows}
-use Rattle.pattern.specs.Good.{GoodPattern}
-use Rattle.pattern.specs.Good.{Good as GoodPatternRows}
+use Rattle.meaning.specs.Matcher.{apply}
+use Rattle.meaning.specs.Read.{readOff, GoodRecord}
+use Rattle.meaning.specs.Calls.{refuse, accept}
+use Rattle.tree.specs.Rows.{labels, sizes, GoodTree, Good as GoodRows}
+use Rattle.pattern.specs.Rows.{GoodPattern, Good as GoodPatternRows}
 use Rattle.record.specs.Good.{Good as GoodRecordRows}
 use Rattle.instance.specs.declared.Made.{Made}
 use Rattle.instance.specs.declared.Made.the-variants.{Refused, Rows}

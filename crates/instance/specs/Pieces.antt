@@ -5,7 +5,7 @@ use mathlib.Core.List.{List}
 use lib.ListN.{length, getD, set}
 use Rattle.meaning.specs.Forest.{Forest, none, Term, _◂_, rows, size, Context, plug, holeRow}
 use Rattle.meaning.specs.Pattern.{Kind, anIndividual, aSequence, aFunction, aContext}
-use Rattle.meaning.specs.Value.{Value, at, asTerm, asForest, asSymbol, asContext}
+use Rattle.meaning.specs.Matcher.{Value, at, asTerm, asForest, asSymbol, asContext}
 use Rattle.tree.specs.Places.{TermAt, ContextAt}
 use Rattle.pattern.specs.Rows.{code}
 use Rattle.pattern.specs.Places.{Variable}

@@ -8,9 +8,8 @@ use lib.Seq.{sets}
 use native.Mathlib.Decide.{decLt}
 use Rattle.meaning.specs.Forest.{Forest}
 use Rattle.meaning.specs.Pattern.{Kind}
-use Rattle.meaning.specs.Value.{Value}
-use Rattle.meaning.specs.Read.{readOff}
-use Rattle.meaning.specs.GoodRecord.{GoodRecord}
+use Rattle.meaning.specs.Matcher.{Value}
+use Rattle.meaning.specs.Read.{readOff, GoodRecord}
 use Rattle.tree.specs.Rows.{labels, sizes}
 use Rattle.tree.specs.Places.{TermsAt}
 

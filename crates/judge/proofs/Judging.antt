@@ -10,9 +10,9 @@ use lib.Seq.{getD-set-same, getD-set-other, take-all}
 use borrow.Author.Tests.{ne-eqb}
 use Rattle.meaning.specs.Forest.{rows}
 use Rattle.tree.specs.Rows.{depth}
-use Rattle.grammar.specs.Grammar.{Bytes, ε, Content, nothing, emptyElement, element, noElement, Document}
-use Rattle.grammar.specs.Place.{OutsideAt}
-use Rattle.grammar.specs.Tree.{shape}
+use Rattle.grammar.specs.Grammar.{Bytes, ε, Content, nothing, emptyElement, element, Document, OutsideAt}
+use Rattle.grammar.specs.Tokens.{noElement}
+use Rattle.grammar.specs.Rows.{shape}
 use Rattle.grammar.specs.Machine.{Open, inRun, level, runs, initial, Final, At}
 use Rattle.grammar.proofs.Theory.{accepted, accepts}
 use Rattle.grammar.proofs.Trees.{leafRows, contentRows, contentDepth, one-leaf, shape-rows, shape-depth}

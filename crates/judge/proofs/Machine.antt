@@ -10,9 +10,8 @@ use lib.ListN.{length, getD, take, drop, length-take, length-drop, List·getD-eq
 use lib.Seq.{take-suc, take-all, drop-cons, drop-length, getD-take, getD-drop}
 use borrow.Author.Tests.{ltb-true, ltb-false, eqb-true, ne-eqb}
 use Rattle.grammar.specs.Classes.{white, nameStart, nameByte, classOf}
-use Rattle.grammar.specs.Grammar.{Bytes, ε, _▸_, _⊲_, Content, nothing, emptyElement, element, mayFollow}
-use Rattle.grammar.specs.Place.{OutsideAt}
-use Rattle.grammar.specs.Machine.{Open, State, dead, inRun, afterLess, inName, inSpace, afterSlash, inEndName, inEndSpace, level, endTag, tag, tail, step, runs, initial, Final, At}
+use Rattle.grammar.specs.Grammar.{Bytes, ε, _▸_, _⊲_, Content, nothing, emptyElement, element, OutsideAt}
+use Rattle.grammar.specs.Machine.{mayFollow, Open, State, dead, inRun, afterLess, inName, inSpace, afterSlash, inEndName, inEndSpace, level, endTag, tag, tail, step, runs, initial, Final, At}
 use Rattle.grammar.proofs.Theory.{Live, runs-append, dies-at, ends-early, not-less, white-no-name}
 use Rattle.grammar.specs.Rows.{#}
 use Rattle.judge.specs.Tags.{Named}

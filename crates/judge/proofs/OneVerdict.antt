@@ -9,9 +9,8 @@ use lib.ListN.{length}
 use borrow.Author.Tests.{lt-ltb, le-ltb}
 use Rattle.meaning.specs.Forest.{rows}
 use Rattle.tree.specs.Rows.{depth}
-use Rattle.grammar.specs.Grammar.{Bytes, Content, Document}
-use Rattle.grammar.specs.Place.{OutsideAt}
-use Rattle.grammar.specs.Tree.{shape}
+use Rattle.grammar.specs.Grammar.{Bytes, Content, Document, OutsideAt}
+use Rattle.grammar.specs.Rows.{shape}
 use Rattle.grammar.proofs.Unique.{one-reading, one-place}
 use Rattle.judge.specs.Verdict.{Verdict, long, outside, deep, many, read}
 

@@ -10,7 +10,9 @@ use lib.ListN.{length, getD}
 use borrow.Author.Count.{below-more}
 use borrow.Author.Tests.{eqb-true, eq-eqb, ne-eqb, lt-ltb, le-ltb, lt-leb, ltb-true, ltb-false}
 use Rattle.grammar.specs.Classes.{classOf, within, white, nameStart, nameByte, text}
-use Rattle.grammar.specs.Grammar.{Bytes, inner, mayFollow, brackets}
+use Rattle.grammar.specs.Grammar.{Bytes}
+use Rattle.grammar.specs.Tokens.{inner}
+use Rattle.grammar.specs.Machine.{mayFollow, brackets}
 use Rattle.grammar.proofs.InWords.{brackets-one, brackets-last}
 use Rattle.judge.specs.Tokens.{Passed, Span, SpanTo, bytes, plain, plainAt, runAt, textAt, sameAt}
 

@@ -8,10 +8,9 @@ use lib.Dec.{ltb}
 use lib.ListN.{length, getD, List·getD-eq-default}
 use borrow.Author.Tests.{ltb-true, ltb-false, eqb-true, eq-eqb, ne-eqb}
 use Rattle.grammar.specs.Classes.{white, nameStart, nameByte, classOf}
-use Rattle.grammar.specs.Grammar.{Bytes, ε, _⊲_, Content, inner, noElement, mayOpen}
-use Rattle.grammar.specs.Place.{OutsideAt}
-use Rattle.grammar.specs.Tree.{inked}
-use Rattle.grammar.specs.Rows.{#}
+use Rattle.grammar.specs.Grammar.{Bytes, ε, _⊲_, Content, OutsideAt}
+use Rattle.grammar.specs.Tokens.{inner, noElement, mayOpen}
+use Rattle.grammar.specs.Rows.{inked, #}
 use Rattle.grammar.specs.Machine.{Open, inRun, afterLess, inEndName, level, At}
 use Rattle.judge.specs.declared.tags.Tag.{Tag}
 use Rattle.judge.specs.declared.tags.Tag.the-variants.{Refused, Opens, Empty, Closes}

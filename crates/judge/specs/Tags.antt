@@ -6,10 +6,9 @@ use Prim.Native.Nat.{ℕ, _+_, _-_, _≤_, _<_}
 use lib.Dec.{eqb}
 use lib.ListN.{length, getD}
 use Rattle.grammar.specs.Classes.{nameStart}
-use Rattle.grammar.specs.Grammar.{Bytes, ε, _⊲_, less, slash, Content, nothing, emptyElement, element, noElement}
-use Rattle.grammar.specs.Place.{OutsideAt}
-use Rattle.grammar.specs.Tree.{inked}
-use Rattle.grammar.specs.Rows.{#}
+use Rattle.grammar.specs.Grammar.{Bytes, ε, _⊲_, less, slash, Content, nothing, emptyElement, element, OutsideAt}
+use Rattle.grammar.specs.Tokens.{noElement}
+use Rattle.grammar.specs.Rows.{inked, #}
 use Rattle.grammar.specs.Machine.{Open, inRun, afterLess, inEndName, At}
 use Rattle.judge.specs.declared.tags.Tag.{Tag}
 use Rattle.judge.specs.declared.tags.Tag.the-variants.{Refused, Opens, Empty, Closes}

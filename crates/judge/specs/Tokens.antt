@@ -6,8 +6,8 @@ use Prim.Native.Nat.{ℕ, zero, suc, _+_, _-_, _*_, _≤_, _<_}
 use lib.Dec.{eqb, ltb}
 use lib.ListN.{length, getD}
 use Rattle.grammar.specs.Classes.{classOf, nameByte}
-use Rattle.grammar.specs.Tokens.{Automaton, after}
-use Rattle.grammar.specs.Grammar.{Bytes, ε, _▸_, spaceToken, nameToken, runToken, Level, outer, inner}
+use Rattle.grammar.specs.Tokens.{Automaton, after, spaceToken, nameToken, runToken, Level, outer, inner}
+use Rattle.grammar.specs.Grammar.{Bytes, ε, _▸_}
 
 -- a table that has the class of each ASCII code
 pub record Coded (table : List ℕ) : Type 0 where

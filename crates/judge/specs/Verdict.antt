@@ -6,9 +6,8 @@ use Prim.Native.Nat.{ℕ, _≤_, _<_}
 use lib.ListN.{length}
 use Rattle.meaning.specs.Forest.{rows}
 use Rattle.tree.specs.Rows.{depth}
-use Rattle.grammar.specs.Grammar.{Bytes, Content, Document}
-use Rattle.grammar.specs.Place.{OutsideAt}
-use Rattle.grammar.specs.Tree.{shape}
+use Rattle.grammar.specs.Grammar.{Bytes, Content, Document, OutsideAt}
+use Rattle.grammar.specs.Rows.{shape}
 
 -- the code, the place and the rows for the document w, its dictionary being good and room being no matter
 pub data Verdict (w : List ℕ) : ℕ → ℕ → ℕ → Type 0 where

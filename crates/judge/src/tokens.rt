@@ -4,7 +4,7 @@ ghost use mathlib.Core.Bool.{true};
 ghost use Prim.Native.Nat.{ℕ, _+_, _-_, _≤_, _<_, min};
 ghost use lib.ListN.{length};
 ghost use Rattle.grammar.specs.Classes.{white};
-ghost use Rattle.grammar.specs.Grammar.{brackets};
+ghost use Rattle.grammar.specs.Machine.{brackets};
 ghost use Rattle.judge.specs.Tokens.{Classed, Passed, Span, SpanTo, bytes, digits, stopAt, whiteAt, nameAt, plain, plainAt, textAt, sameAt};
 use super::class::GREATER;
 use super::class::IN_NAME;

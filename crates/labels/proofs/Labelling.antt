@@ -8,12 +8,12 @@ use native.Mathlib.Numerals.{add-one}
 use lib.Dec.{ltb}
 use lib.ListN.{length, getD, set, take, length-append}
 use lib.Seq.{take-suc}
-use Rattle.labels.specs.Filled.{Filled}
+use Rattle.meaning.specs.Calls.{Filled}
 use Rattle.labels.proofs.Upto.{Upto, upto-more, upto-all}
 use Rattle.dictionary.specs.Scan.{range}
-use Rattle.dictionary.specs.Labels.{placeOf, learn, knownAfter, labelsOf}
+use Rattle.dictionary.specs.Labels.{placeOf, learn, labelsOf}
+use Rattle.dictionary.proofs.Labels.{knownAfter, place-le, known-next, label-at, length-labels}
 use Rattle.dictionary.specs.Index.{Indexed, MayLabel, Labelled}
-use Rattle.dictionary.proofs.Labels.{place-le, known-next, label-at, length-labels}
 use Rattle.labels.specs.Labelling.{MayLabelRows}
 
 known-more : (ns ws : List (List ℕ)) (r : ℕ) → r < length ws → knownAfter ns (take (r + 1) ws) ≡ learn (knownAfter ns (take r ws)) (getD ws r [])

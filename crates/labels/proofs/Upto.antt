@@ -6,7 +6,7 @@ use native.Mathlib.Omega.{arith}
 use native.Mathlib.Numerals.{add-one}
 use lib.ListN.{length, getD, set, take, drop, length-set}
 use lib.Seq.{drop-cons, take-suc, set-at, length-take-le, append-snoc, take-all}
-use Rattle.labels.specs.Filled.{Filled}
+use Rattle.meaning.specs.Calls.{Filled}
 
 one-more : (s d : List ℕ) (j : ℕ) → j < length s → j < length d → set (take j s ++ drop j d) j (getD s j 0) ≡ take (j + 1) s ++ drop (j + 1) d
 one-more s d j p q =

@@ -3,7 +3,7 @@ use mathlib.Core.Path.{_≡_}
 use mathlib.Core.List.{List, []}
 use Prim.Native.Nat.{ℕ, _+_, _≤_, _<_}
 use lib.ListN.{length, getD}
-use Rattle.labels.specs.Filled.{Filled}
+use Rattle.meaning.specs.Calls.{Filled}
 use Rattle.dictionary.specs.Scan.{range}
 use Rattle.dictionary.specs.Labels.{labelsOf}
 use Rattle.dictionary.specs.Index.{Indexed}

@@ -1,4 +1,3 @@
-pub mod Filled
 pub mod Lists
 pub mod Sizes
 pub mod Labelling

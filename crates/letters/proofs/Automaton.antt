@@ -9,8 +9,7 @@ use Prim.Native.Nat.{ℕ, zero, suc, _+_, _<_, _^_}
 use native.Mathlib.Omega.{arith}
 use lib.ListN.{length, length-append}
 use lib.Bits.{bitOr}
-use Rattle.expression.specs.Expression.{Expression, symbol, empty, concatenation, choice, repetition}
-use Rattle.expression.specs.Language.{Language, in-symbol, in-empty, in-concatenation, in-first, in-second, in-none, in-more}
+use Rattle.expression.specs.Expression.{Expression, symbol, empty, concatenation, choice, repetition, Language, in-symbol, in-empty, in-concatenation, in-first, in-second, in-none, in-more}
 use Rattle.expression.specs.Rows.{rows}
 use Rattle.letters.specs.Accepts.{Has, Accepts}
 use Rattle.letters.specs.Following.{gate}

@@ -10,12 +10,9 @@ use lib.ListN.{length}
 use lib.Dec.{eqb}
 use lib.Bits.{bitOr}
 use borrow.Author.Tests.{eqb-true, eq-eqb}
-use Rattle.meaning.specs.Says.{Says}
-use Rattle.expression.specs.Expression.{Expression, symbol, empty, concatenation, choice, repetition}
-use Rattle.expression.specs.Language.{Language, Same, In}
-use Rattle.expression.specs.Rows.{rows}
-use Rattle.expression.specs.Good.{GoodTable}
-use Rattle.expression.specs.Starts.{StartsAt}
+use Rattle.meaning.specs.Calls.{Says}
+use Rattle.expression.specs.Expression.{Expression, symbol, empty, concatenation, choice, repetition, Language, Same, In}
+use Rattle.expression.specs.Rows.{rows, GoodTable, StartsAt}
 use Rattle.expression.proofs.Placed.{Placed, placed-size}
 use Rattle.expression.proofs.Table.{name-length}
 use Rattle.expression.proofs.Places.{place-total, start-placed, start-within}

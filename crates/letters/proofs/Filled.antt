@@ -10,8 +10,7 @@ use native.Mathlib.Omega.{arith}
 use lib.ListN.{length, getD, set, replicate, length-set, getD-replicate}
 use lib.Seq.{getD-set-same, getD-set-other}
 use Rattle.expression.specs.Expression.{Expression, symbol, empty, concatenation, choice, repetition}
-use Rattle.expression.specs.Rows.{rows}
-use Rattle.expression.specs.Good.{SymbolsFit, AllFit, GoodTable}
+use Rattle.expression.specs.Rows.{rows, SymbolsFit, AllFit, GoodTable}
 use Rattle.expression.specs.Rule.{numberAt, leftOf, rightOf}
 use Rattle.expression.proofs.Ways.{two-ways, three-ways}
 use Rattle.expression.proofs.Placed.{rows-positive, total, Placed, Laid, placed-size}

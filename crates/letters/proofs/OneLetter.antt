@@ -7,7 +7,7 @@ use Prim.Native.Nat.{ℕ, zero, suc, _+_, _/_, _%_, _<_, _^_}
 use native.Mathlib.Nat.{zero-add, add-suc, suc-add, add-zero}
 use native.Mathlib.Omega.{arith}
 use lib.Bits.{bitOr}
-use Rattle.meaning.specs.Says.{Says}
+use Rattle.meaning.specs.Calls.{Says}
 use Rattle.letters.specs.Accepts.{Has, Accepts}
 use Rattle.letters.proofs.Sets.{has-or-l, has-or-r, has-zero, has-below}
 use Rattle.letters.proofs.Visit.{pick, walk, visit}

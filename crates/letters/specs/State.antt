@@ -2,9 +2,8 @@
 use mathlib.Core.Bool.{Bool}
 use mathlib.Core.List.{List, [], _++_}
 use Prim.Native.Nat.{ℕ}
-use Rattle.expression.specs.Expression.{Expression}
-use Rattle.expression.specs.Language.{Same, In}
-use Rattle.expression.specs.Starts.{StartsAt}
+use Rattle.expression.specs.Expression.{Expression, Same, In}
+use Rattle.expression.specs.Rows.{StartsAt}
 use Rattle.letters.specs.Accepts.{Accepts}
 use Rattle.letters.specs.Tables.{nameOf, firstOf, nullOf, contOf, endsOf}
 

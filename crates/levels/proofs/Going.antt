@@ -7,9 +7,8 @@ use lib.Seq.{take-suc-set}
 use native.Mathlib.Omega.{arith}
 use Rattle.meaning.specs.Forest.{none, Term, _◂_, size}
 use Rattle.meaning.specs.Pattern.{Pattern, Kind, anIndividual, aSequence, aFunction, aContext, old, look, Numbered}
-use Rattle.meaning.specs.Value.{Value}
-use Rattle.meaning.specs.Read.{valueAt}
-use Rattle.meaning.specs.GoodRecord.{Fits}
+use Rattle.meaning.specs.Matcher.{Value}
+use Rattle.meaning.specs.Read.{valueAt, Fits}
 use Rattle.meaning.specs.Record.{Entry, entry}
 use Rattle.meaning.proofs.Walk.{Res, fail, need, over, walkT, walk}
 use Rattle.meaning.proofs.Resume.{taken, onward}

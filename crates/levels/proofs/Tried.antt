@@ -7,7 +7,7 @@ use lib.ListN.{length, getD}
 use native.Mathlib.Omega.{arith}
 use Rattle.meaning.specs.Forest.{none, Term, _◂_}
 use Rattle.meaning.specs.Pattern.{Pattern, Kind, old, look}
-use Rattle.meaning.specs.GoodRecord.{Fits}
+use Rattle.meaning.specs.Read.{Fits}
 use Rattle.meaning.proofs.Answers.{said-no}
 use Rattle.meaning.proofs.Walk.{Res}
 use Rattle.meaning.proofs.Resume.{Frame, Stop}

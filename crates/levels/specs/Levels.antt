@@ -5,11 +5,10 @@ use mathlib.Core.List.{List, [], _∷_, _++_}
 use lib.ListN.{length, getD, take}
 use Rattle.meaning.specs.Forest.{none, Term, _◂_}
 use Rattle.meaning.specs.Pattern.{Pattern, Kind, old, look}
-use Rattle.meaning.specs.Read.{valueAt}
-use Rattle.meaning.specs.GoodRecord.{Fits}
+use Rattle.meaning.specs.Read.{valueAt, Fits}
 use Rattle.meaning.proofs.Walk.{Res, walkT}
 use Rattle.meaning.proofs.Next.{Any, any?}
-use Rattle.pattern.specs.Good.{GoodPattern}
+use Rattle.pattern.specs.Rows.{GoodPattern}
 use Rattle.expression.specs.Expression.{Expression}
 use Rattle.constraint.specs.Obeys.{Constraint, Allowed}
 use Rattle.problem.specs.Allowing.{Allowing}

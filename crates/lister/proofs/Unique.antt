@@ -3,7 +3,7 @@ use Prim.Native.Nat.{ℕ}
 use mathlib.Core.Path.{_≡_, ap, _∙_, sym}
 use mathlib.Core.List.{List, _++_}
 use native.Mathlib.Decide.{ℕ-discrete}
-use Rattle.meaning.specs.Lowest.{accept}
+use Rattle.meaning.specs.Calls.{accept}
 use Rattle.meaning.proofs.OneCode.{one-accept}
 use Rattle.problem.specs.Problem.{Lists}
 use Rattle.problem.proofs.Posed.{posed, one-codes}

@@ -6,11 +6,11 @@ use lib.ListN.{length}
 use native.Mathlib.Omega.{arith}
 use Rattle.meaning.specs.Forest.{Term, size}
 use Rattle.meaning.specs.Pattern.{Pattern, Kind, Numbered}
-use Rattle.meaning.specs.Value.{Value}
-use Rattle.meaning.specs.Lowest.{accept}
+use Rattle.meaning.specs.Matcher.{Value}
+use Rattle.meaning.specs.Calls.{accept}
 use Rattle.meaning.proofs.Tame.{count}
 use Rattle.expression.specs.Expression.{Expression}
-use Rattle.expression.specs.Good.{GoodTable}
+use Rattle.expression.specs.Rows.{GoodTable}
 use Rattle.letters.specs.State.{TablesOf}
 use Rattle.constraint.specs.Obeys.{Constraint, Allowed}
 use Rattle.constraint.proofs.Allowed.{allowed?}
@@ -20,7 +20,7 @@ use Rattle.problem.specs.declared.Problem.{Problem}
 use Rattle.problem.proofs.Posed.{codes-high, the, known}
 use Rattle.walk.specs.Packed.{Packed, Bounds}
 use Rattle.catalogue.specs.Answer.{Result, atMost, roomOf}
-use Rattle.catalogue.specs.Meant.{Meant}
+use Rattle.catalogue.specs.Listing.{Meant}
 use Rattle.catalogue.proofs.Back.{fitting, fitting-some}
 use Rattle.catalogue.proofs.Events.{events}
 use Rattle.catalogue.proofs.Run.{Tame, run}

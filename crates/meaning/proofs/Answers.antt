@@ -5,7 +5,7 @@ use mathlib.Core.Bool.{Bool, true, false}
 use lib.Dec.{eqb, ltb}
 use native.Mathlib.Omega.{arith}
 use borrow.Author.Tests.{eqb-true, eq-eqb, ltb-true, lt-ltb}
-use Rattle.meaning.specs.Says.{Says}
+use Rattle.meaning.specs.Calls.{Says}
 
 pub says-yes : {P : Type 0} → P → Says true P
 says-yes p = (λ _. p, λ _. refl)

@@ -11,11 +11,10 @@ use Rattle.meaning.specs.Forest.{Forest, none, some, Term, term, rows, t
 use Rattle.meaning.specs.Read.{takeT, cut}
 use Rattle.meaning.proofs.Laws.{dropT, take-drop, terms-take, cut-plugs, cut-holds, take-of, drop-of, terms-of, hole-in, plug-cut}
 use Rattle.meaning.specs.Pattern.{Pattern, symbol, individual, function, context, Patterns, nil, cons, sequence, Kind, Look, old, new, wrong, look, after, afterT, GoodT, GoodF, Numbered}
-use Rattle.meaning.specs.Value.{Value, ofIndividual, ofSequence, ofFunction, ofContext, same?, kind, kinds, at, given, asForest}
-use Rattle.meaning.specs.Apply.{apply}
+use Rattle.meaning.specs.Matcher.{Value, ofIndividual, ofSequence, ofFunction, ofContext, kind, kinds, at, given, asForest, apply}
+use Rattle.meaning.proofs.Walk.{same?, Res, fail, need, ok, andThen, met, meet, walkT, walkF, over, walk}
 use Rattle.meaning.specs.Record.{Entry, entry, values, span, second, numbers, note, noteAs, firstsT, firstsF, firsts, recordOf}
 use Rattle.meaning.specs.Order.{choices}
-use Rattle.meaning.proofs.Walk.{Res, fail, need, ok, andThen, met, meet, walkT, walkF, over, walk}
 use Rattle.meaning.specs.Reached.{Begins, UntilT, in-symbol, in-function, in-context, here-context, UntilF, in-first, in-rest, in-sequence, here-sequence, Reached}
 use Rattle.meaning.proofs.Lists.{look-old, look-new, pre-refl, pre-trans, pre-length, pre-same}
 use Rattle.meaning.proofs.Steps.{when-yes, when-live, picked, Inv, On, stands-inv, stands-back, stands-unpaid, on-stands, meet-does, meet-sound, choose-does, Chose, asks, goes, choose-live}

@@ -9,8 +9,7 @@ use Rattle.meaning.specs.Forest.{Forest, Term, rows, terms, _⊕_, plug,
 use Rattle.meaning.specs.Read.{takeT, cut}
 use Rattle.meaning.proofs.Laws.{dropT, take-of, drop-of, terms-of, hole-in, plug-cut}
 use Rattle.meaning.specs.Pattern.{Pattern, symbol, individual, function, context, Patterns, nil, cons, sequence, Kind, anIndividual, aSequence, aFunction, aContext, old, look, Comes, after, afterT, afterF, GoodT, GoodF}
-use Rattle.meaning.specs.Value.{Value, ofIndividual, ofSequence, ofFunction, ofContext, kind, kinds, at, given, asTerm, asForest, asSymbol, asContext}
-use Rattle.meaning.specs.Apply.{apply, applyAll}
+use Rattle.meaning.specs.Matcher.{Value, ofIndividual, ofSequence, ofFunction, ofContext, kind, kinds, at, given, asTerm, asForest, asSymbol, asContext, apply, applyAll}
 use Rattle.meaning.specs.Record.{Entry, span, note, firstsT, firstsF}
 use Rattle.meaning.proofs.Walk.{ok, walkT, walkF}
 use Rattle.meaning.specs.Reached.{Begins}

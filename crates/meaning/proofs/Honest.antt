@@ -7,9 +7,9 @@ use Rattle.meaning.specs.Forest.{Forest, none, some, Term, term, rows, t
 use Rattle.meaning.specs.Read.{takeT, cut}
 use Rattle.meaning.proofs.Laws.{dropT}
 use Rattle.meaning.specs.Pattern.{Pattern, symbol, individual, function, context, Patterns, nil, cons, sequence, Look, old, new, wrong, look}
-use Rattle.meaning.specs.Value.{Value, ofIndividual, ofSequence, ofFunction, ofContext, same?}
+use Rattle.meaning.specs.Matcher.{Value, ofIndividual, ofSequence, ofFunction, ofContext}
+use Rattle.meaning.proofs.Walk.{same?, Res, fail, need, ok, when, andThen, met, chosen, walkT, walkF, over, walk}
 use Rattle.meaning.specs.Record.{Entry, entry, values, span}
-use Rattle.meaning.proofs.Walk.{Res, fail, need, ok, when, andThen, met, chosen, walkT, walkF, over, walk}
 
 -- y as one more choice: an answer, and the answer then
 abbrev MoreIs : ℕ → Res → Res → Type 0

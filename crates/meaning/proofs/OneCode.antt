@@ -2,7 +2,7 @@
 use Prim.Native.Nat.{ℕ}
 use mathlib.Core.Path.{_≡_, _∙_, sym}
 use mathlib.Core.Logic.{inl, inr}
-use Rattle.meaning.specs.Lowest.{refuse, accept}
+use Rattle.meaning.specs.Calls.{refuse, accept}
 
 pub one-refuse : (code : ℕ) (Rule : Type 0) (others : ℕ → Type 0) (a b : ℕ) → ((a b : ℕ) → others a → others b → a ≡ b) → refuse code Rule others a → refuse code Rule others b → a ≡ b
 one-refuse code Rule others a b one (inl h) (inl k) = h .1 ∙ sym (k .1)

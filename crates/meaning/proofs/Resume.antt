@@ -7,11 +7,11 @@ use native.Mathlib.Decide.{ℕ-discrete, decLe}
 use Rattle.meaning.specs.Forest.{Forest, none, some, Term, term, rows, terms, size}
 use Rattle.meaning.specs.Read.{takeT, cut}
 use Rattle.meaning.specs.Pattern.{Pattern, symbol, individual, function, context, Patterns, nil, cons, sequence, Look, old, new, wrong, look}
-use Rattle.meaning.specs.Value.{Value, ofIndividual, ofSequence, ofFunction, ofContext, same?}
+use Rattle.meaning.specs.Matcher.{Value, ofIndividual, ofSequence, ofFunction, ofContext}
+use Rattle.meaning.proofs.Walk.{same?, Res, fail, need, ok, when, andThen, over, met, meet, chosen, walkT, walkF, walk}
 use Rattle.meaning.specs.Record.{Entry, entry, values, span}
 use Rattle.meaning.proofs.Laws.{dropT}
 use Rattle.meaning.proofs.Asked.{over-need}
-use Rattle.meaning.proofs.Walk.{Res, fail, need, ok, when, andThen, over, met, meet, chosen, walkT, walkF, walk}
 
 -- the rest of an argument list: the patterns and the terms that are left, and the row at which the terms start
 pub record Frame : Type 0 where

@@ -5,14 +5,11 @@ use mathlib.Core.Path.{sym as flip}
 use mathlib.Core.List.{List, [], _∷_, _++_}
 use native.Mathlib.Omega.{arith}
 use Rattle.meaning.specs.Forest.{Forest, none, some, Term, term, _◂_, rows, terms, _⊕_, plug, holeRow, size}
-use Rattle.meaning.specs.Read.{takeT, Split, fromRow, valueAt, readOff}
-use Rattle.meaning.specs.GoodRecord.{Fits, GoodRecord}
+use Rattle.meaning.specs.Read.{takeT, Split, fromRow, valueAt, readOff, Fits, GoodRecord}
 use Rattle.meaning.proofs.Laws.{take-of, terms-of, hole-in, plug-cut}
 use Rattle.meaning.proofs.From.{HereF, HereT, here-in, here-args, here-first, here-drop, here-next, here-hole}
 use Rattle.meaning.specs.Pattern.{Pattern, symbol, individual, function, context, Patterns, nil, cons, sequence, Kind, anIndividual, aSequence, aFunction, aContext, Look, old, new, wrong, look, Comes, after, afterT, GoodT, GoodF, Numbered}
-use Rattle.meaning.specs.Value.{Value, ofIndividual, ofSequence, ofFunction, ofContext, kind, kinds, at, given, asTerm, asForest, asSymbol, asContext}
-use Rattle.meaning.specs.Apply.{apply, applyAll}
-use Rattle.meaning.specs.Solves.{Solves}
+use Rattle.meaning.specs.Matcher.{Value, ofIndividual, ofSequence, ofFunction, ofContext, kind, kinds, at, given, asTerm, asForest, asSymbol, asContext, apply, applyAll, Solves}
 use Rattle.meaning.specs.Record.{Entry, entry, values, span, second, numbers, note, noteAs, firstsT, firstsF, firsts, recordOf}
 use Rattle.meaning.proofs.Steps.{kinds-old}
 use Rattle.meaning.proofs.Complete.{context-of}

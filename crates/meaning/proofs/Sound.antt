@@ -9,8 +9,7 @@ use Rattle.meaning.specs.Forest.{Forest, none, some, Term, term, rows, t
 use Rattle.meaning.specs.Read.{takeT, cut}
 use Rattle.meaning.proofs.Laws.{dropT, take-drop, terms-take, cut-plugs, cut-holds}
 use Rattle.meaning.specs.Pattern.{Pattern, symbol, individual, function, context, Patterns, nil, cons, sequence, Kind, afterT, afterF, GoodT, GoodF}
-use Rattle.meaning.specs.Value.{Value, ofIndividual, ofSequence, ofFunction, ofContext, at, given, asSymbol}
-use Rattle.meaning.specs.Apply.{apply, applyAll}
+use Rattle.meaning.specs.Matcher.{Value, ofIndividual, ofSequence, ofFunction, ofContext, at, given, asSymbol, apply, applyAll}
 use Rattle.meaning.specs.Record.{Entry, values, note, firstsT, firstsF}
 use Rattle.meaning.proofs.Walk.{ok, walkT, walkF}
 use Rattle.meaning.specs.Reached.{Begins}

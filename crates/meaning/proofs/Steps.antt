@@ -6,11 +6,11 @@ use mathlib.Core.List.{List, [], _∷_, _++_, append-assoc, append-nil}
 use lib.ListN.{length, length-append}
 use native.Mathlib.Omega.{arith}
 use native.Mathlib.Decide.{decLe}
-use Rattle.meaning.specs.Value.{Value, ofIndividual, ofSequence, ofFunction, ofContext, same?, kind, kinds}
+use Rattle.meaning.specs.Matcher.{Value, ofIndividual, ofSequence, ofFunction, ofContext, kind, kinds}
+use Rattle.meaning.proofs.Walk.{same?, Res, fail, need, ok, when, andThen, met, meet, chosen, choose}
 use Rattle.meaning.specs.Pattern.{Kind, Look, old, new, wrong, look, Comes, after}
 use Rattle.meaning.specs.Record.{Entry, entry, values, span, second, numbers, note, noteAs}
 use Rattle.meaning.specs.Order.{choices}
-use Rattle.meaning.proofs.Walk.{Res, fail, need, ok, when, andThen, met, meet, chosen, choose}
 use Rattle.meaning.specs.Reached.{Begins}
 use Rattle.meaning.proofs.Lists.{look-new, look-old, look-wrong, pre-more, pre-less, pre-look, pre-last, all-more}
 

@@ -8,7 +8,7 @@ use native.Mathlib.Omega.{arith}
 use Rattle.meaning.specs.Forest.{Forest, Term, _◂_, rows, plug, holeRow, Context, hole, node}
 use Rattle.meaning.proofs.Laws.{terms-few, rows-of}
 use Rattle.meaning.specs.Pattern.{Pattern, Patterns, Kind, anIndividual, aSequence, aFunction, aContext, old, look, after, afterT, GoodT, GoodF, Numbered}
-use Rattle.meaning.specs.Value.{Value, ofIndividual, ofSequence, ofFunction, ofContext, kind, kinds}
+use Rattle.meaning.specs.Matcher.{Value, ofIndividual, ofSequence, ofFunction, ofContext, kind, kinds}
 use Rattle.meaning.specs.Record.{Entry, values, second, numbers, recordOf}
 use Rattle.meaning.specs.Order.{choices}
 use Rattle.meaning.proofs.Walk.{need, ok, walk}

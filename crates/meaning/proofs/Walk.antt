@@ -2,12 +2,16 @@
 use Prim.Native.Nat.{ℕ, _+_, _-_}
 use mathlib.Core.List.{List, [], _∷_, _++_}
 use native.Mathlib.Decide.{ℕ-discrete, decLe}
-use Rattle.meaning.specs.Forest.{Forest, none, some, Term, term, rows, terms, size}
+use Rattle.meaning.specs.Forest.{Forest, none, some, Forest-discrete, Term, term, rows, terms, size, Context-discrete}
 use Rattle.meaning.specs.Read.{takeT, cut}
 use Rattle.meaning.proofs.Laws.{dropT}
 use Rattle.meaning.specs.Pattern.{Pattern, symbol, individual, function, context, Patterns, nil, cons, sequence, Look, old, new, wrong, look}
-use Rattle.meaning.specs.Value.{Value, ofIndividual, ofSequence, ofFunction, ofContext, same?}
+use Rattle.meaning.specs.Matcher.{Value, ofIndividual, ofSequence, ofFunction, ofContext, Value-discrete}
 use Rattle.meaning.specs.Record.{Entry, entry, values, span}
+
+-- whether two values are one, by structure
+abbrev pub same? : Discrete Value
+same? = Value-discrete ℕ-discrete (Forest-discrete ℕ-discrete) (Context-discrete ℕ-discrete (Forest-discrete ℕ-discrete))
 
 pub data Res : Type 0 where
   fail : Res

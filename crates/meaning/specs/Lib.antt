@@ -1,13 +1,8 @@
-pub mod Says
-pub mod Lowest
+pub mod Calls
 pub mod Forest
 pub mod Pattern
-pub mod Value
-pub mod Apply
-pub mod Solves
-pub mod Record
 pub mod Matcher
+pub mod Record
 pub mod Reached
 pub mod Order
 pub mod Read
-pub mod GoodRecord

@@ -7,8 +7,7 @@ use mathlib.Core.List.{List, _++_}
 use lib.ListN.{length}
 use Rattle.meaning.specs.Forest.{Forest, some, Term, term, rows, terms, size, _⊕_, Context, plug, holeRow}
 use Rattle.meaning.specs.Pattern.{Pattern, symbol, function, context, Patterns, cons, sequence, Kind, old, new, look, afterT}
-use Rattle.meaning.specs.Value.{Value, ofSequence, ofFunction, ofContext, kinds}
-use Rattle.meaning.specs.Apply.{apply}
+use Rattle.meaning.specs.Matcher.{Value, ofSequence, ofFunction, ofContext, kinds, apply}
 
 -- l begins with b
 pub record Begins {A : Type 0} (b l : List A) : Type 0 where

@@ -1,10 +1,10 @@
 -- 01, "What a matcher is": "A record has two numbers per variable, at its first appearance in the pattern."
 use Prim.Native.Nat.{ℕ, _+_}
 use mathlib.Core.List.{List, [], _∷_, _++_}
-use Rattle.meaning.specs.Forest.{rows, terms, size, holeRow}
-use Rattle.meaning.specs.Pattern.{Pattern, symbol, individual, function, context, Patterns, nil, cons, sequence, Look, old, new, wrong, look}
-use Rattle.meaning.specs.Value.{Value, ofIndividual, ofSequence, ofFunction, ofContext, at, asForest}
-use Rattle.meaning.specs.Apply.{apply}
+use mathlib.Core.Path.{_≡_}
+use Rattle.meaning.specs.Forest.{rows, terms, size, holeRow, Term}
+use Rattle.meaning.specs.Pattern.{Pattern, symbol, individual, function, context, Patterns, nil, cons, sequence, Look, old, new, wrong, look, Kind}
+use Rattle.meaning.specs.Matcher.{Value, ofIndividual, ofSequence, ofFunction, ofContext, at, asForest, apply, Solves}
 
 -- a variable's value, and how many rows of the instance stand before its first appearance. This number is 01's place: the row
 -- of an individual, a symbol or a context, the row where a sequence starts, and for one that starts at the list's end
@@ -66,3 +66,10 @@ firsts P σ = firstsT σ P 0 []
 -- the record of a substitution
 abbrev pub recordOf : Pattern → List Value → List ℕ
 recordOf P σ = numbers (firsts P σ)
+
+-- Demand 2: "A record is called a matcher exactly when its substitution turns the pattern into the tree, obeys every constraint, and is
+-- recorded at the places that the rules name."
+pub record IsRecord (Allowed : ℕ → Value → Type 0) (Q : List Kind) (P : Pattern) (T : Term) (r : List ℕ) : Type 0 where
+  pub matcher : List Value
+  pub solves : Solves Allowed Q matcher P T
+  pub its : recordOf P matcher ≡ r

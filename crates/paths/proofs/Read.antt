@@ -11,7 +11,7 @@ use native.Mathlib.Omega.{arith}
 use native.Mathlib.Decide.{decLt}
 use Rattle.meaning.specs.Forest.{Context}
 use Rattle.tree.specs.Places.{ContextAt}
-use Rattle.constraint.specs.Word.{path}
+use Rattle.constraint.specs.Obeys.{path}
 use Rattle.constraint.specs.Reading.{PathPre, After}
 use Rattle.constraint.proofs.Readings.{Begun, Stepped, after-none, after-more}
 use Rattle.paths.specs.Paths.{Entry, Places, Remembers, put, ChildFromPre, ChildFromPost, HoldingPre, HoldingPost, Standing, RecallPre, RecallPost}

@@ -12,7 +12,7 @@ use Rattle.tree.specs.Places.{Next, ContextAt, at-hole, at-node}
 use Rattle.tree.specs.Helpers.{ChildPre}
 use Rattle.tree.proofs.Terms.{terms-le}
 use Rattle.tree.proofs.Ways.{context-le, hole-here, a-node, ahead-first, ahead-next, ahead-more, ahead-found}
-use Rattle.constraint.specs.Word.{path}
+use Rattle.constraint.specs.Obeys.{path}
 use Rattle.constraint.specs.Reading.{After}
 use Rattle.paths.specs.Paths.{Through, From, ChildFromPre, ChildFromPost}
 

@@ -11,7 +11,7 @@ use Rattle.tree.specs.Places.{ContextAt}
 use Rattle.tree.specs.Helpers.{ChildPre}
 use Rattle.tree.proofs.Ways.{Ahead}
 use Rattle.letters.specs.Tables.{noted}
-use Rattle.constraint.specs.Word.{path}
+use Rattle.constraint.specs.Obeys.{path}
 use Rattle.constraint.specs.Reading.{PathPre, After}
 
 -- every path from the row a into the term at the row r goes by the word to r

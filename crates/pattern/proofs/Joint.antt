@@ -9,8 +9,7 @@ use Rattle.meaning.specs.Pattern.{Pattern, Kind, aSequence}
 use Rattle.tree.specs.Rows.{labels, sizes, depth}
 use Rattle.tree.specs.Shape.{Shape}
 use Rattle.tree.proofs.Lists.{sizes-rows, relabelled}
-use Rattle.pattern.specs.Rows.{code, treeT, kindRows}
-use Rattle.pattern.specs.Good.{GoodPattern}
+use Rattle.pattern.specs.Rows.{code, treeT, kindRows, GoodPattern}
 use Rattle.pattern.specs.Scan.{Scan, end, symbol-row, variable-row}
 use Rattle.pattern.proofs.Build.{build, single}
 use Rattle.pattern.proofs.Keeps.{no-sequence, keepsT}

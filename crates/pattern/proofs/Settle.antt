@@ -6,8 +6,7 @@ use mathlib.Core.List.{List}
 use lib.ListN.{length, getD}
 use Rattle.meaning.specs.Pattern.{Pattern, Kind, aSequence}
 use Rattle.tree.specs.Shape.{Shape}
-use Rattle.pattern.specs.Rows.{code}
-use Rattle.pattern.specs.Good.{GoodPattern, Good}
+use Rattle.pattern.specs.Rows.{code, GoodPattern, Good}
 use Rattle.pattern.specs.Answer.{listed, Refused, Settled}
 use Rattle.pattern.specs.Known.{KindsAre}
 use Rattle.pattern.specs.Scan.{Scanned, passed, failed}

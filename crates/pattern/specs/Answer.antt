@@ -5,10 +5,9 @@ use mathlib.Core.Path.{_≡_}
 use mathlib.Core.Bool.{false}
 use mathlib.Core.List.{List, [], _∷_, _++_}
 use lib.ListN.{length, replicate}
-use Rattle.meaning.specs.Says.{Says}
+use Rattle.meaning.specs.Calls.{Says}
 use Rattle.meaning.specs.Pattern.{Pattern, Kind}
-use Rattle.pattern.specs.Rows.{code}
-use Rattle.pattern.specs.Good.{GoodPattern, Good}
+use Rattle.pattern.specs.Rows.{code, GoodPattern, Good}
 use Rattle.pattern.specs.declared.Checked.{Checked}
 
 unfoldable pub codes : List Kind → List ℕ

@@ -1,5 +1,4 @@
 pub mod Rows
-pub mod Good
 pub mod Answer
 pub mod Scan
 pub mod Places

@@ -2,7 +2,7 @@
 ghost use mathlib.Core.Path.{_≡_};
 ghost use Prim.Native.Nat.{_<_, _≤_};
 ghost use lib.ListN.{length};
-ghost use Rattle.meaning.specs.Says.{Says};
+ghost use Rattle.meaning.specs.Calls.{Says};
 ghost use Rattle.pattern.specs.Answer.{Refused, Settled};
 ghost use Rattle.pattern.specs.Scan.{OneArgumentAt, SizedAt, Named, Scanned};
 use meaning::kinds::CONTEXT;

@@ -7,8 +7,7 @@ use lib.ListN.{length, getD}
 use native.Mathlib.Omega.{arith}
 use Rattle.meaning.specs.Forest.{none, Term, _◂_}
 use Rattle.meaning.specs.Pattern.{Kind, old, look}
-use Rattle.meaning.specs.Read.{valueAt}
-use Rattle.meaning.specs.GoodRecord.{Fits}
+use Rattle.meaning.specs.Read.{valueAt, Fits}
 use Rattle.meaning.proofs.Lists.{look-old}
 use Rattle.tree.proofs.Unique.{good-at}
 use Rattle.pattern.specs.Rows.{code}

@@ -5,19 +5,16 @@ use mathlib.Core.Logic.{inl, inr}
 use mathlib.Core.Bool.{Bool, true, false}
 use mathlib.Core.List.{List, []}
 use native.Mathlib.Omega.{arith}
-use Rattle.meaning.specs.Says.{Says}
+use Rattle.meaning.specs.Calls.{Says, accept}
 use Rattle.meaning.specs.Pattern.{Kind}
-use Rattle.meaning.specs.Lowest.{accept}
 use Rattle.meaning.proofs.Answers.{said-no}
-use Rattle.tree.specs.Good.{Good as GoodRows}
+use Rattle.tree.specs.Rows.{Good as GoodRows}
 use Rattle.pattern.specs.Answer.{listed, Settled}
 use Rattle.pattern.specs.declared.Checked.{Checked}
 use Rattle.expression.specs.Expression.{Expression}
-use Rattle.expression.specs.Rows.{sizeRows}
-use Rattle.expression.specs.Good.{GoodTable}
+use Rattle.expression.specs.Rows.{sizeRows, GoodTable}
 use Rattle.constraint.specs.Obeys.{Constraint}
-use Rattle.constraint.specs.Good.{GoodConstraints}
-use Rattle.constraint.specs.Whole.{Good as GoodConstraintList}
+use Rattle.constraint.specs.Good.{GoodConstraints, Good as GoodConstraintList}
 use Rattle.pattern.specs.Known.{KindsAre}
 use Rattle.constraint.proofs.Meant.{list-judged}
 use Rattle.problem.specs.Problem.{Lists, Codes}

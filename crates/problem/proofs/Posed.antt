@@ -6,10 +6,10 @@ use mathlib.Core.List.{List}
 use native.Mathlib.Omega.{arith}
 use Rattle.meaning.specs.Forest.{Term}
 use Rattle.meaning.specs.Pattern.{Pattern, Kind}
-use Rattle.meaning.specs.Lowest.{accept}
+use Rattle.meaning.specs.Calls.{accept}
 use Rattle.meaning.proofs.OneCode.{one-refuse}
 use Rattle.tree.proofs.Unique.{unique}
-use Rattle.pattern.specs.Good.{GoodPattern}
+use Rattle.pattern.specs.Rows.{GoodPattern}
 use Rattle.pattern.specs.Known.{KindsAre}
 use Rattle.expression.specs.Expression.{Expression}
 use Rattle.constraint.specs.Obeys.{Constraint}

@@ -4,15 +4,14 @@ use mathlib.Core.Path.{_≡_}
 use mathlib.Core.Bool.{Bool}
 use mathlib.Core.List.{List}
 use lib.ListN.{length}
-use Rattle.meaning.specs.Says.{Says}
+use Rattle.meaning.specs.Calls.{Says}
 use Rattle.meaning.specs.Forest.{none, Term, _◂_}
 use Rattle.meaning.specs.Pattern.{Kind, old, look}
-use Rattle.meaning.specs.Read.{valueAt}
-use Rattle.meaning.specs.GoodRecord.{Fits}
-use Rattle.tree.specs.Good.{GoodTree}
+use Rattle.meaning.specs.Read.{valueAt, Fits}
+use Rattle.tree.specs.Rows.{GoodTree}
 use Rattle.pattern.specs.Answer.{listed}
 use Rattle.expression.specs.Expression.{Expression}
-use Rattle.expression.specs.Good.{GoodTable}
+use Rattle.expression.specs.Rows.{GoodTable}
 use Rattle.letters.specs.State.{TablesOf}
 use Rattle.constraint.specs.Obeys.{Constraint, Allowed}
 use Rattle.constraint.specs.Good.{GoodConstraints}

@@ -3,8 +3,8 @@ use mathlib.Core.Path.{_≡_}
 use mathlib.Core.List.{List, []}
 use lib.ListN.{length}
 use Rattle.meaning.specs.Pattern.{Pattern, Kind}
-use Rattle.meaning.specs.Lowest.{accept}
-use Rattle.pattern.specs.Good.{GoodPattern}
+use Rattle.meaning.specs.Calls.{accept}
+use Rattle.pattern.specs.Rows.{GoodPattern}
 use Rattle.pattern.specs.Answer.{listed}
 use Rattle.problem.specs.Problem.{Lists, Codes}
 use Rattle.problem.specs.declared.Problem.{Problem}

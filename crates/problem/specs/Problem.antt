@@ -4,15 +4,13 @@ use Prim.Native.Nat.{ℕ}
 use mathlib.Core.List.{List}
 use Rattle.meaning.specs.Forest.{Term}
 use Rattle.meaning.specs.Pattern.{Pattern, Kind}
-use Rattle.meaning.specs.Lowest.{refuse}
-use Rattle.tree.specs.Good.{GoodTree}
-use Rattle.tree.specs.Good.{Good as GoodRows}
-use Rattle.pattern.specs.Good.{Good as GoodPatternRows}
+use Rattle.meaning.specs.Calls.{refuse}
+use Rattle.tree.specs.Rows.{GoodTree, Good as GoodRows}
+use Rattle.pattern.specs.Rows.{Good as GoodPatternRows}
 use Rattle.expression.specs.Expression.{Expression}
-use Rattle.expression.specs.Good.{GoodTable}
+use Rattle.expression.specs.Rows.{GoodTable}
 use Rattle.constraint.specs.Obeys.{Constraint}
-use Rattle.constraint.specs.Whole.{Means}
-use Rattle.constraint.specs.Whole.{Good as GoodConstraintList}
+use Rattle.constraint.specs.Good.{Means, Good as GoodConstraintList}
 
 -- the nine lists of a problem
 pub record Lists : Type 0 where

@@ -7,7 +7,7 @@ use mathlib.Core.List.{List}
 use native.Mathlib.Omega.{arith}
 use Rattle.meaning.specs.Forest.{Term}
 use Rattle.meaning.specs.Pattern.{Pattern, Kind}
-use Rattle.meaning.specs.Matcher.{IsRecord}
+use Rattle.meaning.specs.Record.{IsRecord}
 use Rattle.meaning.proofs.OneCode.{one-refuse, one-accept}
 use Rattle.meaning.proofs.Round.{round-good}
 use Rattle.grammar.specs.Grammar.{Bytes, Content, Document}

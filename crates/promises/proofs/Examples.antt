@@ -6,13 +6,11 @@ use lib.ListN.{length, getD}
 use native.Mathlib.Omega.{arith}
 use Rattle.meaning.specs.Forest.{none, some, Term, term, _◂_, rows}
 use Rattle.meaning.specs.Pattern.{Pattern, symbol, individual, function, context, nil, cons, sequence, Kind, anIndividual, aSequence, aFunction, aContext, old, look, Comes, GoodT, GoodF, afterT, afterF}
-use Rattle.tree.specs.Rows.{labels, sizes, depth}
-use Rattle.tree.specs.Good.{Below, GoodTree}
-use Rattle.pattern.specs.Rows.{kindRows, nameRows, sizeRows, nameTree, SmallT, SmallF, treeT, treeF}
-use Rattle.pattern.specs.Good.{GoodPattern}
+use Rattle.tree.specs.Rows.{labels, sizes, depth, Below, GoodTree}
+use Rattle.pattern.specs.Rows.{kindRows, nameRows, sizeRows, nameTree, SmallT, SmallF, treeT, treeF, GoodPattern}
 use Rattle.expression.specs.Expression.{Expression, choice, repetition}
 use Rattle.expression.specs.Expression as E
-use Rattle.expression.specs.Good.{GoodTable}
+use Rattle.expression.specs.Rows.{GoodTable}
 use Rattle.constraint.specs.Obeys.{Constraint, free, bound}
 use Rattle.constraint.specs.Good.{GoodConstraints, all-given, none-given, one-given}
 use Rattle.problem.specs.Problem.{Poses}

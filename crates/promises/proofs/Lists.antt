@@ -7,7 +7,7 @@ use native.Mathlib.Omega.{arith}
 use Rattle.meaning.specs.Forest.{Term}
 use Rattle.meaning.specs.Pattern.{Pattern, Kind, Numbered}
 use Rattle.meaning.specs.Record.{values, recordOf}
-use Rattle.meaning.specs.Lowest.{accept}
+use Rattle.meaning.specs.Calls.{accept}
 use Rattle.meaning.proofs.OneCode.{one-accept}
 use Rattle.meaning.proofs.Walk.{need, walk}
 use Rattle.meaning.proofs.Asked.{reached-asked}
@@ -19,7 +19,7 @@ use Rattle.expression.specs.Expression.{Expression}
 use Rattle.problem.specs.Problem.{Lists, Poses, Codes}
 use Rattle.problem.proofs.Posed.{codes-high, one-codes}
 use Rattle.catalogue.specs.Answer.{Result, roomOf}
-use Rattle.catalogue.specs.Meant.{Meant}
+use Rattle.catalogue.specs.Listing.{Meant}
 use Rattle.catalogue.proofs.Back.{fitting}
 use Rattle.catalogue.proofs.Events.{events, mem-left}
 use Rattle.catalogue.proofs.Run.{run, more}

@@ -10,9 +10,8 @@ use Rattle.grammar.proofs.Unique.{one-reading}
 use Rattle.judge.specs.Verdict.{Verdict, long, outside, deep, many}
 use Rattle.judge.specs.Verdict as Judged
 use Rattle.dictionary.specs.Names.{GoodDictionary}
-use Rattle.document.specs.Reading.{Read, Unchanged, shortest, badDictionary, badDocument, noRoom, filled}
-use Rattle.document.specs.Checked.{Checked, bad, judged}
-use Rattle.promises.specs.Reader.{Holds, ReaderAnswer}
+use Rattle.document.specs.Reading.{Read, Unchanged, shortest, badDictionary, badDocument, noRoom, filled, Checked, bad, judged}
+use Rattle.promises.specs.Refusals.{Holds, ReaderAnswer}
 
 -- a document holds one content
 held : {w : List ℕ} {f : Content} {t : Bytes} {Is : Content → Type 0} → Document w f t → Holds w Is → Is f

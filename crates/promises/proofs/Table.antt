@@ -7,21 +7,20 @@ use lib.ListN.{length, drop}
 use native.Mathlib.Decide.{ℕ-discrete, decLe, decLt}
 use Rattle.meaning.specs.Forest.{Term, rows, terms, holeRow}
 use Rattle.meaning.specs.Pattern.{Pattern, Kind}
-use Rattle.meaning.specs.Lowest.{accept}
+use Rattle.meaning.specs.Calls.{accept}
 use Rattle.meaning.specs.Read.{takeT, cut, cutF}
 use Rattle.meaning.proofs.Laws.{dropT}
 use Rattle.meaning.proofs.Walk.{walkT, walkF}
 use Rattle.meaning.proofs.Tame.{count}
 use Rattle.expression.specs.Expression.{Expression}
-use Rattle.constraint.specs.Word.{heads, path}
-use Rattle.constraint.specs.Obeys.{Constraint, Allowed}
+use Rattle.constraint.specs.Obeys.{heads, path, Constraint, Allowed}
 use Rattle.constraint.proofs.Constraints.{numbers-many}
 use Rattle.constraint.proofs.Decide.{when?, by?, either?}
 use Rattle.constraint.proofs.Language.{parts?, again?, repeated?, word?, in?}
 use Rattle.constraint.proofs.Allowed.{flagged?, obeys?, allowed?}
 use Rattle.problem.specs.Problem.{Lists, Poses}
 use Rattle.problem.proofs.Posed.{codes-high, one-posed}
-use Rattle.catalogue.specs.Order.{Mem}
+use Rattle.meaning.specs.Order.{Mem}
 use Rattle.catalogue.specs.Answer.{Result}
 use Rattle.catalogue.specs.Listing.{Listing, joined}
 use Rattle.catalogue.proofs.Back.{fitting}

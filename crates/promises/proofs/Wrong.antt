@@ -8,14 +8,13 @@ use mathlib.Core.List.{List, [], _∷_}
 use native.Mathlib.Omega.{arith}
 use Rattle.meaning.specs.Forest.{rows}
 use Rattle.meaning.specs.Pattern.{symbol, nil}
-use Rattle.meaning.specs.Apply.{apply}
-use Rattle.meaning.specs.Record.{firstsT}
-use Rattle.meaning.specs.Matcher.{IsRecord}
+use Rattle.meaning.specs.Matcher.{apply}
+use Rattle.meaning.specs.Record.{firstsT, IsRecord}
 use Rattle.meaning.proofs.Lists.{look-old}
 use Rattle.tree.specs.Rows.{depth}
 use Rattle.grammar.specs.Classes.{classOf, nameStart}
 use Rattle.grammar.specs.Grammar.{ε, _▸_, Content, nothing, emptyElement, Document}
-use Rattle.grammar.specs.Tree.{forest}
+use Rattle.grammar.specs.Rows.{forest}
 use Rattle.dictionary.proofs.Names.{no-bytes}
 use Rattle.document.specs.Reading.{Read, shortest}
 use Rattle.constraint.specs.Obeys.{Allowed}
@@ -23,7 +22,7 @@ use Rattle.test.specs.Tested.{yesOf, Settled}
 use Rattle.test.specs.declared.Tested.{Tested}
 use Rattle.test.specs.declared.Tested.the-variants.{Refused, Yes, No}
 use Rattle.promises.specs.Demands.{Demands}
-use Rattle.promises.specs.Reader.{ReaderCodes}
+use Rattle.promises.specs.Refusals.{ReaderCodes}
 use Rattle.promises.specs.Table.{ground}
 use Rattle.promises.proofs.Examples.{letterA, is-ground}
 
@@ -36,7 +35,7 @@ held = emptyElement nothing ε (ε ▸ 103) ε
 
 is-small : Document small held ε
 unfolding nameStart classOf
-is-small = record { printed = refl; wellFormed = (tt, tt, refl, ((tt, refl), refl), tt); after = tt; one = refl }
+is-small = record { printed = refl; root = (refl, tt, refl, tt); after = tt }
 
 module _ (D : Demands) where
   -- a reader with room for a row reads <g/>, without names

@@ -8,10 +8,9 @@ use mathlib.Core.List.{List, _++_}
 use lib.ListN.{length, drop}
 use Rattle.meaning.specs.Forest.{none, Term, _◂_, size}
 use Rattle.meaning.specs.Pattern.{Pattern, Kind}
-use Rattle.meaning.specs.Matcher.{IsRecord}
-use Rattle.tree.specs.Rows.{labels, sizes}
-use Rattle.tree.specs.Good.{GoodTree}
-use Rattle.pattern.specs.Good.{GoodPattern}
+use Rattle.meaning.specs.Record.{IsRecord}
+use Rattle.tree.specs.Rows.{labels, sizes, GoodTree}
+use Rattle.pattern.specs.Rows.{GoodPattern}
 use Rattle.grammar.specs.Grammar.{Bytes, Content, Document}
 use Rattle.dictionary.specs.Names.{GoodDictionary, NamesOf}
 use Rattle.dictionary.specs.Spelling.{spellingOf, bytesOf, IsPart, PartAnswered, standsAt, SpellingAnswered}

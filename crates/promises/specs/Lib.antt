@@ -1,5 +1,4 @@
 pub mod Demands
-pub mod Reader
 pub mod Refusals
 pub mod Answers
 pub mod Lists

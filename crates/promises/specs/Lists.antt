@@ -8,17 +8,14 @@ use mathlib.Core.List.{List, []}
 use lib.ListN.{length, getD}
 use Rattle.meaning.specs.Forest.{none, Term, _◂_}
 use Rattle.meaning.specs.Pattern.{Pattern, Kind}
-use Rattle.meaning.specs.Value.{Value, kinds}
-use Rattle.meaning.specs.Solves.{Solves}
-use Rattle.meaning.specs.Record.{recordOf}
-use Rattle.meaning.specs.Matcher.{IsRecord}
-use Rattle.meaning.specs.Order.{choices}
+use Rattle.meaning.specs.Matcher.{Value, kinds, Solves}
+use Rattle.meaning.specs.Record.{recordOf, IsRecord}
+use Rattle.meaning.specs.Order.{choices, Mem}
 use Rattle.meaning.specs.Read.{readOff}
 use Rattle.meaning.specs.Reached.{Begins, Reached}
 use Rattle.expression.specs.Expression.{Expression}
 use Rattle.constraint.specs.Obeys.{Constraint, Allowed}
 use Rattle.problem.specs.Problem.{Lists, Poses}
-use Rattle.catalogue.specs.Order.{Mem}
 use Rattle.catalogue.specs.Listing.{Listing}
 use Rattle.lister.specs.Listed.{Settled}
 use Rattle.lister.specs.declared.Listed.{Listed}

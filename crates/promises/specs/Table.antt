@@ -5,7 +5,7 @@ use mathlib.Core.Logic.{_↔_}
 use mathlib.Core.List.{List, [], _∷_, _++_}
 use lib.ListN.{length, drop}
 use Rattle.problem.specs.Problem.{Lists}
-use Rattle.catalogue.specs.Order.{Mem}
+use Rattle.meaning.specs.Order.{Mem}
 use Rattle.catalogue.specs.Listing.{joined}
 use Rattle.lister.specs.Listed.{Settled}
 use Rattle.lister.specs.declared.Listed.{Listed}

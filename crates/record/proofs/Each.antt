@@ -8,9 +8,8 @@ use native.Mathlib.Omega.{arith}
 use native.Mathlib.Decide.{ℕ-discrete}
 use Rattle.meaning.specs.Forest.{Forest}
 use Rattle.meaning.specs.Pattern.{Kind, anIndividual, aSequence, aFunction, aContext, old, look}
-use Rattle.meaning.specs.Says.{Says}
-use Rattle.meaning.specs.Read.{valueAt, readOff}
-use Rattle.meaning.specs.GoodRecord.{Fits, GoodRecord}
+use Rattle.meaning.specs.Calls.{Says}
+use Rattle.meaning.specs.Read.{valueAt, readOff, Fits, GoodRecord}
 use Rattle.meaning.proofs.Lists.{look-old, look-some}
 use Rattle.meaning.proofs.Answers.{says-yes, says-no, said-no}
 use Rattle.tree.specs.Places.{TermsAt}

@@ -5,10 +5,9 @@ use mathlib.Core.Bool.{Bool, true, false}
 use mathlib.Core.List.{List}
 use lib.ListN.{length}
 use Rattle.meaning.specs.Forest.{none, Term, _◂_}
-use Rattle.meaning.specs.Says.{Says}
+use Rattle.meaning.specs.Calls.{Says}
 use Rattle.meaning.proofs.Answers.{says-no, said-no}
-use Rattle.tree.specs.Good.{GoodTree}
-use Rattle.tree.specs.Good.{Good as GoodRows}
+use Rattle.tree.specs.Rows.{GoodTree, Good as GoodRows}
 use Rattle.tree.specs.Places.{TermsAt}
 use Rattle.tree.proofs.Unique.{good-at, good-lengths}
 use Rattle.pattern.specs.Answer.{Settled}

@@ -3,9 +3,9 @@ use Prim.Native.Nat.{ℕ}
 use mathlib.Core.List.{List}
 use Rattle.meaning.specs.Forest.{none, Term, _◂_}
 use Rattle.meaning.specs.Pattern.{Pattern, Kind}
-use Rattle.meaning.specs.GoodRecord.{GoodRecord}
-use Rattle.tree.specs.Good.{GoodTree}
-use Rattle.pattern.specs.Good.{GoodPattern}
+use Rattle.meaning.specs.Read.{GoodRecord}
+use Rattle.tree.specs.Rows.{GoodTree}
+use Rattle.pattern.specs.Rows.{GoodPattern}
 
 abbrev pub Good : (label size kind name patternSize list : List ℕ) → Type 0
 Good label size kind name patternSize list =

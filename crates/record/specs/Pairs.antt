@@ -6,8 +6,8 @@ use mathlib.Core.List.{List}
 use lib.ListN.{length}
 use Rattle.meaning.specs.Forest.{Forest}
 use Rattle.meaning.specs.Pattern.{Kind}
-use Rattle.meaning.specs.Says.{Says}
-use Rattle.meaning.specs.GoodRecord.{Fits, GoodRecord}
+use Rattle.meaning.specs.Calls.{Says}
+use Rattle.meaning.specs.Read.{Fits, GoodRecord}
 use Rattle.tree.specs.Places.{TermsAt}
 use Rattle.pattern.specs.Rows.{code}
 use Rattle.pattern.specs.Known.{KindsAre}

@@ -1,4 +1,4 @@
-ghost use Rattle.meaning.specs.Says.{Says};
+ghost use Rattle.meaning.specs.Calls.{Says};
 ghost use Rattle.meaning.specs.Pattern.{anIndividual, aSequence, aFunction, aContext};
 ghost use Rattle.record.specs.Good.{Good};
 ghost use Rattle.record.specs.Pairs.{RowsPre, FitsPost, PairPost, RecordPre, RecordPost};

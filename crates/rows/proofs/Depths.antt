@@ -8,8 +8,7 @@ use lib.Dec.{ltb}
 use borrow.Author.Tests.{lt-ltb, le-ltb, ltb-false}
 use Rattle.tree.specs.Rows.{sizes}
 use Rattle.grammar.specs.Grammar.{Bytes, Content, nothing, emptyElement, element}
-use Rattle.grammar.specs.Tree.{inked, shape}
-use Rattle.grammar.specs.Rows.{#, width, Row, row, ofElement, ofText, leafRow, rowsFrom, rowsOf}
+use Rattle.grammar.specs.Rows.{inked, shape, #, width, Row, row, ofElement, ofText, leafRow, rowsFrom, rowsOf}
 use Rattle.grammar.proofs.Trees.{leafRows, contentRows}
 use Rattle.labels.specs.Sizes.{deeper, sizesOf}
 use Rattle.rows.proofs.Sizes.{leafSizes, sizesOn, own-size, sizes-tree}

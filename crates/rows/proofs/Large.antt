@@ -6,8 +6,7 @@ use Prim.Native.Nat.{ℕ, suc, _+_, _≤_, _<_, max}
 use native.Mathlib.Omega.{arith}
 use lib.ListN.{length, getD, length-append}
 use Rattle.grammar.specs.Grammar.{Bytes, ε, Content, nothing, emptyElement, element}
-use Rattle.grammar.specs.Tree.{inked}
-use Rattle.grammar.specs.Rows.{#, width, Row, row, leafRow, rowsFrom, rowsOf, ofElement, ofText}
+use Rattle.grammar.specs.Rows.{inked, #, width, Row, row, leafRow, rowsFrom, rowsOf, ofElement, ofText}
 use Rattle.grammar.specs.Machine.{Open, State, At}
 use Rattle.grammar.proofs.Trees.{leafRows, contentRows, contentDepth, shape-rows, shape-depth}
 use Rattle.grammar.proofs.Rows.{All, all-at}

@@ -8,7 +8,9 @@ use lib.Dec.{ltb}
 use lib.ListN.{length, getD, List·getD-eq-default}
 use borrow.Author.Tests.{ltb-true, ltb-false, eq-eqb}
 use Rattle.grammar.specs.Classes.{white, nameByte, classOf}
-use Rattle.grammar.specs.Grammar.{Bytes, mayFollow, Level}
+use Rattle.grammar.specs.Grammar.{Bytes}
+use Rattle.grammar.specs.Tokens.{Level}
+use Rattle.grammar.specs.Machine.{mayFollow}
 use Rattle.grammar.proofs.Theory.{not-less}
 use Rattle.judge.specs.Tokens.{Span, bytes, whiteAt, nameAt, sameAt, levelOf, runAt}
 use Rattle.judge.specs.Tags.{RunTo}

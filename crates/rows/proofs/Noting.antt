@@ -7,8 +7,7 @@ use native.Mathlib.Omega.{arith}
 use lib.ListN.{length, getD, set, length-set, length-map, length-append}
 use lib.Seq.{getD-set-same, getD-set-other}
 use Rattle.grammar.specs.Grammar.{Bytes, Content, nothing, emptyElement, element}
-use Rattle.grammar.specs.Tree.{inked}
-use Rattle.grammar.specs.Rows.{#, width, Row, row, ofText}
+use Rattle.grammar.specs.Rows.{inked, #, width, Row, row, ofText}
 use Rattle.grammar.specs.Machine.{Open, afterLess, At}
 use Rattle.grammar.proofs.Trees.{leafRows, contentRows, contentDepth, shape-depth}
 use Rattle.grammar.proofs.Positions.{offO, posS, at-place}

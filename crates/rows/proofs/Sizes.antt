@@ -8,7 +8,7 @@ use lib.ListN.{length, length-append}
 use Rattle.meaning.specs.Forest.{Forest, none, some, rows}
 use Rattle.tree.specs.Rows.{sizes}
 use Rattle.grammar.specs.Grammar.{Bytes, Content, nothing, emptyElement, element}
-use Rattle.grammar.specs.Tree.{inked, leaf, forest}
+use Rattle.grammar.specs.Rows.{inked, leaf, forest}
 use Rattle.grammar.specs.Machine.{Open}
 use Rattle.grammar.proofs.Trees.{leafRows, contentRows, leaf-rows, rows-are}
 use Rattle.judge.proofs.Judging.{rowsO}

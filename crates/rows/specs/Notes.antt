@@ -4,11 +4,9 @@ use mathlib.Core.List.{List}
 use Prim.Native.Nat.{ℕ, _≤_, _<_}
 use Rattle.meaning.specs.Forest.{rows}
 use Rattle.tree.specs.Rows.{depth, sizes}
-use Rattle.grammar.specs.Grammar.{Bytes, Content, Document}
-use Rattle.grammar.specs.Place.{OutsideAt}
-use Rattle.grammar.specs.Tree.{shape}
+use Rattle.grammar.specs.Grammar.{Bytes, Content, Document, OutsideAt}
+use Rattle.grammar.specs.Rows.{shape, starts, lengths}
 use Rattle.labels.specs.Lists.{Holds, Long}
-use Rattle.rows.specs.Places.{starts, lengths}
 use Rattle.rows.specs.declared.note.Noted.{Noted}
 use Rattle.rows.specs.declared.note.Noted.the-variants.{Rows, Outside, Beyond}
 

@@ -3,8 +3,7 @@ use mathlib.Core.Path.{_≡_}
 use mathlib.Core.List.{List}
 use Prim.Native.Nat.{ℕ, _+_, _-_, _≤_, _<_}
 use lib.ListN.{length, getD}
-use Rattle.grammar.specs.Grammar.{Bytes, less, Content}
-use Rattle.grammar.specs.Place.{OutsideAt}
+use Rattle.grammar.specs.Grammar.{Bytes, less, Content, OutsideAt}
 use Rattle.grammar.specs.Machine.{Open}
 use Rattle.judge.specs.Tokens.{Span, bytes, nameAt}
 use Rattle.judge.specs.Tags.{RunTo, OpenedTo, EmptyTo, Closed, Tagging}

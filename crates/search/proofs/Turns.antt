@@ -12,7 +12,7 @@ use Rattle.meaning.specs.Record.{Entry, numbers}
 use Rattle.meaning.proofs.Walk.{ok, walkT, walk}
 use Rattle.meaning.proofs.Next.{Any, any?}
 use Rattle.meaning.proofs.Tame.{count, tame-need}
-use Rattle.tree.specs.Good.{GoodTree}
+use Rattle.tree.specs.Rows.{GoodTree}
 use Rattle.tree.proofs.Unique.{good-lengths}
 use Rattle.expression.specs.Expression.{Expression}
 use Rattle.constraint.specs.Obeys.{Constraint, Allowed}

@@ -1,6 +1,5 @@
 // What the site's server, written in C, calls: thin exports over the proved functions. `include/khargovsun.h` declares them in C.
-ghost use Rattle.document.specs.Checked.{Checked};
-ghost use Rattle.document.specs.Reading.{Read};
+ghost use Rattle.document.specs.Reading.{Checked, Read};
 ghost use Rattle.dictionary.specs.Spelling.{PartAnswered};
 ghost use Rattle.instance.specs.Instance.{lists};
 ghost use Rattle.answer.specs.Answers.{Lists, Tests, Makes};

@@ -6,16 +6,15 @@ use mathlib.Core.List.{List}
 use lib.ListN.{length, getD}
 use native.Mathlib.Omega.{arith}
 use native.Mathlib.Decide.{ℕ-discrete}
-use Rattle.meaning.specs.Says.{Says}
+use Rattle.meaning.specs.Calls.{Says}
 use Rattle.meaning.specs.Forest.{none, Term, _◂_}
 use Rattle.meaning.specs.Pattern.{Kind, old, look}
-use Rattle.meaning.specs.Read.{valueAt}
-use Rattle.meaning.specs.GoodRecord.{GoodRecord}
+use Rattle.meaning.specs.Read.{valueAt, GoodRecord}
 use Rattle.meaning.proofs.Answers.{says-yes, says-no, said-no}
 use Rattle.meaning.proofs.Lists.{look-some}
 use Rattle.record.proofs.Each.{good-each, good-long}
 use Rattle.expression.specs.Expression.{Expression}
-use Rattle.expression.specs.Good.{GoodTable}
+use Rattle.expression.specs.Rows.{GoodTable}
 use Rattle.letters.specs.State.{TablesOf}
 use Rattle.constraint.specs.Obeys.{Constraint, Allowed}
 use Rattle.problem.specs.Allowing.{Allowing, AllowedPre, AllowedPost}

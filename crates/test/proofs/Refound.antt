@@ -5,12 +5,11 @@ use mathlib.Core.Bool.{Bool, true, false}
 use mathlib.Core.List.{List, []}
 use lib.ListN.{length, take}
 use native.Mathlib.Omega.{arith}
-use Rattle.meaning.specs.Says.{Says}
+use Rattle.meaning.specs.Calls.{Says}
 use Rattle.meaning.specs.Forest.{none, Term, _◂_}
 use Rattle.meaning.specs.Pattern.{Pattern, Kind}
-use Rattle.meaning.specs.Record.{numbers}
+use Rattle.meaning.specs.Record.{numbers, IsRecord}
 use Rattle.meaning.specs.Order.{choices}
-use Rattle.meaning.specs.Matcher.{IsRecord}
 use Rattle.meaning.proofs.Walk.{Res, fail, ok}
 use Rattle.meaning.proofs.Walk as meant
 use Rattle.meaning.proofs.Next.{Any, any?}

@@ -6,20 +6,19 @@ use mathlib.Core.Bool.{Bool, true, false}
 use mathlib.Core.List.{List}
 use lib.ListN.{length, getD}
 use native.Mathlib.Omega.{arith}
-use Rattle.meaning.specs.Says.{Says}
+use Rattle.meaning.specs.Calls.{Says}
 use Rattle.meaning.specs.Forest.{none, Term, _◂_}
 use Rattle.meaning.specs.Pattern.{Pattern, Kind, old, look, Numbered}
-use Rattle.meaning.specs.Value.{Value}
-use Rattle.meaning.specs.Read.{valueAt, readOff}
-use Rattle.meaning.specs.GoodRecord.{GoodRecord}
-use Rattle.meaning.specs.Matcher.{IsRecord}
+use Rattle.meaning.specs.Matcher.{Value}
+use Rattle.meaning.specs.Read.{valueAt, readOff, GoodRecord}
+use Rattle.meaning.specs.Record.{IsRecord}
 use Rattle.meaning.proofs.Lists.{look-old, look-some}
 use Rattle.meaning.proofs.Steps.{kinds-length}
 use Rattle.meaning.proofs.Next.{Any, any?}
 use Rattle.meaning.proofs.Round.{round}
 use Rattle.meaning.proofs.Answers.{says-yes, says-no, said-no}
-use Rattle.tree.specs.Good.{GoodTree}
-use Rattle.pattern.specs.Good.{GoodPattern}
+use Rattle.tree.specs.Rows.{GoodTree}
+use Rattle.pattern.specs.Rows.{GoodPattern}
 use Rattle.pattern.specs.Known.{KindsAre}
 use Rattle.record.specs.Pairs.{RecordPre, RecordPost}
 use Rattle.record.proofs.Each.{read-look}

@@ -4,18 +4,17 @@ use mathlib.Core.Path.{_≡_}
 use mathlib.Core.Bool.{Bool}
 use mathlib.Core.List.{List}
 use lib.ListN.{length, getD, take}
-use Rattle.meaning.specs.Says.{Says}
+use Rattle.meaning.specs.Calls.{Says}
 use Rattle.meaning.specs.Forest.{none, Term, _◂_}
 use Rattle.meaning.specs.Pattern.{Pattern, Kind, old, look}
-use Rattle.meaning.specs.Read.{valueAt}
-use Rattle.meaning.specs.GoodRecord.{GoodRecord}
-use Rattle.meaning.specs.Matcher.{IsRecord}
+use Rattle.meaning.specs.Read.{valueAt, GoodRecord}
+use Rattle.meaning.specs.Record.{IsRecord}
 use Rattle.meaning.proofs.Next.{Any}
-use Rattle.tree.specs.Good.{GoodTree}
-use Rattle.pattern.specs.Good.{GoodPattern}
+use Rattle.tree.specs.Rows.{GoodTree}
+use Rattle.pattern.specs.Rows.{GoodPattern}
 use Rattle.pattern.specs.Answer.{listed}
 use Rattle.expression.specs.Expression.{Expression}
-use Rattle.expression.specs.Good.{GoodTable}
+use Rattle.expression.specs.Rows.{GoodTable}
 use Rattle.constraint.specs.Obeys.{Constraint, Allowed}
 use Rattle.constraint.specs.Good.{GoodConstraints}
 use Rattle.problem.specs.Allowing.{Allowing}

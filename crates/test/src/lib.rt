@@ -1,7 +1,7 @@
 ghost use mathlib.Core.Path.{_≡_};
 ghost use Prim.Native.Nat.{_≤_};
 ghost use lib.ListN.{length};
-ghost use Rattle.meaning.specs.Says.{Says};
+ghost use Rattle.meaning.specs.Calls.{Says};
 ghost use Rattle.test.specs.Tested.{Settled};
 ghost use Rattle.test.specs.Followed.{FollowPre, FollowPost};
 ghost use Rattle.test.specs.Inside.{Copied, WalkablePre, PlacedPost, ConstrainedPre, ObeyedPost, AllPre, AllPost};

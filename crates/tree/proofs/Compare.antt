@@ -8,7 +8,7 @@ use lib.ListN.{getD}
 use native.Mathlib.Omega.{arith}
 use native.Mathlib.Decide.{decLt}
 use native.Mathlib.Nat.{add-assoc, add-zero}
-use Rattle.meaning.specs.Says.{Says}
+use Rattle.meaning.specs.Calls.{Says}
 use Rattle.meaning.specs.Forest.{Forest, some, rows}
 use Rattle.tree.specs.Places.{TermsAt, stop, step, SameRows}
 use Rattle.tree.proofs.Terms.{terms-le, terms-rows}

@@ -5,8 +5,7 @@ use mathlib.Core.List.{List}
 use lib.ListN.{length}
 use native.Mathlib.Omega.{arith}
 use Rattle.meaning.specs.Forest.{Forest, none, Term, term, _◂_, rows}
-use Rattle.tree.specs.Rows.{labels, sizes}
-use Rattle.tree.specs.Good.{Below, GoodTree, Good}
+use Rattle.tree.specs.Rows.{labels, sizes, Below, GoodTree, Good}
 use Rattle.tree.specs.Shape.{Shape}
 use Rattle.tree.specs.Places.{TermsAt, step, TermAt}
 use Rattle.tree.proofs.Compare.{one-sequence}

@@ -6,7 +6,7 @@ use mathlib.Core.Bool.{Bool, true}
 use mathlib.Core.List.{List}
 use lib.ListN.{length, getD}
 use native.Mathlib.Decide.{ℕ-discrete}
-use Rattle.meaning.specs.Says.{Says}
+use Rattle.meaning.specs.Calls.{Says}
 
 -- one, if it is so
 unfoldable pub one : {A : Type 0} → Dec A → ℕ

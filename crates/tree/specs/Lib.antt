@@ -1,5 +1,4 @@
 pub mod Rows
-pub mod Good
 pub mod Shape
 pub mod Places
 pub mod Helpers

@@ -1,8 +1,8 @@
 ghost use mathlib.Core.Path.{_≡_};
 ghost use Prim.Native.Nat.{_+_, _<_, _≤_};
 ghost use lib.ListN.{length, getD};
-ghost use Rattle.meaning.specs.Says.{Says};
-ghost use Rattle.tree.specs.Good.{Below, Good};
+ghost use Rattle.meaning.specs.Calls.{Says};
+ghost use Rattle.tree.specs.Rows.{Below, Good};
 ghost use Rattle.tree.specs.Shape.{Shape};
 ghost use Rattle.tree.specs.Endings.{Told, EndingPost, NestedPre};
 ghost use Rattle.tree.specs.Places.{SameRows};

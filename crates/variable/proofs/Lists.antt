@@ -6,7 +6,7 @@ use lib.ListN.{length, getD, take, length-take}
 use lib.Seq.{ext-getD, getD-take}
 use native.Mathlib.Omega.{arith}
 use Rattle.meaning.specs.Pattern.{old, look}
-use Rattle.meaning.specs.Value.{Value, kind, kinds}
+use Rattle.meaning.specs.Matcher.{Value, kind, kinds}
 use Rattle.meaning.specs.Record.{Entry, entry, values, second, numbers}
 use Rattle.meaning.proofs.Lists.{look-old}
 

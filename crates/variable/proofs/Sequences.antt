@@ -8,7 +8,7 @@ use native.Mathlib.Omega.{arith}
 use Rattle.meaning.specs.Forest.{Forest, some, terms}
 use Rattle.meaning.specs.Read.{takeT}
 use Rattle.meaning.specs.Pattern.{Kind, aSequence, Comes}
-use Rattle.meaning.specs.Value.{Value, ofSequence, kind}
+use Rattle.meaning.specs.Matcher.{Value, ofSequence, kind}
 use Rattle.meaning.specs.Record.{Entry, second, span}
 use Rattle.tree.specs.Places.{TermsAt}
 use Rattle.tree.proofs.Terms.{terms-rows}

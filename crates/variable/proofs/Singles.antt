@@ -9,10 +9,10 @@ use native.Mathlib.Omega.{arith}
 use native.Mathlib.Decide.{ℕ-discrete}
 use Rattle.meaning.specs.Forest.{Forest, none, some}
 use Rattle.meaning.specs.Pattern.{Kind, anIndividual, aFunction, old, look, Comes}
-use Rattle.meaning.specs.Value.{Value, ofIndividual, ofFunction, kind, same?}
+use Rattle.meaning.specs.Matcher.{Value, ofIndividual, ofFunction, kind}
+use Rattle.meaning.proofs.Walk.{same?, ok}
 use Rattle.meaning.specs.Record.{Entry, values}
 use Rattle.meaning.proofs.Lists.{look-old}
-use Rattle.meaning.proofs.Walk.{ok}
 use Rattle.meaning.proofs.Steps.{when-yes}
 use Rattle.tree.specs.Places.{TermAt, Next}
 use Rattle.tree.proofs.Terms.{term-next, alone-at}

@@ -5,7 +5,7 @@ use mathlib.Core.List.{List}
 use lib.ListN.{length, getD, take}
 use Rattle.meaning.specs.Forest.{Forest, Context, holeRow}
 use Rattle.meaning.specs.Pattern.{Kind, anIndividual, aFunction, old, look}
-use Rattle.meaning.specs.Value.{Value, ofIndividual, ofSequence, ofFunction, ofContext}
+use Rattle.meaning.specs.Matcher.{Value, ofIndividual, ofSequence, ofFunction, ofContext}
 use Rattle.meaning.specs.Record.{Entry, numbers}
 use Rattle.meaning.proofs.Steps.{Inv}
 use Rattle.meaning.proofs.Next.{Any}

@@ -8,7 +8,7 @@ use native.Mathlib.Decide.{ℕ-discrete}
 use Rattle.meaning.specs.Forest.{Forest, Term, rows, terms}
 use Rattle.meaning.specs.Read.{takeT, cut}
 use Rattle.meaning.specs.Pattern.{Kind, anIndividual, aSequence, aFunction, aContext, Comes, after}
-use Rattle.meaning.specs.Value.{Value, ofIndividual, ofSequence, ofFunction, ofContext}
+use Rattle.meaning.specs.Matcher.{Value, ofIndividual, ofSequence, ofFunction, ofContext}
 use Rattle.meaning.specs.Record.{Entry}
 use Rattle.meaning.proofs.Laws.{dropT}
 use Rattle.meaning.proofs.Walk.{Res, fail, ok, when, meet, choose}

@@ -8,7 +8,7 @@ use native.Mathlib.Omega.{arith}
 use Rattle.meaning.specs.Forest.{Forest, none, some, term, rows, terms, size}
 use Rattle.meaning.specs.Read.{takeT}
 use Rattle.meaning.specs.Pattern.{Pattern, Patterns, nil, cons, sequence, Kind, aSequence, after, afterT, afterF, GoodF}
-use Rattle.meaning.specs.Value.{ofSequence}
+use Rattle.meaning.specs.Matcher.{ofSequence}
 use Rattle.meaning.specs.Record.{Entry}
 use Rattle.meaning.proofs.Laws.{dropT}
 use Rattle.meaning.proofs.Lists.{look-old}

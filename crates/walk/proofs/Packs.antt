@@ -12,7 +12,7 @@ use Rattle.meaning.specs.Forest.{none, rows, _◂_}
 use Rattle.tree.specs.Rows.{sizes}
 use Rattle.tree.specs.Shape.{Shape}
 use Rattle.tree.proofs.Lists.{sizes-rows}
-use Rattle.pattern.specs.Good.{GoodPattern}
+use Rattle.pattern.specs.Rows.{GoodPattern}
 use Rattle.pattern.proofs.Joint.{good-shape, good-scan, lengths}
 use Rattle.walk.specs.Packed.{Past, Holds, Packed, Bounds, PackPre, Put, HeldBefore, HolderPre, HolderPost}
 

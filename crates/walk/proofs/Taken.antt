@@ -8,7 +8,7 @@ use native.Mathlib.Decide.{decLe}
 use Rattle.meaning.specs.Forest.{holeRow}
 use Rattle.meaning.specs.Read.{cut}
 use Rattle.meaning.specs.Pattern.{Kind, aSequence, aContext, Comes}
-use Rattle.meaning.specs.Value.{kind}
+use Rattle.meaning.specs.Matcher.{kind}
 use Rattle.meaning.specs.Record.{Entry, entry, second}
 use Rattle.meaning.proofs.Laws.{terms-take, terms-few, cut-holds}
 use Rattle.meaning.proofs.Walk.{Res, when}

@@ -9,7 +9,7 @@ use native.Mathlib.Decide.{ℕ-discrete}
 use Rattle.meaning.specs.Forest.{Term, rows, _◂_, Context, hole, node, plug}
 use Rattle.meaning.specs.Read.{cut}
 use Rattle.meaning.specs.Pattern.{Pattern, individual, context, Patterns, Kind, anIndividual, aFunction, aContext, Comes, after, afterT, afterF, GoodT, GoodF}
-use Rattle.meaning.specs.Value.{ofFunction}
+use Rattle.meaning.specs.Matcher.{ofFunction}
 use Rattle.meaning.specs.Record.{Entry}
 use Rattle.meaning.proofs.Laws.{rows-of, cut-plugs}
 use Rattle.meaning.proofs.Lists.{look-old}

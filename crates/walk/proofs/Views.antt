@@ -6,7 +6,7 @@ use mathlib.Core.List.{List}
 use lib.ListN.{length, getD}
 use native.Mathlib.Omega.{arith}
 use Rattle.meaning.specs.Pattern.{Pattern, symbol, individual, function, context, Patterns, nil, cons, sequence, Kind, anIndividual, aSequence, aFunction, aContext, Comes, after, afterT, GoodT, GoodF}
-use Rattle.meaning.specs.Value.{Value}
+use Rattle.meaning.specs.Matcher.{Value}
 use Rattle.meaning.specs.Record.{Entry}
 use Rattle.meaning.proofs.Walk.{Res, fail, ok, choose}
 use Rattle.meaning.proofs.Resume.{Frame}

@@ -9,8 +9,8 @@ use Rattle.meaning.specs.Record.{Entry}
 use Rattle.meaning.proofs.Walk.{walkT}
 use Rattle.meaning.proofs.Resume.{Frame, Stop, at-sequence, at-context, run, onward}
 use Rattle.meaning.proofs.Next.{Any, any?}
-use Rattle.tree.specs.Good.{GoodTree}
-use Rattle.pattern.specs.Good.{GoodPattern}
+use Rattle.tree.specs.Rows.{GoodTree}
+use Rattle.pattern.specs.Rows.{GoodPattern}
 use Rattle.variable.specs.State.{State, Kept}
 use Rattle.variable.specs.Steps.{InHole}
 use Rattle.variable.specs.Steps as steps

@@ -9,7 +9,7 @@ use lib.Dec.{eqb, ltb}
 use lib.ListN.{getD}
 use borrow.Author.Count.{below-more}
 use borrow.Author.Tests.{ltb-true, ltb-false, eqb-true, eq-eqb}
-use Rattle.meaning.specs.Says.{Says}
+use Rattle.meaning.specs.Calls.{Says}
 use Rattle.words.specs.Words.{wordOf, Again, mixedOf, fewOf, longHashOf, hashOf}
 
 -- FOUR AND EIGHT BYTES

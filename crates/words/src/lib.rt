@@ -3,7 +3,7 @@ ghost use mathlib.Core.Path.{_≡_};
 ghost use mathlib.Core.Bool.{true};
 ghost use Prim.Native.Nat.{_+_, _≤_, _<_};
 ghost use lib.ListN.{length};
-ghost use Rattle.meaning.specs.Says.{Says};
+ghost use Rattle.meaning.specs.Calls.{Says};
 ghost use Rattle.words.specs.Words.{wordOf, Again, mixedOf, fewOf, longHashOf, hashOf};
 
 fn wide(x: u8) -> u64

@@ -5,7 +5,7 @@ use Prim.Native.Nat.{ℕ, _-_, _≤_}
 use native.Mathlib.Omega.{arith}
 use lib.ListN.{length, length-set}
 use Rattle.expression.specs.Expression.{Expression}
-use Rattle.expression.specs.Good.{GoodTable}
+use Rattle.expression.specs.Rows.{GoodTable}
 use Rattle.letters.specs.Following.{ContsOf}
 use Rattle.letters.proofs.Filled.{conts-begin, conts-turn}
 use borrow.Author.Needs.{needs}

@@ -5,7 +5,7 @@ use mathlib.Core.Bool.{Bool, true, false, _&&_}
 use lib.ListN.{length, getD}
 use native.Mathlib.Omega.{arith}
 use borrow.Author.Count.{below-more, below-none}
-use Rattle.meaning.specs.Says.{Says}
+use Rattle.meaning.specs.Calls.{Says}
 use Rattle.meaning.proofs.Answers.{says-yes, says-no, says-less, said-no}
 use Rattle.tree.proofs.below.Statement.{statement}
 use Rattle.tree.proofs.below.Tie as tie

@@ -1,5 +1,5 @@
 use Rattle.dictionary.specs.Scan.{range}
-use Rattle.dictionary.specs.Labels.{knownAfter}
+use Rattle.dictionary.proofs.Labels.{knownAfter}
 use Rattle.dictionary.specs.Index.{MayLabel, Labelled}
 use Prim.Native.Nat.{ℕ, _+_, _-_, _≤_}
 use mathlib.Core.Path.{_≡_, ap}
