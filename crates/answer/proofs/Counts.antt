@@ -101,14 +101,14 @@ records-fit {l} {budget} {before} {r} low s = go (ℕ-discrete (r .code) 0)
     go (no n) = omega (arith, s .refused n .1)
 
 -- the instance that is made is the one whose rows are few
-few-instance : (l : instance.Lists) (m n c : ℕ) → c ≡ 0 → instance.Codes l m n c → (U : Term) × instance.Instance l U × (size U ≤ 2048)
+few-instance : (l : instance.InstanceLists) (m n c : ℕ) → c ≡ 0 → instance.InstanceCodes l m n c → (U : Term) × instance.Instance l U × (size U ≤ 2048)
 few-instance l m n c z (inl a) = absurd (omega (arith, a .1))
 few-instance l m n c z (inr (_, inl a)) = absurd (omega (arith, a .1))
 few-instance l m n c z (inr (_, inr (_, inl a))) = absurd (omega (arith, a .1))
 few-instance l m n c z (inr (_, inr (_, inr (_, inl a)))) = absurd (omega (arith, a .1))
 few-instance l m n c z (inr (_, inr (_, inr (_, inr (u, _))))) = u
 
-pub rows-fit : {l : instance.Lists} {outLabel outSize : List ℕ} {r : Made} {newLabel newSize : List ℕ} → instance.Settled l outLabel outSize r newLabel newSize → instance.rowsGiven r ≤ 2048
+pub rows-fit : {l : instance.InstanceLists} {outLabel outSize : List ℕ} {r : Made} {newLabel newSize : List ℕ} → instance.InstanceSettled l outLabel outSize r newLabel newSize → instance.rowsGiven r ≤ 2048
 rows-fit {l} {outLabel} {outSize} {r} s = go (ℕ-discrete (instance.codeGiven r) 0)
   where
     go : Dec (instance.codeGiven r ≡ 0) → instance.rowsGiven r ≤ 2048
@@ -116,4 +116,4 @@ rows-fit {l} {outLabel} {outSize} {r} s = go (ℕ-discrete (instance.codeGiven r
         let u = few-instance l (length outLabel) (length outSize) (instance.codeGiven r) e (s .coded) in
         let m = s .accepted e in
         omega (arith, u .2, m .answered, ap size (one-instance (m .its) (u .1)))
-    go (no n) = omega (arith, s .refused n .answered)
+    go (no n) = omega (arith, s .refused n .0)

@@ -21,7 +21,7 @@ one-testing a b =
     let e = one-tested (a .answer) (b .answer) (a .settled) (b .settled) in
     (a .code-is ∙ ap codeOf e ∙ sym (b .code-is), a .yes-is ∙ ap (λ (t : Tested). number (yesOf t)) e ∙ sym (b .yes-is))
 
-pub one-made : {l : instance.Lists} {outLabel outSize : List ℕ} {c r d s : ℕ} {v w x y : List ℕ} → Makes l outLabel outSize c r v w → Makes l outLabel outSize d s x y
+pub one-made : {l : instance.InstanceLists} {outLabel outSize : List ℕ} {c r d s : ℕ} {v w x y : List ℕ} → Makes l outLabel outSize c r v w → Makes l outLabel outSize d s x y
     → (c ≡ d) × (r ≡ s) × (v ≡ x) × (w ≡ y)
 one-made {l} {outLabel} {outSize} {v = v} {w} {x} {y} a b =
     let e = one-making l outLabel outSize (a .answer) (b .answer) v w x y (a .settled) (b .settled) in (

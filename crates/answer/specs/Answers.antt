@@ -23,13 +23,13 @@ pub record Lists (l : problem.Lists) (budget : ℕ) (before : List ℕ) (code en
 -- the two numbers are those of the test's answer
 pub record Tests (l : problem.Lists) (numbers : List ℕ) (code yes : ℕ) : Type 0 where
   pub answer : Tested
-  pub settled : test.Settled l numbers answer
+  pub settled : test.TestSettled l numbers answer
   pub code-is : code ≡ test.codeOf answer
   pub yes-is : yes ≡ number (test.yesOf answer)
 
 -- the two numbers are those of the instance maker's answer
-pub record Makes (l : instance.Lists) (outLabel outSize : List ℕ) (code rows : ℕ) (newLabel newSize : List ℕ) : Type 0 where
+pub record Makes (l : instance.InstanceLists) (outLabel outSize : List ℕ) (code rows : ℕ) (newLabel newSize : List ℕ) : Type 0 where
   pub answer : Made
-  pub settled : instance.Settled l outLabel outSize answer newLabel newSize
+  pub settled : instance.InstanceSettled l outLabel outSize answer newLabel newSize
   pub code-is : code ≡ instance.codeGiven answer
   pub rows-is : rows ≡ instance.rowsGiven answer

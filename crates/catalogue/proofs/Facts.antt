@@ -3,7 +3,7 @@
 use Prim.Native.Nat.{ℕ, zero, suc, _≤_, zero-le}
 use mathlib.Core.Path.{_≡_, refl, ap, _∙_, sym}
 use mathlib.Core.Logic.{inl, inr}
-use mathlib.Core.Bool.{Bool, true, false}
+use mathlib.Core.Bool.{Bool, true, false, cond}
 use mathlib.Core.List.{List, [], _∷_, _++_, append-nil}
 use lib.ListN.{length, take, drop, take-append-drop}
 use lib.Dec.{leb, ltb}
@@ -18,14 +18,14 @@ use Rattle.meaning.specs.Reached.{Begins}
 use Rattle.meaning.proofs.Theorems.{complete}
 use Rattle.meaning.proofs.Tame.{count, tame-ok}
 use Rattle.catalogue.specs.Listing.{Solutions, Tries, Meant}
-use Rattle.catalogue.specs.Answer.{Result, pick, places, within, Room, atMost, unlimited, byBudget, answer}
+use Rattle.catalogue.specs.Answer.{Result, places, within, Room, atMost, unlimited, byBudget, answer}
 use Rattle.catalogue.proofs.Events.{Event, tried, matched, events}
 use Rattle.catalogue.proofs.Ascent.{⊏-irrefl, ⊏-trans, unique}
 use Rattle.catalogue.proofs.Run.{run, more}
 use Rattle.catalogue.proofs.Whole.{walked, meant}
 
 -- what holds of both holds of the one that is picked
-picked : (C : Result → Type 0) (b : Bool) (x y : Result) → C x → C y → C (pick b x y)
+picked : (C : Result → Type 0) (b : Bool) (x y : Result) → C x → C y → C (cond b x y)
 picked C true x y h k = h
 picked C false x y h k = k
 
@@ -105,7 +105,7 @@ within-few : (budget : ℕ) (ns : List ℕ) → within budget ns ≤ length ns
 within-few budget [] = omega arith
 within-few budget (n ∷ ns) = go (leb n budget) (within-few budget ns)
   where
-    go : (b : Bool) → within budget ns ≤ length ns → pick b (suc (within budget ns)) (within budget ns) ≤ suc (length ns)
+    go : (b : Bool) → within budget ns ≤ length ns → cond b (suc (within budget ns)) (within budget ns) ≤ suc (length ns)
     go true i = omega arith
     go false i = omega arith
 

@@ -1,6 +1,7 @@
 -- What the loop comes to by going through the events, and the events that its levels have left.
 use mathlib.Core.Path.{_≡_, refl, sym, ap, _∙_}
 use mathlib.Core.Logic.{inl, inr}
+use mathlib.Core.Bool.{cond}
 use mathlib.Core.List.{List, [], _∷_, _++_, append-assoc, append-nil}
 use Prim.Native.Nat.{ℕ, zero, suc, _+_, _-_, _*_, _≤_, _<_}
 use native.Mathlib.Omega.{arith}
@@ -12,7 +13,7 @@ use borrow.Author.Tests.{lt-ltb, le-ltb}
 use native.Mathlib.Nat.{add-zero, suc-mul, sub-zero, add-assoc, mul-le-mul-right, zero-mul, zero-add, div-mul-le-self}
 use native.Mathlib.Numerals.{add-one}
 use Rattle.meaning.specs.Order.{Mem}
-use Rattle.catalogue.specs.Answer.{Result, pick}
+use Rattle.catalogue.specs.Answer.{Result}
 use Rattle.catalogue.specs.Listing.{joined}
 use Rattle.catalogue.proofs.Back.{BackTo, fitting}
 use Rattle.catalogue.proofs.Events.{Outcome, fail, need, done, Event, tried, matched, snoc, branch, events, sound}
@@ -37,9 +38,9 @@ splice d at r = take at d ++ r ++ drop (at + length r) d
 abbrev pub fill : ℕ → ℕ → ℕ → ℕ → ℕ → List ℕ → List Event → Filled
 fill budget room width t n out [] = record { ending = 0; records = n; tries = t; out = out }
 fill budget room width t n out (tried v ∷ es) =
-    pick (ltb t budget) (fill budget room width (suc t) n out es) (record { ending = 2; records = n; tries = t; out = out })
+    cond (ltb t budget) (fill budget room width (suc t) n out es) (record { ending = 2; records = n; tries = t; out = out })
 fill budget room width t n out (matched v r ∷ es) =
-    pick (ltb n room) (fill budget room width t (suc n) (splice out (n * width) r) es) (record { ending = 1; records = n; tries = t; out = out })
+    cond (ltb n room) (fill budget room width t (suc n) (splice out (n * width) r) es) (record { ending = 1; records = n; tries = t; out = out })
 
 -- each match has a record of the width
 abbrev pub Widths : ℕ → List Event → Type 0

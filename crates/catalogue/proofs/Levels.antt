@@ -9,7 +9,8 @@ use native.Mathlib.Decide.{decLt}
 use Rattle.meaning.specs.Forest.{Term}
 use Rattle.meaning.specs.Pattern.{Pattern, Kind, anIndividual, aSequence, aFunction, aContext, old, look, Numbered}
 use Rattle.meaning.specs.Matcher.{Value, kinds}
-use Rattle.meaning.specs.Record.{Entry, values}
+use Rattle.meaning.specs.Record.{Entry}
+use Rattle.meaning.specs.Read.{values}
 use Rattle.meaning.specs.Reached.{Begins}
 use Rattle.meaning.proofs.Walk.{need, walk}
 use Rattle.meaning.proofs.Steps.{kinds-length, values-length}

@@ -8,7 +8,8 @@ use native.Mathlib.Omega.{arith}
 use Rattle.meaning.specs.Forest.{Term}
 use Rattle.meaning.specs.Pattern.{Pattern, Kind, anIndividual, aSequence, aFunction, aContext, Numbered}
 use Rattle.meaning.specs.Matcher.{Value, ofIndividual, ofSequence, ofFunction, ofContext, kind, kinds, Solves}
-use Rattle.meaning.specs.Record.{Entry, values, second, numbers, firsts, recordOf}
+use Rattle.meaning.specs.Record.{Entry, second, numbers, recordOf}
+use Rattle.meaning.specs.Read.{values, firsts}
 use Rattle.meaning.specs.Order.{seconds, choices, _⊏_}
 use Rattle.meaning.proofs.Steps.{picked}
 use Rattle.meaning.proofs.Tame.{count, picked-many}

@@ -2,7 +2,7 @@
 use mathlib.Core.Path.{_≡_, refl, sym, ap, _∙_}
 use mathlib.Core.Logic.{inl, inr, _↔_}
 use mathlib.Core.List.{List, [], _∷_}
-use mathlib.Core.Bool.{Bool, true, false}
+use mathlib.Core.Bool.{Bool, true, false, cond}
 use Prim.Native.Nat.{ℕ, zero, suc, _+_, _≤_, _<_, zero-le}
 use native.Mathlib.Omega.{arith}
 use lib.Dec.{leb, ltb, leb·suc-suc}
@@ -10,7 +10,7 @@ use lib.ListN.{length, take}
 use borrow.Author.Tests.{le-leb, lt-leb, lt-ltb, le-ltb, eq-eqb, ne-eqb}
 use Rattle.meaning.specs.Reached.{Begins}
 use Rattle.meaning.specs.Order.{_⊏_, Mem, Ascending}
-use Rattle.catalogue.specs.Answer.{Result, pick, upto, place}
+use Rattle.catalogue.specs.Answer.{Result, upto, place}
 use Rattle.catalogue.proofs.Events.{Outcome, need, done, Event, tried, matched, events, Within, Leads, Some, sound, complete, short}
 use Rattle.catalogue.proofs.Ascent.{_≪_, ascending}
 
@@ -57,7 +57,7 @@ placed W (s ∷ S) = record { values = s .values; tries = place W (s .choices) }
 -- how many are reached within the budget
 abbrev pub reached : ℕ → List Placed → ℕ
 reached budget [] = 0
-reached budget (s ∷ S) = pick (leb (s .tries) budget) (suc (reached budget S)) (reached budget S)
+reached budget (s ∷ S) = cond (leb (s .tries) budget) (suc (reached budget S)) (reached budget S)
 
 abbrev pub values-of : List Placed → List (List ℕ)
 values-of [] = []
@@ -72,9 +72,9 @@ tries-at (s ∷ S) (suc n) = tries-at S n
 -- from the list S of all matches, the number n of all tries, budget and room alone
 abbrev pub answer : List Placed → ℕ → ℕ → ℕ → Result
 answer S n budget room =
-    pick (ltb room (reached budget S))
+    cond (ltb room (reached budget S))
     (record { records = take room (values-of S); ending = 1; tries = tries-at S room })
-    (pick (ltb budget n)
+    (cond (ltb budget n)
     (record { records = take (reached budget S) (values-of S); ending = 2; tries = budget })
     (record { records = values-of S; ending = 0; tries = n }))
 
@@ -93,8 +93,8 @@ abbrev later : ℕ → Result → Result
 later t r = record { records = r .records; ending = r .ending; tries = t + r .tries }
 
 cons-shape : (x : List ℕ) (R : List (List ℕ)) (t b n : ℕ) (k l : ℕ) (p q : Bool)
-    → pick p (record { records = x ∷ take k R; ending = 1; tries = t }) (pick q (record { records = x ∷ take l R; ending = 2; tries = b }) (record { records = x ∷ R; ending = 0; tries = n }))
-    ≡ one-match x (pick p (record { records = take k R; ending = 1; tries = t }) (pick q (record { records = take l R; ending = 2; tries = b }) (record { records = R; ending = 0; tries = n })))
+    → cond p (record { records = x ∷ take k R; ending = 1; tries = t }) (cond q (record { records = x ∷ take l R; ending = 2; tries = b }) (record { records = x ∷ R; ending = 0; tries = n }))
+    ≡ one-match x (cond p (record { records = take k R; ending = 1; tries = t }) (cond q (record { records = take l R; ending = 2; tries = b }) (record { records = R; ending = 0; tries = n })))
 cons-shape x R t b n k l true q = refl
 cons-shape x R t b n k l false true = refl
 cons-shape x R t b n k l false false = refl

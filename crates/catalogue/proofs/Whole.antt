@@ -9,7 +9,8 @@ use native.Mathlib.Decide.{decLe}
 use Rattle.meaning.specs.Forest.{Term, size}
 use Rattle.meaning.specs.Pattern.{Pattern, Kind, Numbered}
 use Rattle.meaning.specs.Matcher.{Value, kinds, Solves}
-use Rattle.meaning.specs.Record.{values, numbers, recordOf}
+use Rattle.meaning.specs.Record.{numbers, recordOf}
+use Rattle.meaning.specs.Read.{values}
 use Rattle.meaning.specs.Order.{seconds, choices, _⊏_, Mem, Ascending}
 use Rattle.meaning.proofs.Walk as W
 use Rattle.meaning.proofs.Walk.{Res, ok, walk}

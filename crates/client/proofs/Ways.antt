@@ -2,7 +2,7 @@
 use Prim.Native.Nat.{ℕ, suc, _≤_, _<_, zero-le}
 use mathlib.Core.Path.{_≡_, refl}
 use mathlib.Core.Logic.{inl, inr}
-use mathlib.Core.Bool.{Bool, true, false}
+use mathlib.Core.Bool.{Bool, true, false, cond}
 use mathlib.Core.List.{List, [], _∷_}
 use lib.ListN.{length, take, getD}
 use lib.Dec.{leb, ltb}
@@ -10,13 +10,13 @@ use native.Mathlib.Omega.{arith}
 use borrow.Author.Tests.{ltb-true, ltb-false, leb-true, le-leb}
 use Rattle.meaning.specs.Pattern.{Kind}
 use Rattle.meaning.specs.Order.{choices, Mem}
-use Rattle.catalogue.specs.Answer.{Result, pick, upto, place, places, within, Room, atMost, unlimited, byBudget, answer}
+use Rattle.catalogue.specs.Answer.{Result, upto, place, places, within, Room, atMost, unlimited, byBudget, answer}
 
 pub place-few : (ts : List (List ℕ)) (w : List ℕ) → place ts w ≤ length ts
 place-few [] w = zero-le
 place-few (v ∷ ts) w = go (upto v w) (place-few ts w)
   where
-    go : (b : Bool) → place ts w ≤ length ts → pick b (suc (place ts w)) (place ts w) ≤ suc (length ts)
+    go : (b : Bool) → place ts w ≤ length ts → cond b (suc (place ts w)) (place ts w) ≤ suc (length ts)
     go true i = omega arith
     go false i = omega arith
 
@@ -32,7 +32,7 @@ module _ (Q : List Kind) (ts : List (List ℕ)) (budget : ℕ) where
   soon-within (r ∷ rs) h = go (leb (place ts (choices Q r)) budget) refl (soon-within rs) h
     where
       go : (b : Bool) → leb (place ts (choices Q r)) budget ≡ b → (0 < within budget (places Q ts rs) → Soon rs)
-          → 0 < pick b (suc (within budget (places Q ts rs))) (within budget (places Q ts rs)) → Soon (r ∷ rs)
+          → 0 < cond b (suc (within budget (places Q ts rs))) (within budget (places Q ts rs)) → Soon (r ∷ rs)
       go true e i h = record { it = r; listed = inl refl; soon = leb-true _ _ e }
       go false e i h = let s = i h in record { it = s .it; listed = inr (s .listed); soon = s .soon }
 
@@ -43,7 +43,7 @@ module _ (Q : List Kind) (ts : List (List ℕ)) (budget : ℕ) where
       rw z (omega arith)
   within-soon (a ∷ rs) r (inr m) h = go (leb (place ts (choices Q a)) budget) (within-soon rs r m h)
     where
-      go : (b : Bool) → 0 < within budget (places Q ts rs) → 0 < pick b (suc (within budget (places Q ts rs))) (within budget (places Q ts rs))
+      go : (b : Bool) → 0 < within budget (places Q ts rs) → 0 < cond b (suc (within budget (places Q ts rs))) (within budget (places Q ts rs))
       go true i = omega arith
       go false i = i
 
@@ -63,7 +63,7 @@ module _ (Q : List Kind) (ts : List (List ℕ)) (budget : ℕ) where
   by-budget rs room h = go (ltb budget (length ts)) refl
     where
       go : (b : Bool) → ltb budget (length ts) ≡ b
-          → Way rs room (pick b (record { records = take (within budget (places Q ts rs)) rs; ending = 2; tries = budget }) (record { records = rs; ending = 0; tries = length ts }))
+          → Way rs room (cond b (record { records = take (within budget (places Q ts rs)) rs; ending = 2; tries = budget }) (record { records = rs; ending = 0; tries = length ts }))
       go true e = spent (ltb-true _ _ e) refl refl
       go false e = let k = ltb-false budget (length ts) e in done k refl refl (λ n q. omega (arith, within-all rs k, h n q))
 
@@ -72,6 +72,6 @@ module _ (Q : List Kind) (ts : List (List ℕ)) (budget : ℕ) where
   ways rs (atMost n) = go (ltb n (within budget (places Q ts rs))) refl
     where
       go : (b : Bool) → ltb n (within budget (places Q ts rs)) ≡ b
-          → Way rs (atMost n) (pick b (record { records = take n rs; ending = 1; tries = getD (places Q ts rs) n 0 }) (byBudget Q rs ts budget))
+          → Way rs (atMost n) (cond b (record { records = take n rs; ending = 1; tries = getD (places Q ts rs) n 0 }) (byBudget Q rs ts budget))
       go true e = full n refl (ltb-true _ _ e) refl refl
       go false e = by-budget rs (atMost n) (λ k q. let z : n ≡ k = cc in omega (arith, ltb-false n (within budget (places Q ts rs)) e))

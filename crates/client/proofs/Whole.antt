@@ -16,12 +16,12 @@ use Rattle.client.specs.Promises.{ForOne}
 use Rattle.client.specs.declared.Answer.the-variants.{Yes, No, Open}
 use Rattle.client.proofs.Known.{for-one, found, unknown, absent, complete}
 
-pub few-variables : {kind name size : List ℕ} {r : Checked} → Pattern.Settled kind name size r → r .variables ≤ 16
+pub few-variables : {kind name size : List ℕ} {r : Checked} → Pattern.PatternSettled kind name size r → r .variables ≤ 16
 few-variables {r = r} p = go (r .good) refl
   where
     go : (b : Bool) → r .good ≡ b → r .variables ≤ 16
     go true e = let g = p .judged .0 e in omega (arith, p .found (g .0) (g .1) (g .2) .0, g .2 .bounded)
-    go false e = omega (arith, p .refused e .none)
+    go false e = omega (arith, p .refused e .0)
 
 module _ {l : Lists} {budget : ℕ} {before : List ℕ} {r : Listed} {after : List ℕ} (s : Lister.Settled l budget before r after) (z : r .code ≡ 0) where
   accepted : Codes l accept 0
@@ -34,7 +34,7 @@ module _ {l : Lists} {budget : ℕ} {before : List ℕ} {r : Listed} {after : Li
   is-open n t = record { code = accepted; answered = λ e T P Q es cs w. unknown (s .listed z T P Q es cs w) n t }
 
   -- the lent list is twice the variables long
-  pub is-no : {c : Checked} → Pattern.Settled (l .kind) (l .name) (l .patternSize) c → length before ≡ c .variables + c .variables → r .records ≡ 0 → (r .ending ≡ 2 → ⊥) → Settled l budget No
+  pub is-no : {c : Checked} → Pattern.PatternSettled (l .kind) (l .name) (l .patternSize) c → length before ≡ c .variables + c .variables → r .records ≡ 0 → (r .ending ≡ 2 → ⊥) → Settled l budget No
   is-no {c} p b n t =
       record {
         code = accepted;

@@ -4,9 +4,9 @@ use mathlib.Core.Path.{_≡_, refl}
 use mathlib.Core.List.{List, [], _∷_}
 use native.Mathlib.Decide.{ℕ-discrete}
 use native.Mathlib.Omega.{arith}
-use Rattle.meaning.specs.Pattern.{look}
+use lib.ListN.{getD}
 use Rattle.meaning.specs.Matcher.{Value}
-use Rattle.constraint.specs.Obeys.{word, Constraint, free, bound, Obeys, givenTo, Allowed}
+use Rattle.constraint.specs.Obeys.{word, Constraint, free, bound, Obeys, Allowed}
 use Rattle.constraint.proofs.Decide.{when?}
 use Rattle.constraint.proofs.Language.{in?}
 
@@ -23,4 +23,4 @@ obeys? free v = yes tt
 obeys? (bound e flag) v = when? (in? e (word v)) (λ _. flagged? flag (word v))
 
 unfoldable pub allowed? : (cs : List Constraint) (x : ℕ) (v : Value) → Dec (Allowed cs x v)
-allowed? cs x v = obeys? (givenTo (look cs x)) v
+allowed? cs x v = obeys? (getD cs x free) v

@@ -8,7 +8,7 @@ use Rattle.meaning.specs.Pattern.{Kind, Look, old, look}
 use Rattle.meaning.proofs.Lists.{look-old}
 use Rattle.expression.specs.Expression.{Expression}
 use Rattle.expression.proofs.Places.{one-start}
-use Rattle.constraint.specs.Obeys.{Constraint, free, bound, givenTo}
+use Rattle.constraint.specs.Obeys.{Constraint, free, bound}
 use Rattle.constraint.specs.Good.{GoodConstraints, all-given, none-given, one-given}
 use Rattle.constraint.specs.Pair.{Pair, no-pair, a-pair}
 
@@ -41,7 +41,7 @@ the-old : {A : Type 0} {a b : A} → _≡_ {A = Look A} (old a) (old b) → a �
 the-old e = cc
 
 -- the variable's constraint is that of its two numbers
-pub pair-at : {es : List Expression} {Q : List Kind} {list : List ℕ} {cs : List Constraint} {k : Kind} (x : ℕ) → GoodConstraints es Q list cs → look Q x ≡ old k → PairAt es list k x (givenTo (look cs x))
+pub pair-at : {es : List Expression} {Q : List Kind} {list : List ℕ} {cs : List Constraint} {k : Kind} (x : ℕ) → GoodConstraints es Q list cs → look Q x ≡ old k → PairAt es list k x (getD cs x free)
 pair-at {k = k} x all-given e = absurd (omega (arith, look-old [] x k e))
 pair-at zero (none-given g) e = no-pair
 pair-at zero (one-given m s f g) e = a-pair (rw (the-old e) at m) s f

@@ -13,7 +13,7 @@ use Rattle.meaning.proofs.Lists.{look-old, look-some}
 use Rattle.pattern.specs.Rows.{code}
 use Rattle.pattern.proofs.Listed.{listed-look, listed-length}
 use Rattle.expression.specs.Expression.{Expression}
-use Rattle.expression.specs.Rows.{sizeRows}
+use Rattle.expression.specs.Columns.{sizeRows}
 use Rattle.constraint.specs.Obeys.{Constraint}
 use Rattle.constraint.specs.Good.{GoodConstraints}
 use Rattle.pattern.specs.Known.{KindsAre}

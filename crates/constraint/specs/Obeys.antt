@@ -3,9 +3,9 @@
 use Prim.Native.Nat.{ℕ}
 use mathlib.Core.List.{List, [], _∷_}
 use mathlib.Core.Path.{_≡_}
+use lib.ListN.{getD}
 use Rattle.meaning.specs.Forest.{Forest, none, some, Context, hole, node}
 use Rattle.meaning.specs.Matcher.{Value, ofIndividual, ofSequence, ofFunction, ofContext}
-use Rattle.meaning.specs.Pattern.{Look, old, new, wrong, look}
 use Rattle.expression.specs.Expression.{Expression, In}
 
 -- "A sequence is judged by the heads of its terms, a context by the labels on its path from its head to the hole, hole left out."
@@ -33,12 +33,6 @@ abbrev pub Obeys : Constraint → Value → Type 0
 Obeys free v = Unit {0}
 Obeys (bound e flag) v = In e (word v) × (flag ≡ 1 → word v ≡ [] → ⊥)
 
--- the constraint of the variable x (none where there is no such variable)
-abbrev pub givenTo : Look Constraint → Constraint
-givenTo (old c) = c
-givenTo new = free
-givenTo wrong = free
-
 -- what the constraints allow x to stand for: this is the parameter of `Solves` and `Reached`
 abbrev pub Allowed : List Constraint → ℕ → Value → Type 0
-Allowed cs x v = Obeys (givenTo (look cs x)) v
+Allowed cs x v = Obeys (getD cs x free) v

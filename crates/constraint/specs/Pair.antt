@@ -6,7 +6,8 @@ use mathlib.Core.List.{List}
 use Rattle.meaning.specs.Pattern.{Kind}
 use Rattle.pattern.specs.Known.{KindsAre}
 use Rattle.expression.specs.Expression.{Expression}
-use Rattle.expression.specs.Rows.{sizeRows, StartsAt}
+use Rattle.expression.specs.Rows.{StartsAt}
+use Rattle.expression.specs.Columns.{sizeRows}
 use Rattle.constraint.specs.Obeys.{Constraint, free, bound}
 use Rattle.constraint.specs.Good.{MayHave}
 

@@ -8,9 +8,9 @@ ghost use Rattle.meaning.specs.Read.{takeT};
 ghost use Rattle.tree.specs.Places.{TermsAt, ContextAt};
 ghost use Rattle.pattern.specs.Rows.{code};
 ghost use Rattle.expression.specs.Expression.{Expression};
-ghost use Rattle.expression.specs.Rows.{sizeRows};
+ghost use Rattle.expression.specs.Columns.{sizeRows};
 ghost use Rattle.constraint.specs.Obeys.{heads, path, Constraint};
-ghost use Rattle.constraint.specs.Good.{GoodConstraints, Good};
+ghost use Rattle.constraint.specs.Good.{GoodConstraints, GoodConstraintList};
 ghost use Rattle.pattern.specs.Known.{KindsAre};
 ghost use Rattle.constraint.specs.Pair.{Pair, GivenPre};
 ghost use Rattle.constraint.specs.Reading.{HeadsPre, MorePre, ReadTo, ReadOn, PathPre, After, ObeysPre, ObeysPost, ForbiddenPost};
@@ -68,7 +68,7 @@ pub fn good(
     expression_size: &[u32],
     constraint: &[u32],
 ) -> bool
-    ensures { λ r. ⌜ Says r (Good (now (kind .entry)) (now (name .entry)) (now (size .entry)) (now («expression_kind» .entry)) (now («expression_name» .entry)) (now («expression_size» .entry)) (now (constraint .entry))) ⌝ }
+    ensures { λ r. ⌜ Says r (GoodConstraintList (now (kind .entry)) (now (name .entry)) (now (size .entry)) (now («expression_kind» .entry)) (now («expression_name» .entry)) (now («expression_size» .entry)) (now (constraint .entry))) ⌝ }
 {
     let checked = pattern::check(kind, name, size);
     if !checked.good {

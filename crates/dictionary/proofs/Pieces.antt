@@ -9,7 +9,7 @@ use lib.Dec.{eqb}
 use lib.ListN.{length, getD, take, drop, length-drop, drop-of-length-le}
 use lib.Seq.{drop-cons, drop-drop, getD-drop}
 use borrow.Author.Tests.{eqb-true, eqb-false, ne-eqb}
-use Rattle.dictionary.specs.Names.{encoding, Name}
+use Rattle.dictionary.specs.Names.{encoding, GoodName}
 use Rattle.dictionary.specs.Scan.{range, upto, push, pieces}
 use Rattle.dictionary.proofs.Ranges.{range-length}
 
@@ -93,7 +93,7 @@ piece-first : (n v : List ℕ) → Unbroken n → pieces (n ++ (10 ∷ v)) ≡ n
 piece-first [] v h = refl
 piece-first (b ∷ n) v h = rw (ne-eqb b 10 (h 0 (omega arith)), piece-first n v (λ i p. h (suc i) (omega arith)))
 
-pub pieces-encoding : (ns : List (List ℕ)) → ((j : ℕ) → j < length ns → Name (getD ns j [])) → pieces (encoding ns) ≡ ns
+pub pieces-encoding : (ns : List (List ℕ)) → ((j : ℕ) → j < length ns → GoodName (getD ns j [])) → pieces (encoding ns) ≡ ns
 pieces-encoding [] h = refl
 pieces-encoding (n ∷ ns) h =
     piece-first n (encoding ns) (h 0 (omega arith) .unbroken)

@@ -11,13 +11,13 @@ abbrev pub encoding : List (List ℕ) → List ℕ
 encoding [] = []
 encoding (n ∷ ns) = n ++ (10 ∷ encoding ns)
 
-pub record Name (n : List ℕ) : Type 0 where
+pub record GoodName (n : List ℕ) : Type 0 where
   pub present : 0 < length n
   pub unbroken : (i : ℕ) → i < length n → getD n i 0 ≡ 10 → ⊥
 
 pub record GoodDictionary (bytes : List ℕ) (names : List (List ℕ)) : Type 0 where
   pub encoded : bytes ≡ encoding names
-  pub each : (j : ℕ) → j < length names → Name (getD names j [])
+  pub each : (j : ℕ) → j < length names → GoodName (getD names j [])
   pub different : (i j : ℕ) → i < j → j < length names → getD names i [] ≡ getD names j [] → ⊥
   pub few : length names ≤ 1024
   pub short : length bytes ≤ 16384

@@ -15,7 +15,7 @@ use Rattle.grammar.proofs.Trees.{shape-rows}
 use Rattle.judge.specs.Verdict.{Verdict, long as long-document, outside, deep, many, read}
 use Rattle.dictionary.specs.Names.{GoodDictionary, DictionaryChecked}
 use Rattle.dictionary.specs.Index.{Indexed, NamesLearnt}
-use Rattle.document.specs.Reading.{Unchanged, shortest, Read, badDictionary, badDocument, noRoom, filled, Checked, bad, judged, spellingsOf}
+use Rattle.document.specs.Reading.{Unchanged, shortest, Read, badDictionary, badDocument, noRoom, filled, DocumentChecked, bad, judged, spellingsOf}
 use Rattle.document.specs.Learnt.{MayRead}
 use Rattle.meaning.specs.Calls.{Filled}
 use Rattle.labels.specs.Lists.{Copied}
@@ -73,7 +73,7 @@ whole (read {f} {t} h d k l) e = record {
 
 -- THE ANSWERS OF `read`
 unchanged : (label size start width : List ℕ) → Unchanged label size start width label size start width
-unchanged label size start width = record { label-kept = refl; size-kept = refl; start-kept = refl; width-kept = refl }
+unchanged label size start width = (refl, refl, refl, refl)
 
 module _ {d w label size start width : List ℕ} {good : Bool} {k : ℕ} (dictionary : DictionaryChecked d good k) where
   pub answers-bad : {c p n : ℕ} → good ≡ false → (c ≡ 1) × (p ≡ 0) × (n ≡ 0) → Read d w label size start width label size start width c p n
@@ -178,9 +178,9 @@ pub beyond-refused : {w : List ℕ} {c p n : ℕ} → TooLarge w → Verdict w c
 beyond-refused h v e = let d = whole v e in h (d .f) (d .t) (d .document) (d .shallow) (omega (arith, d .few, d .rows-are, rows-count (d .f), shape-rows (d .f)))
 
 -- THE ANSWERS OF `check`
-pub checks-bad : {d w : List ℕ} {good : Bool} {k x : ℕ} → DictionaryChecked d good k → good ≡ false → (x ≡ 1) × (x < 4294967296) → Checked d w (x * 4294967296)
+pub checks-bad : {d w : List ℕ} {good : Bool} {k x : ℕ} → DictionaryChecked d good k → good ≡ false → (x ≡ 1) × (x < 4294967296) → DocumentChecked d w (x * 4294967296)
 checks-bad c e is-x = rw (is-x .0) (bad (not-good c e))
 
 pub checks-judged : {d w : List ℕ} {good : Bool} {k c p n x y z : ℕ} → DictionaryChecked d good k → good ≡ true → Verdict w c p n →
-    (x ≡ c) × (x < 4294967296) → (y ≡ p) × (y < 4294967296) → (z ≡ n) × (z < 4294967296) → Checked d w (x * 4294967296 + (y + z))
+    (x ≡ c) × (x < 4294967296) → (y ≡ p) × (y < 4294967296) → (z ≡ n) × (z < 4294967296) → DocumentChecked d w (x * 4294967296 + (y + z))
 checks-judged k e v x y z = rw (x .0, y .0, z .0) (judged (is-good k e .1) v)

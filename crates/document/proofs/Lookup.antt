@@ -8,7 +8,6 @@ use lib.Dec.{ltb}
 use lib.ListN.{length, getD, take, drop, length-append, length-map}
 use lib.Seq.{getD-take}
 use borrow.Author.Tests.{ltb-true, lt-ltb, le-leb}
-use Rattle.tree.specs.Rows.{labels}
 use Rattle.grammar.specs.Grammar.{_⊲_, Content}
 use Rattle.grammar.specs.Rows.{#, Row, rowsOf, starts, lengths}
 use Rattle.dictionary.specs.Names.{GoodDictionary}
@@ -16,8 +15,7 @@ use Rattle.dictionary.specs.Labels.{labelsOf}
 use Rattle.dictionary.proofs.Labels.{knownAfter, length-labels, label-spelling, known-at}
 use Rattle.dictionary.specs.Spelling.{partOfDictionary, partOfDocument, spellingOf, bytesOf, SpellingAnswered}
 use Rattle.dictionary.proofs.Parts.{name-bytes}
-use Rattle.document.specs.Reading.{spellingsOf, Read, badDictionary, badDocument, noRoom, filled}
-use Rattle.document.specs.Promises.{Spelt, LookupIsRead}
+use Rattle.document.specs.Reading.{spellingsOf, Spelt, Read, badDictionary, badDocument, noRoom, filled}
 use Rattle.document.proofs.Promises.{spelt}
 
 module _ {d w label start width : List ℕ} {names : List (List ℕ)} {f : Content} {rows row : ℕ} (g : GoodDictionary d names) (s : Spelt w label start width rows names f)
@@ -59,7 +57,8 @@ module _ {d w label start width : List ℕ} {names : List (List ℕ)} {f : Conte
 begun : {n row : ℕ} (xs before after : List ℕ) → after ≡ xs ++ drop (length xs) before → length xs ≡ n → row < n → row < length after
 begun xs before after e h l = omega (arith, ap length e, length-append xs (drop (length xs) before))
 
-pub lookup-is-read : LookupIsRead
+pub lookup-is-read : (d w label size start width label' size' start' width' : List ℕ) (place rows row : ℕ) (dAt wAt at : ℕ × ℕ) (bytes : List ℕ) → Read d w label size start width label' size' start' width' 0 place rows → row < rows →
+    SpellingAnswered dAt wAt d w label' start' width' row at bytes → bytes ≡ take (getD width' row 0) (drop (getD start' row 0) w)
 lookup-is-read d w _ _ _ _ _ _ _ _ p n row dAt wAt at bytes r l x = go r refl l x
   where
     go : {label size start width label' size' start' width' : List ℕ} {c p n : ℕ} → Read d w label size start width label' size' start' width' c p n → c ≡ 0 → row < n →

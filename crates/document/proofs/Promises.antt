@@ -6,7 +6,7 @@ use native.Mathlib.Omega.{arith}
 use lib.ListN.{length, getD, take, drop, length-map}
 use lib.Seq.{take-at}
 use Rattle.meaning.specs.Forest.{none, Term, _◂_}
-use Rattle.tree.specs.Rows.{Good, labels, sizes, depth}
+use Rattle.tree.specs.Rows.{GoodRows, labels, sizes, depth}
 use Rattle.tree.proofs.Lists.{labels-rows, sizes-rows}
 use Rattle.grammar.specs.Grammar.{Bytes, _⊲_, Content, Document}
 use Rattle.grammar.specs.Rows.{shape, Row, rowsOf}
@@ -19,9 +19,8 @@ use Rattle.dictionary.specs.Names.{GoodDictionary}
 use Rattle.dictionary.specs.Labels.{labelsOf}
 use Rattle.dictionary.proofs.Names.{good-unique}
 use Rattle.dictionary.proofs.Labels.{length-labels, label-below}
-use Rattle.document.specs.Reading.{spellingsOf, Unchanged, Written, Read, badDictionary, badDocument, noRoom, filled, Checked, bad, judged}
+use Rattle.document.specs.Reading.{spellingsOf, Unchanged, Written, Spelt, shortest, Read, badDictionary, badDocument, noRoom, filled, DocumentChecked, bad, judged}
 use Rattle.document.proofs.Filling.{labelOf, treeOf, tree-labels, tree-sizes, rows-spell}
-use Rattle.document.specs.Promises.{CheckIsRead, TreeIsGood, Spelt, SpellingsInside}
 use Rattle.document.proofs.Answers.{whole}
 
 -- ONE ANSWER
@@ -36,10 +35,10 @@ module _ {label size start width label₁ size₁ start₁ width₁ label₂ siz
     e .0,
     e .1,
     e .2,
-    u .label-kept ∙ sym (v .label-kept),
-    u .size-kept ∙ sym (v .size-kept),
-    u .start-kept ∙ sym (v .start-kept),
-    u .width-kept ∙ sym (v .width-kept),
+    u .0 ∙ sym (v .0),
+    u .1 ∙ sym (v .1),
+    u .2 ∙ sym (v .2),
+    u .3 ∙ sym (v .3),
   )
 
   same-written : {names : List (List ℕ)} {f : Content} → (c₁ ≡ c₂) × (p₁ ≡ p₂) × (n₁ ≡ n₂) →
@@ -84,14 +83,15 @@ one-answer d w _ _ _ _ _ _ _ _ _ _ _ _ _ _ _ _ _ _ (filled g x z y u) (badDocume
 one-answer d w _ _ _ _ _ _ _ _ _ _ _ _ _ _ _ _ _ _ (filled g x z y u) (noRoom g' x' z' v) = absurd (omega (arith, one-verdict x x' .2))
 one-answer d w _ _ _ _ _ _ _ _ _ _ _ _ _ _ _ _ _ _ (filled g x z y u) (filled g' x' z' y' v) = same-both g g' y y' (refl, refl, one-verdict x x' .2) u v
 
-pub one-check : (d w : List ℕ) (r s : ℕ) → Checked d w r → Checked d w s → r ≡ s
+pub one-check : (d w : List ℕ) (r s : ℕ) → DocumentChecked d w r → DocumentChecked d w s → r ≡ s
 one-check d w r s (bad h) (bad k) = refl
 one-check d w r s (bad h) (judged g v) = absurd (h _ g)
 one-check d w r s (judged g v) (bad h) = absurd (h _ g)
 one-check d w r s (judged g v) (judged g' v') = rw (one-verdict v v' .0, one-verdict v v' .1, one-verdict v v' .2) refl
 
 -- THE CHECK IS THE READER
-pub check-is-read : CheckIsRead
+pub check-is-read : (d w label size start width label' size' start' width' : List ℕ) (code place rows r : ℕ) → 2048 ≤ shortest label size start width →
+    Read d w label size start width label' size' start' width' code place rows → DocumentChecked d w r → r ≡ code * 4294967296 + (place + rows)
 check-is-read d w label size start width label' size' start' width' c p n r room (badDictionary h u) k = one-check d w r (1 * 4294967296) k (bad h)
 check-is-read d w label size start width label' size' start' width' c p n r room (badDocument g v z u) k = one-check d w r (c * 4294967296 + (p + n)) k (judged g v)
 check-is-read d w label size start width label' size' start' width' c p n r room (noRoom g v z u) k = absurd (omega (arith, whole v refl .few))
@@ -127,7 +127,7 @@ module _ {d w label size start width label' size' start' width' : List ℕ} {nam
       let e : depth (shape f) ≤ 64 = rw same-f at (whole v refl .shallow) in
       omega (arith, e, shape-depth f, depth-is (labelOf names f) f none)
 
-  pub good-tree : Good (take n label') (take n size')
+  pub good-tree : GoodRows (take n label') (take n size')
   good-tree =
       let o : (T : Term) × (treeOf names f ≡ (T ◂ none)) = one-term (labelOf names f) y in (
         o .0,
@@ -160,16 +160,17 @@ module _ {d w label size start width label' size' start' width' : List ℕ} {nam
           let n : getD start' r 0 + getD width' r 0 - getD start' r 0 ≡ getD width' r 0 = omega arith in
           rw n at e
 
-pub tree-is-good : TreeIsGood
+pub tree-is-good : (d w label size start width label' size' start' width' : List ℕ) (place rows : ℕ) → Read d w label size start width label' size' start' width' 0 place rows → GoodRows (take rows label') (take rows size')
 tree-is-good d w _ _ _ _ _ _ _ _ p n r = go r refl
   where
-    go : {d w label size start width label' size' start' width' : List ℕ} {c p n : ℕ} → Read d w label size start width label' size' start' width' c p n → c ≡ 0 → Good (take n label') (take n size')
+    go : {d w label size start width label' size' start' width' : List ℕ} {c p n : ℕ} → Read d w label size start width label' size' start' width' c p n → c ≡ 0 → GoodRows (take n label') (take n size')
     go (badDictionary h u) e = absurd (omega (arith, e))
     go (badDocument g v z u) e = absurd (z e)
     go (noRoom g v z u) e = absurd (omega (arith, e))
     go (filled g v z y u) e = good-tree g v y u
 
-pub spellings-inside : SpellingsInside
+pub spellings-inside : (d w label size start width label' size' start' width' : List ℕ) (place rows : ℕ) (names : List (List ℕ)) (f : Content) (t : Bytes) →
+    Read d w label size start width label' size' start' width' 0 place rows → GoodDictionary d names → Document w f t → Spelt w label' start' width' rows names f
 spellings-inside d w _ _ _ _ _ _ _ _ p n names f t r g y = go r refl
   where
     go : {label size start width label' size' start' width' : List ℕ} {c p n : ℕ} → Read d w label size start width label' size' start' width' c p n → c ≡ 0 → Spelt w label' start' width' n names f

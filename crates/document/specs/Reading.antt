@@ -4,7 +4,7 @@
 use mathlib.Core.List.{List, [], map}
 use Prim.Native.Nat.{ℕ, _≤_, _<_, min, _+_, _*_}
 use mathlib.Core.Path.{_≡_}
-use lib.ListN.{length}
+use lib.ListN.{length, getD, take, drop}
 use Rattle.grammar.specs.Grammar.{Bytes, _⊲_, Content, Document}
 use Rattle.grammar.specs.Rows.{shape, Row, rowsOf, starts, lengths}
 use Rattle.dictionary.specs.Labels.{labelsOf}
@@ -18,17 +18,22 @@ abbrev pub spellingsOf : Content → List (List ℕ)
 spellingsOf f = map (λ (x : Row). x .spelling ⊲ []) (rowsOf f)
 
 -- the four lists before and after; `width` is 01's length list, since `length` is that of a list
-pub record Unchanged (label size start width label' size' start' width' : List ℕ) : Type 0 where
-  pub label-kept : label' ≡ label
-  pub size-kept : size' ≡ size
-  pub start-kept : start' ≡ start
-  pub width-kept : width' ≡ width
+abbrev pub Unchanged : (label size start width label' size' start' width' : List ℕ) → Type 0
+Unchanged label size start width label' size' start' width' = (label' ≡ label) × (size' ≡ size) × (start' ≡ start) × (width' ≡ width)
 
 pub record Written (names : List (List ℕ)) (f : Content) (label size start width label' size' start' width' : List ℕ) : Type 0 where
   pub label-is : Filled (labelsOf names (spellingsOf f)) label label'
   pub size-is : Filled (sizes (shape f)) size size'
   pub start-is : Filled (starts f) start start'
   pub width-is : Filled (lengths f) width width'
+
+-- for a content f of the document and the dictionary's names: each row's spelling stands in the document at its start and length, and
+-- the labels are those of the spellings, a name's place, and then by first appearance
+pub record Spelt (w label start width : List ℕ) (rows : ℕ) (names : List (List ℕ)) (f : Content) : Type 0 where
+  pub all : length (spellingsOf f) ≡ rows
+  pub inside : (row : ℕ) → row < rows → getD start row 0 + getD width row 0 ≤ length w
+  pub bytes : (row : ℕ) → row < rows → take (getD width row 0) (drop (getD start row 0) w) ≡ getD (spellingsOf f) row []
+  pub labelled : take rows label ≡ labelsOf names (spellingsOf f)
 
 -- the shortest of the four lists
 abbrev pub shortest : List ℕ → List ℕ → List ℕ → List ℕ → ℕ
@@ -49,7 +54,7 @@ pub data Read (d w label size start width label' size' start' width' : List ℕ)
 -- 01: "The site's server, written in C, calls a check of dictionary bytes and document bytes and gets one 64-bit number:
 -- code times 4,294,967,296 plus the place (code 3), the rows (code 0) or 0. It has no room limit, so it never gives 6."
 -- The place is 0 unless the code is 3, and the rows are 0 unless it is 0: so their sum is the one that counts
-pub data Checked (d w : List ℕ) : ℕ → Type 0 where
-  bad : ((names : List (List ℕ)) → GoodDictionary d names → ⊥) → Checked d w (1 * 4294967296)
+pub data DocumentChecked (d w : List ℕ) : ℕ → Type 0 where
+  bad : ((names : List (List ℕ)) → GoodDictionary d names → ⊥) → DocumentChecked d w (1 * 4294967296)
   judged : {names : List (List ℕ)} {code place rows : ℕ} → GoodDictionary d names → Verdict w code place rows →
-      Checked d w (code * 4294967296 + (place + rows))
+      DocumentChecked d w (code * 4294967296 + (place + rows))

@@ -5,7 +5,7 @@ ghost use Prim.Native.Nat.{ℕ, _≤_, _<_};
 ghost use Rattle.meaning.specs.Calls.{Says};
 ghost use Rattle.judge.specs.Verdict.{Verdict};
 ghost use Rattle.document.specs.Learnt.{MayRead};
-ghost use Rattle.document.specs.Reading.{Read, Checked};
+ghost use Rattle.document.specs.Reading.{Read, DocumentChecked};
 use judge::Judged;
 use judge::codes::BAD_DICTIONARY;
 use judge::codes::MOST_BYTES;
@@ -155,7 +155,7 @@ fn verdict(document: &[u8]) -> Judged
 const CODE: u64 = 4294967296;
 
 pub fn check(dictionary: &[u8], document: &[u8]) -> u64
-    ensures { λ r. ⌜ Checked (now (dictionary .entry)) (now (document .entry)) r ⌝ }
+    ensures { λ r. ⌜ DocumentChecked (now (dictionary .entry)) (now (document .entry)) r ⌝ }
 {
     let checked = dictionary::check(dictionary);
     let good = checked.good;

@@ -5,7 +5,7 @@ use Prim.Native.Nat.{ℕ, suc, _+_, _<_}
 use native.Mathlib.Omega.{arith}
 use lib.ListN.{length, length-append}
 use Rattle.expression.specs.Expression.{Expression, symbol, empty, concatenation, choice, repetition}
-use Rattle.expression.specs.Rows.{kindOf, nameOf, rows, preorder, allRows, kindRows, nameRows, sizeRows}
+use Rattle.expression.specs.Columns.{kindOf, nameOf, rows, preorder, allRows, kindRows, nameRows, sizeRows}
 use Rattle.expression.proofs.Stands.{Stands, stands-apart, stands-together}
 
 pub rows-positive : (e : Expression) → 0 < rows e

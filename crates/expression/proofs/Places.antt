@@ -7,13 +7,15 @@ use native.Mathlib.Nat.{add-assoc, add-zero, zero-add}
 use lib.ListN.{length, getD}
 use lib.Seq.{getD-append-add}
 use Rattle.expression.specs.Expression.{Expression, symbol, empty, concatenation, choice, repetition}
-use Rattle.expression.specs.Rows.{rows, preorder, sizeRows, GoodTable, StartsAt}
+use Rattle.expression.specs.Rows.{GoodTable, StartsAt}
+use Rattle.expression.specs.Columns.{rows, preorder, sizeRows}
+use Rattle.expression.proofs.Columns.{table-long}
 use Rattle.expression.proofs.Placed.{rows-positive, rows-many, total, all-many, Placed, Laid}
 use Rattle.expression.proofs.Table.{PlacedIn, kind-length, good-laid}
 use Rattle.expression.specs.Rule.{numberAt}
 
 pub place-total : {es : List Expression} {e : Expression} {row : ℕ} (s : StartsAt es e row) → row ≡ total (s .before)
-place-total s = s .place ∙ all-many rows (s .before)
+place-total s = s .place ∙ table-long (s .before) ∙ all-many rows (s .before)
 
 total-append : (ds es : List Expression) → total (ds ++ es) ≡ total ds + total es
 total-append [] es = sym (zero-add (total es))
@@ -40,7 +42,7 @@ walk-meets {es} {row} w h = go (w .left) (w .among)
     go : (left : List Expression) → es ≡ w .passed ++ left → (e : Expression) × StartsAt es e row
     go [] q = absurd (omega (arith, ap total q, total-append (w .passed) [], w .place))
     go (e ∷ left) q =
-        (e, record { before = w .passed; behind = left; among = q; place = w .place ∙ sym (all-many rows (w .passed)) })
+        (e, record { before = w .passed; behind = left; among = q; place = w .place ∙ sym (table-long (w .passed) ∙ all-many rows (w .passed)) })
 
 pub walk-on : {es : List Expression} {e : Expression} {row : ℕ} → StartsAt es e row → Walked es (row + rows e)
 walk-on {e = e} s =

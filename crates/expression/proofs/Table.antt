@@ -6,8 +6,11 @@ use native.Mathlib.Numerals.{add-one}
 use native.Mathlib.Omega.{arith}
 use lib.ListN.{length}
 use Rattle.expression.specs.Expression.{Expression, symbol, empty, concatenation, choice, repetition}
-use Rattle.expression.specs.Rows.{kindOf, nameOf, rows, SymbolsFit, AllFit, GoodTable}
+use Rattle.expression.specs.Rows.{GoodTable}
+use Rattle.expression.specs.Columns.{kindOf, nameOf, rows, nameRows}
 use Rattle.expression.specs.Rule.{leftOf, rightOf, sizeFrom, NameFits, SizeFits, numberAt}
+use Rattle.expression.proofs.Columns.{kinds-column, names-column, sizes-column, kinds-are, names-are, sizes-are}
+use Rattle.expression.proofs.Small.{SymbolsFit, AllFit, all-small, small-all}
 use Rattle.expression.proofs.Ways.{two-ways, three-ways}
 use Rattle.expression.proofs.Stands.{stands-self, stands-alone}
 use Rattle.expression.proofs.Placed.{rows-positive, total, all-many, Placed, Laid, placed-kind, placed-name, placed-size, lay, laid-list}
@@ -203,34 +206,35 @@ module _ (kind name size : List ℕ) where
       let ks : ℕ → ℕ = numberAt kind in
       let ns : ℕ → ℕ = numberAt name in
       let zs : ℕ → ℕ = numberAt size in
-      let r = rest ks ns zs (length kind) t (length kind) 0 (omega arith) (omega arith) in (
+      let r = rest ks ns zs (length kind) t (length kind) 0 (omega arith) (omega arith) in
+      let named : name ≡ nameRows (r .0) = stands-alone name _ (omega (arith, r .2, all-many nameOf (r .0))) (laid-list ks ns zs ns nameOf (placed-name ks ns zs) (r .0) 0 (r .1)) in (
         r .0,
         record {
-          kinds = stands-alone kind _ (omega (arith, r .2, all-many kindOf (r .0))) (laid-list ks ns zs ks kindOf (placed-kind ks ns zs) (r .0) 0 (r .1));
-          names = stands-alone name _ (omega (arith, r .2, all-many nameOf (r .0))) (laid-list ks ns zs ns nameOf (placed-name ks ns zs) (r .0) 0 (r .1));
-          sizes = stands-alone size _ (omega (arith, r .2, all-many rows (r .0))) (laid-list ks ns zs zs rows (placed-size ks ns zs) (r .0) 0 (r .1));
+          kinds = stands-alone kind _ (omega (arith, r .2, all-many kindOf (r .0))) (laid-list ks ns zs ks kindOf (placed-kind ks ns zs) (r .0) 0 (r .1)) ∙ sym (kinds-column (r .0));
+          names = named ∙ sym (names-column (r .0));
+          sizes = stands-alone size _ (omega (arith, r .2, all-many rows (r .0))) (laid-list ks ns zs zs rows (placed-size ks ns zs) (r .0) 0 (r .1)) ∙ sym (sizes-column (r .0));
           most = l;
-          fit = r .3;
+          small = all-small (r .0) named (r .3);
         },
       )
 
 module _ {kind name size : List ℕ} {es : List Expression} (g : GoodTable kind name size es) where
   -- the lists of a good table are as long as its expressions have rows
   pub kind-length : length kind ≡ total es
-  kind-length = ap length (g .kinds) ∙ all-many kindOf es
+  kind-length = ap length (kinds-are es g) ∙ all-many kindOf es
 
   pub name-length : length name ≡ length kind
-  name-length = ap length (g .names) ∙ all-many nameOf es ∙ sym kind-length
+  name-length = ap length (names-are es g) ∙ all-many nameOf es ∙ sym kind-length
 
   pub size-length : length size ≡ length kind
-  size-length = ap length (g .sizes) ∙ all-many rows es ∙ sym kind-length
+  size-length = ap length (sizes-are es g) ∙ all-many rows es ∙ sym kind-length
 
   pub good-laid : LaidIn kind name size es 0
   good-laid =
       lay (numberAt kind) (numberAt name) (numberAt size) es 0
-      (rw (sym (g .kinds)) (stands-self kind)) (rw (sym (g .names)) (stands-self name)) (rw (sym (g .sizes)) (stands-self size))
+      (rw (sym (kinds-are es g)) (stands-self kind)) (rw (sym (names-are es g)) (stands-self name)) (rw (sym (sizes-are es g)) (stands-self size))
 
   pub good-rows : (s : ℕ) → s < length kind → RowOf kind name size s
   good-rows s h =
-      laid-fits (numberAt kind) (numberAt name) (numberAt size) (length kind) es 0 good-laid (g .fit)
+      laid-fits (numberAt kind) (numberAt name) (numberAt size) (length kind) es 0 good-laid (small-all g)
       (omega (arith, kind-length)) s (omega arith) (omega (arith, kind-length))

@@ -4,7 +4,8 @@ use mathlib.Core.List.{List, [], _∷_}
 use Prim.Native.Nat.{ℕ, zero, suc, _+_, _≤_}
 use native.Mathlib.Omega.{arith}
 use Rattle.expression.specs.Expression.{Expression, symbol, empty, concatenation, choice, repetition}
-use Rattle.expression.specs.Rows.{rows, GoodTable}
+use Rattle.expression.specs.Rows.{GoodTable}
+use Rattle.expression.specs.Columns.{rows}
 use Rattle.expression.proofs.Placed.{rows-positive, total, Placed, Laid, placed-size}
 use Rattle.expression.proofs.Table.{kind-length, good-laid}
 use Rattle.expression.specs.Rule.{numberAt}

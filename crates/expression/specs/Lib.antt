@@ -1,3 +1,4 @@
 pub mod Expression
 pub mod Rows
+pub mod Columns
 pub mod Rule

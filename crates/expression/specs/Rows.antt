@@ -1,78 +1,39 @@
 -- 01, "Patterns and constraints": "An expression table is three lists, kind, name, size, of whole expressions one after another
 -- (possibly none): 0 symbol, 1 empty, 2 concatenation of two, 3 choice of two, 4 repetition of one. Names of kinds 1 to 4 are 0."
-use mathlib.Core.List.{List, [], _∷_, _++_}
-use Prim.Native.Nat.{ℕ, suc, _+_, _≤_, _<_}
+use mathlib.Core.List.{List, [], _∷_, _++_, map}
+use Prim.Native.Nat.{ℕ, suc, _≤_, _<_}
 use mathlib.Core.Path.{_≡_}
-use lib.ListN.{length}
+use lib.ListN.{length, getD}
 use Rattle.expression.specs.Expression.{Expression, symbol, empty, concatenation, choice, repetition}
 
-abbrev pub kindOf : Expression → ℕ
-kindOf (symbol f) = 0
-kindOf empty = 1
-kindOf (concatenation a b) = 2
-kindOf (choice a b) = 3
-kindOf (repetition a) = 4
+-- kind, name and size of each row of an expression, in preorder; a row stands over those of its parts
+abbrev pub over : (kind : ℕ) → List (ℕ × ℕ × ℕ) → List (ℕ × ℕ × ℕ)
+over kind parts = (kind, 0, suc (length parts)) ∷ parts
 
-abbrev pub nameOf : Expression → ℕ
-nameOf (symbol f) = f
-nameOf empty = 0
-nameOf (concatenation a b) = 0
-nameOf (choice a b) = 0
-nameOf (repetition a) = 0
-
--- the size: how many rows an expression takes, itself included
-abbrev pub rows : Expression → ℕ
-rows (symbol f) = 1
-rows empty = 1
-rows (concatenation a b) = suc (rows a + rows b)
-rows (choice a b) = suc (rows a + rows b)
-rows (repetition a) = suc (rows a)
-
--- the numbers of the rows of an expression in preorder, `own` giving that of its first row
-abbrev pub preorder : (own : Expression → ℕ) → Expression → List ℕ
-preorder own (symbol f) = own (symbol f) ∷ []
-preorder own empty = own empty ∷ []
-preorder own (concatenation a b) = own (concatenation a b) ∷ (preorder own a ++ preorder own b)
-preorder own (choice a b) = own (choice a b) ∷ (preorder own a ++ preorder own b)
-preorder own (repetition a) = own (repetition a) ∷ preorder own a
+abbrev pub rowsOf : Expression → List (ℕ × ℕ × ℕ)
+rowsOf (symbol f) = (0, f, 1) ∷ []
+rowsOf empty = over 1 []
+rowsOf (concatenation a b) = over 2 (rowsOf a ++ rowsOf b)
+rowsOf (choice a b) = over 3 (rowsOf a ++ rowsOf b)
+rowsOf (repetition a) = over 4 (rowsOf a)
 
 -- whole expressions one after another
-abbrev pub allRows : (own : Expression → ℕ) → List Expression → List ℕ
-allRows own [] = []
-allRows own (e ∷ es) = preorder own e ++ allRows own es
-
-abbrev pub kindRows : List Expression → List ℕ
-kindRows es = allRows kindOf es
-
-abbrev pub nameRows : List Expression → List ℕ
-nameRows es = allRows nameOf es
-
-abbrev pub sizeRows : List Expression → List ℕ
-sizeRows es = allRows rows es
+abbrev pub tableOf : List Expression → List (ℕ × ℕ × ℕ)
+tableOf [] = []
+tableOf (e ∷ es) = rowsOf e ++ tableOf es
 
 -- "first row of a top-level expression": e is one of es, and as many rows stand before it
 pub record StartsAt (es : List Expression) (e : Expression) (row : ℕ) : Type 0 where
   pub before : List Expression
   pub behind : List Expression
   pub among : es ≡ before ++ (e ∷ behind)
-  pub place : row ≡ length (sizeRows before)
+  pub place : row ≡ length (tableOf before)
 
 -- 01, "Numbers and order of checks": "Expression table: equal lengths, 0 to 64 rows, symbols below 65,536."
-abbrev pub SymbolsFit : Expression → Type 0
-SymbolsFit (symbol f) = f < 65536
-SymbolsFit empty = Unit {0}
-SymbolsFit (concatenation a b) = SymbolsFit a × SymbolsFit b
-SymbolsFit (choice a b) = SymbolsFit a × SymbolsFit b
-SymbolsFit (repetition a) = SymbolsFit a
-
-abbrev pub AllFit : List Expression → Type 0
-AllFit [] = Unit {0}
-AllFit (e ∷ es) = SymbolsFit e × AllFit es
-
--- the three lists are the rows of these expressions, within the limits
+-- The three lists are the rows of these expressions, within the limits; a name that is no symbol's is 0.
 pub record GoodTable (kind name size : List ℕ) (es : List Expression) : Type 0 where
-  pub kinds : kind ≡ kindRows es
-  pub names : name ≡ nameRows es
-  pub sizes : size ≡ sizeRows es
+  pub kinds : kind ≡ map (λ (r : ℕ × ℕ × ℕ). r .0) (tableOf es)
+  pub names : name ≡ map (λ (r : ℕ × ℕ × ℕ). r .1) (tableOf es)
+  pub sizes : size ≡ map (λ (r : ℕ × ℕ × ℕ). r .2) (tableOf es)
   pub most : length kind ≤ 64
-  pub fit : AllFit es
+  pub small : (i : ℕ) → i < length name → getD name i 0 < 65536

@@ -4,7 +4,8 @@ ghost use Prim.Native.Nat.{_<_, _≤_};
 ghost use lib.ListN.{length};
 ghost use Rattle.meaning.specs.Calls.{Says};
 ghost use Rattle.expression.specs.Expression.{Expression};
-ghost use Rattle.expression.specs.Rows.{sizeRows, GoodTable, StartsAt};
+ghost use Rattle.expression.specs.Rows.{GoodTable, StartsAt};
+ghost use Rattle.expression.specs.Columns.{sizeRows};
 ghost use Rattle.expression.specs.Rule.{numberAt, NameFits, SizeFits};
 
 pub mod kinds;

@@ -8,22 +8,21 @@ use native.Mathlib.Omega.{arith}
 use native.Mathlib.Decide.{ℕ-discrete}
 use Rattle.meaning.specs.Forest.{none, Term, _◂_, rows, size}
 use Rattle.meaning.specs.Pattern.{Pattern, Kind}
-use Rattle.meaning.specs.Matcher.{Value, apply}
-use Rattle.meaning.specs.Read.{readOff}
+use Rattle.meaning.specs.Matcher.{Value}
 use Rattle.meaning.specs.Record.{IsRecord}
 use Rattle.meaning.specs.Calls.{accept}
 use Rattle.meaning.proofs.OneCode.{one-refuse, one-accept}
-use Rattle.meaning.proofs.Round.{round, round-good}
+use Rattle.meaning.proofs.Means.{matcher-means}
 use Rattle.tree.specs.Rows.{labels, sizes, GoodTree}
 use Rattle.tree.proofs.Unique.{good-lengths}
 use Rattle.pattern.specs.Rows.{GoodPattern}
 use Rattle.instance.specs.declared.Made.{Made}
 use Rattle.instance.specs.declared.Made.the-variants.{Refused, Rows}
-use Rattle.instance.specs.Instance.{codeGiven, rowsGiven, Lists, Instance, Codes, Settled}
+use Rattle.instance.specs.Instance.{codeGiven, rowsGiven, InstanceLists, Instance, InstanceCodes, InstanceSettled}
 use Rattle.instance.proofs.Whole.{one-instance}
 
 -- one code
-one-code : (l : Lists) (m n a b : ℕ) → Codes l m n a → Codes l m n b → a ≡ b
+one-code : (l : InstanceLists) (m n a b : ℕ) → InstanceCodes l m n a → InstanceCodes l m n b → a ≡ b
 one-code l m n a b =
     one-refuse 11 _ _ a b λ a b. one-refuse 12 _ _ a b λ a b. one-refuse 15 _ _ a b λ a b. one-refuse 16 _ _ a b λ a b. one-refuse 17 _ accept a b one-accept
 
@@ -35,7 +34,7 @@ one-number (Rows m) (Refused b) p q h = absurd (omega (arith, h refl))
 one-number (Rows m) (Rows n) p q h = ap Rows q
 
 -- the answer and both lists afterwards are settled
-pub one-making : (l : Lists) (OL OS : List ℕ) (r s : Made) (NL NS XL XS : List ℕ) → Settled l OL OS r NL NS → Settled l OL OS s XL XS → (r ≡ s) × (NL ≡ XL) × (NS ≡ XS)
+pub one-making : (l : InstanceLists) (OL OS : List ℕ) (r s : Made) (NL NS XL XS : List ℕ) → InstanceSettled l OL OS r NL NS → InstanceSettled l OL OS s XL XS → (r ≡ s) × (NL ≡ XL) × (NS ≡ XS)
 one-making l OL OS r s NL NS XL XS x y = go (ℕ-discrete (codeGiven r) 0)
   where
     same : codeGiven r ≡ codeGiven s
@@ -53,9 +52,9 @@ one-making l OL OS r s NL NS XL XS x y = go (ℕ-discrete (codeGiven r) 0)
     go (no e) =
         let m = x .refused e in
         let n = y .refused (λ z. e (same ∙ z)) in
-        (one-number r s same (m .answered ∙ sym (n .answered)) (λ z. absurd (e z)), m .labelled ∙ sym (n .labelled), m .sized ∙ sym (n .sized))
+        (one-number r s same (m .0 ∙ sym (n .0)) (λ z. absurd (e z)), m .1 ∙ sym (n .1), m .2 ∙ sym (n .2))
 
-module _ (Allowed : ℕ → Value → Type 0) (allowed? : (x : ℕ) (v : Value) → Dec (Allowed x v)) {l : Lists} {T : Term} {P : Pattern} {Q : List Kind}
+module _ (Allowed : ℕ → Value → Type 0) (allowed? : (x : ℕ) (v : Value) → Dec (Allowed x v)) {l : InstanceLists} {T : Term} {P : Pattern} {Q : List Kind}
     (t : GoodTree (l .label) (l .size) T) (p : GoodPattern (l .kind) (l .name) (l .patternSize) P Q) (m : IsRecord Allowed Q P T (l .numbers)) where
   -- for the record of a matcher the instance is the tree
   pub matcher-instance : Instance l T
@@ -66,23 +65,24 @@ module _ (Allowed : ℕ → Value → Type 0) (allowed? : (x : ℕ) (v : Value) 
         tree = T;
         pattern = P;
         kinds = Q;
+        values = m .matcher;
         goodTree = t;
         goodPattern = p;
-        goodRecord = rw e at (round-good Allowed allowed? g (m .solves));
-        is = sym (ap (λ (r : List ℕ). apply (readOff Q (T ◂ none) r) P) (sym e) ∙ ap (λ (σ : List Value). apply σ P) (round Allowed allowed? g (m .solves)) ∙ m .solves .equal);
+        meant = rw e at (matcher-means Allowed allowed? g (m .solves));
+        is = sym (m .solves .equal);
       }
 
 -- a good record whose instance has few rows and fits is not refused
-accepted-code : {l : Lists} {U : Term} {m n : ℕ} → Instance l U → size U ≤ 2048 → size U ≤ m → size U ≤ n → (c : ℕ) → Codes l m n c → c ≡ 0
+accepted-code : {l : InstanceLists} {U : Term} {m n : ℕ} → Instance l U → size U ≤ 2048 → size U ≤ m → size U ≤ n → (c : ℕ) → InstanceCodes l m n c → c ≡ 0
 accepted-code i h a b c (inl (x, _)) = absurd (x (i .tree, i .goodTree))
 accepted-code i h a b c (inr (_, inl (x, _))) = absurd (x (i .pattern, i .kinds, i .goodPattern))
-accepted-code i h a b c (inr (_, inr (_, inl (x, _)))) = absurd (x (i .tree, i .pattern, i .kinds, i .goodTree, i .goodPattern, i .goodRecord))
+accepted-code i h a b c (inr (_, inr (_, inl (x, _)))) = absurd (x (i .tree, i .pattern, i .kinds, i .values, i .goodTree, i .goodPattern, i .meant))
 accepted-code {U = U} i h a b c (inr (_, inr (_, inr (_, inl (x, _))))) = absurd (x (U, i, h))
 accepted-code {U = U} i h a b c (inr (_, inr (_, inr (_, inr (_, inl (x, _)))))) = absurd (x (U, i, a, b))
 accepted-code i h a b c (inr (_, inr (_, inr (_, inr (_, inr (_, e)))))) = e
 
 -- an instance is written where it fits
-pub instance-made : (l : Lists) (OL OS : List ℕ) (r : Made) (NL NS : List ℕ) (U : Term) → Instance l U → size U ≤ 2048 → size U ≤ length OL → size U ≤ length OS → Settled l OL OS r NL NS
+pub instance-made : (l : InstanceLists) (OL OS : List ℕ) (r : Made) (NL NS : List ℕ) (U : Term) → Instance l U → size U ≤ 2048 → size U ≤ length OL → size U ≤ length OS → InstanceSettled l OL OS r NL NS
     → (r ≡ Rows (size U)) × (NL ≡ labels (U ◂ none) ++ drop (size U) OL) × (NS ≡ sizes (U ◂ none) ++ drop (size U) OS)
 instance-made l OL OS r NL NS U i h a b s =
     let e = accepted-code i h a b (codeGiven r) (s .coded) in
@@ -94,8 +94,8 @@ instance-made l OL OS r NL NS U i h a b s =
     )
 
 -- for the record of a matcher that is the tree
-pub matcher-made : (Allowed : ℕ → Value → Type 0) (allowed? : (x : ℕ) (v : Value) → Dec (Allowed x v)) (l : Lists) (T : Term) (P : Pattern) (Q : List Kind) (OL OS : List ℕ) (r : Made) (NL NS : List ℕ)
-    → GoodTree (l .label) (l .size) T → GoodPattern (l .kind) (l .name) (l .patternSize) P Q → IsRecord Allowed Q P T (l .numbers) → Settled l OL OS r NL NS
+pub matcher-made : (Allowed : ℕ → Value → Type 0) (allowed? : (x : ℕ) (v : Value) → Dec (Allowed x v)) (l : InstanceLists) (T : Term) (P : Pattern) (Q : List Kind) (OL OS : List ℕ) (r : Made) (NL NS : List ℕ)
+    → GoodTree (l .label) (l .size) T → GoodPattern (l .kind) (l .name) (l .patternSize) P Q → IsRecord Allowed Q P T (l .numbers) → InstanceSettled l OL OS r NL NS
     → length (l .label) ≤ length OL → length (l .label) ≤ length OS
     → (r ≡ Rows (length (l .label))) × (NL ≡ l .label ++ drop (length (l .label)) OL) × (NS ≡ l .size ++ drop (length (l .label)) OS)
 unfolding rows

@@ -7,9 +7,9 @@ use native.Mathlib.Omega.{arith}
 use native.Mathlib.Decide.{decLt}
 use Rattle.meaning.specs.Forest.{Forest, Term, rows, Context, holeRow}
 use Rattle.meaning.specs.Pattern.{Kind, anIndividual, aSequence, aFunction, aContext, old, look}
-use Rattle.meaning.specs.Matcher.{Value, given as valueOf, at, asTerm, asForest, asSymbol, asContext}
+use Rattle.meaning.specs.Matcher.{Value, at, asTerm, asForest, asSymbol, asContext}
 use Rattle.meaning.specs.Read.{fromRow, headTerm, valueAt, readOff, Fits, GoodRecord}
-use Rattle.meaning.proofs.Lists.{look-old}
+use Rattle.meaning.proofs.Lists.{at-old, look-old}
 use Rattle.meaning.proofs.Laws.{no-rows, cut-holds}
 use Rattle.meaning.proofs.From.{from-past}
 use Rattle.tree.specs.Places.{TermsAt, TermAt, ContextAt}
@@ -30,7 +30,7 @@ pub record Given (R : Forest) (W : List ℕ) (x : ℕ) (k : Kind) (v : Value) : 
 given : (Q : List Kind) (R : Forest) (W : List ℕ) (x : ℕ) (k : Kind) → GoodRecord Q R W → look Q x ≡ old k → Given R W x k (at (readOff Q R W) x)
 given Q R W x k g e =
     let l = look-old Q x k e in
-    record { within = omega (arith, good-long Q R W g); is = ap valueOf (read-look Q R W x k g e); fits = good-each Q R W (length Q) g .fits x k l e }
+    record { within = omega (arith, good-long Q R W g); is = at-old (readOff Q R W) x (read-look Q R W x k g e); fits = good-each Q R W (length Q) g .fits x k l e }
 
 -- a term of the tree
 pub record HeadAt (L S : List ℕ) (a : ℕ) (T : Term) : Type 0 where

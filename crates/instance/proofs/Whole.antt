@@ -7,20 +7,22 @@ use mathlib.Core.List.{List}
 use lib.ListN.{length, getD}
 use native.Mathlib.Omega.{arith}
 use Rattle.meaning.specs.Forest.{none, Term, _◂_, rows, size}
-use Rattle.meaning.specs.Matcher.{apply}
+use Rattle.meaning.specs.Matcher.{Value, apply}
 use Rattle.meaning.specs.Read.{readOff}
 use Rattle.meaning.specs.Calls.{refuse, accept, Says}
 use Rattle.meaning.proofs.Answers.{said-no}
-use Rattle.tree.specs.Rows.{labels, sizes, Good as GoodRows}
+use Rattle.meaning.proofs.Means.{means-read}
+use Rattle.tree.specs.Rows.{labels, sizes, GoodRows}
 use Rattle.tree.proofs.Lists.{labels-rows, sizes-rows}
 use Rattle.tree.proofs.Unique.{unique, good-lengths}
-use Rattle.pattern.specs.Rows.{kindTree, nameTree, Good as GoodPatternRows}
+use Rattle.pattern.specs.Rows.{GoodPatternRows}
+use Rattle.pattern.specs.Lists.{kindTree, nameTree}
 use Rattle.pattern.proofs.Unique.{kind-sizes, one-pattern, one-list}
 use Rattle.pattern.proofs.Placed.{good-placed}
-use Rattle.record.specs.Good.{Good as GoodRecordRows}
+use Rattle.record.specs.Good.{GoodRecordList}
 use Rattle.record.proofs.Whole.{tree-at}
 use Rattle.instance.specs.declared.Made.the-variants.{Refused, Rows}
-use Rattle.instance.specs.Instance.{Lists, Instance, Codes, Settled}
+use Rattle.instance.specs.Instance.{InstanceLists, Instance, InstanceCodes, InstanceSettled}
 use Rattle.instance.specs.Places.{Ground, Written}
 use Rattle.instance.specs.Counting.{RowsPre, RowsPost}
 use Rattle.instance.specs.Packed.{PackPre, Packed}
@@ -28,50 +30,54 @@ use Rattle.instance.specs.Cycle.{TermAsks, TermGives}
 use Rattle.instance.proofs.Writes.{sets-whole}
 use Rattle.instance.proofs.Packs.{packed-pre, packed-post}
 
+-- the values that the record means are those that are read off the tree
+read-of : {l : InstanceLists} {U : Term} (i : Instance l U) → U ≡ apply (readOff (i .kinds) (i .tree ◂ none) (l .numbers)) (i .pattern)
+read-of i = i .is ∙ ap (λ (σ : List Value). apply σ (i .pattern)) (sym (means-read (i .meant) .1))
+
 -- the lists have one instance at the most
-pub one-instance : {l : Lists} {U X : Term} → Instance l U → Instance l X → U ≡ X
+pub one-instance : {l : InstanceLists} {U X : Term} → Instance l U → Instance l X → U ≡ X
 one-instance {l} x y =
     let t = unique (x .goodTree) (y .goodTree) in
     let p = one-pattern (x .goodPattern) (y .goodPattern) in
     let q = one-list (x .goodPattern) (y .goodPattern) in
-    x .is ∙ rw (t, p, q) (sym (y .is))
+    read-of x ∙ rw (t, p, q) (sym (read-of y))
 
 -- a good record has an instance
-pub its-instance : (l : Lists) (g : GoodRecordRows (l .label) (l .size) (l .kind) (l .name) (l .patternSize) (l .numbers)) → Instance l (apply (readOff (g .2) (g .0 ◂ none) (l .numbers)) (g .1))
-its-instance l g = record { tree = g .0; pattern = g .1; kinds = g .2; goodTree = g .3; goodPattern = g .4; goodRecord = g .5; is = refl }
+pub its-instance : (l : InstanceLists) (g : GoodRecordList (l .label) (l .size) (l .kind) (l .name) (l .patternSize) (l .numbers)) → Instance l (apply (g .3) (g .1))
+its-instance l g = record { tree = g .0; pattern = g .1; kinds = g .2; values = g .3; goodTree = g .4; goodPattern = g .5; meant = g .6; is = refl }
 
 -- a refusal
-refusal : (l : Lists) (OL OS : List ℕ) (c : ℕ) → 0 < c → Codes l (length OL) (length OS) c → Settled l OL OS (Refused c) OL OS
-refusal l OL OS c h x = record { coded = x; accepted = λ e. absurd (omega arith); refused = λ _. record { answered = refl; labelled = refl; sized = refl } }
+refusal : (l : InstanceLists) (OL OS : List ℕ) (c : ℕ) → 0 < c → InstanceCodes l (length OL) (length OS) c → InstanceSettled l OL OS (Refused c) OL OS
+refusal l OL OS c h x = record { coded = x; accepted = λ e. absurd (omega arith); refused = λ _. (refl, refl, refl) }
 
-module _ (l : Lists) (OL OS : List ℕ) where
-  pub refused-tree : {r : Bool} → Says r (GoodRows (l .label) (l .size)) → r ≡ false → Settled l OL OS (Refused 11) OL OS
+module _ (l : InstanceLists) (OL OS : List ℕ) where
+  pub refused-tree : {r : Bool} → Says r (GoodRows (l .label) (l .size)) → r ≡ false → InstanceSettled l OL OS (Refused 11) OL OS
   refused-tree s e = refusal l OL OS 11 (omega arith) (inl (said-no s e, refl))
 
-  pub refused-pattern : {r : Bool} → GoodRows (l .label) (l .size) → Says r (GoodPatternRows (l .kind) (l .name) (l .patternSize)) → r ≡ false → Settled l OL OS (Refused 12) OL OS
+  pub refused-pattern : {r : Bool} → GoodRows (l .label) (l .size) → Says r (GoodPatternRows (l .kind) (l .name) (l .patternSize)) → r ≡ false → InstanceSettled l OL OS (Refused 12) OL OS
   refused-pattern t s e = refusal l OL OS 12 (omega arith) (inr (t, inl (said-no s e, refl)))
 
   pub refused-record : {r : Bool} → GoodRows (l .label) (l .size) → GoodPatternRows (l .kind) (l .name) (l .patternSize)
-      → Says r (GoodRecordRows (l .label) (l .size) (l .kind) (l .name) (l .patternSize) (l .numbers)) → r ≡ false → Settled l OL OS (Refused 15) OL OS
+      → Says r (GoodRecordList (l .label) (l .size) (l .kind) (l .name) (l .patternSize) (l .numbers)) → r ≡ false → InstanceSettled l OL OS (Refused 15) OL OS
   refused-record t p s e = refusal l OL OS 15 (omega arith) (inr (t, inr (p, inl (said-no s e, refl))))
 
   module _ {U : Term} (i : Instance l U) where
     -- the lists are good
     passed : (c : ℕ) → refuse 16 ((X : Term) × Instance l X × (size X ≤ 2048)) (refuse 17 ((X : Term) × Instance l X × (size X ≤ length OL) × (size X ≤ length OS)) accept) c
-        → Codes l (length OL) (length OS) c
+        → InstanceCodes l (length OL) (length OS) c
     passed c x =
         let t = i .tree in
         let p = i .pattern in
-        inr ((t, i .goodTree), inr ((p, i .kinds, i .goodPattern), inr ((t, p, i .kinds, i .goodTree, i .goodPattern, i .goodRecord), x)))
+        inr ((t, i .goodTree), inr ((p, i .kinds, i .goodPattern), inr ((t, p, i .kinds, i .values, i .goodTree, i .goodPattern, i .meant), x)))
 
     -- every instance of the lists has as many rows
     as-large : {X : Term} → Instance l X → size X ≡ size U
     as-large j = ap size (one-instance j i)
 
-    pub refused-rows : 2048 < size U → Settled l OL OS (Refused 16) OL OS
+    pub refused-rows : 2048 < size U → InstanceSettled l OL OS (Refused 16) OL OS
     refused-rows h = refusal l OL OS 16 (omega arith) (passed 16 (inl (λ x. omega (arith, x .2, as-large (x .1)), refl)))
 
-    pub refused-room : size U ≤ 2048 → (length OL < size U) ⊎ (length OS < size U) → Settled l OL OS (Refused 17) OL OS
+    pub refused-room : size U ≤ 2048 → (length OL < size U) ⊎ (length OS < size U) → InstanceSettled l OL OS (Refused 17) OL OS
     refused-room h g = refusal l OL OS 17 (omega arith) (passed 17 (inr ((U, i, h), inl (too-narrow g, refl))))
       where
         too-narrow : (length OL < size U) ⊎ (length OS < size U) → (X : Term) × Instance l X × (size X ≤ length OL) × (size X ≤ length OS) → ⊥
@@ -79,7 +85,7 @@ module _ (l : Lists) (OL OS : List ℕ) where
         too-narrow (inr g) (X, j, a, b) = omega (arith, as-large j)
 
     -- the instance is written
-    pub made-whole : {n : ℕ} {NL NS : List ℕ} → size U ≤ 2048 → size U ≤ length OL → size U ≤ length OS → n ≡ size U → Written OL OS NL NS 0 (U ◂ none) → Settled l OL OS (Rows n) NL NS
+    pub made-whole : {n : ℕ} {NL NS : List ℕ} → size U ≤ 2048 → size U ≤ length OL → size U ≤ length OS → n ≡ size U → Written OL OS NL NS 0 (U ◂ none) → InstanceSettled l OL OS (Rows n) NL NS
     unfolding rows
     made-whole {n} {NL} {NS} h a b z w =
         record {
@@ -96,9 +102,9 @@ module _ (l : Lists) (OL OS : List ℕ) where
         }
 
 -- what the functions below ask of the lists of an instance
-module _ {l : Lists} {U : Term} (i : Instance l U) where
+module _ {l : InstanceLists} {U : Term} (i : Instance l U) where
   ground : Ground (l .label) (l .size) (l .numbers) (i .kinds) (i .tree ◂ none)
-  ground = record { tree = tree-at (i .goodTree); few = omega (arith, i .goodTree .few, good-lengths (i .goodTree) .1); good = i .goodRecord }
+  ground = record { tree = tree-at (i .goodTree); few = omega (arith, i .goodTree .few, good-lengths (i .goodTree) .1); good = means-read (i .meant) .0 }
 
   -- the pattern's lists are as long as its root's size
   long : (length (l .name) ≡ length (l .kind)) × (getD (l .patternSize) 0 0 ≡ length (l .kind)) × (length (l .patternSize) ≡ length (l .kind))
@@ -128,12 +134,12 @@ module _ {l : Lists} {U : Term} (i : Instance l U) where
 
   pub rows-is : {r : ℕ} → RowsPost (l .size) (l .kind) (l .name) (l .numbers) r → r ≡ size U
   rows-is p =
-      p .is (l .label) (i .kinds) (i .tree ◂ none) (l .patternSize) (i .pattern) ground (good-placed (i .goodPattern)) (long .1) ∙ sym (ap size (i .is))
+      p .is (l .label) (i .kinds) (i .tree ◂ none) (l .patternSize) (i .pattern) ground (good-placed (i .goodPattern)) (long .1) ∙ sym (ap size (read-of i))
 
   module _ {M : List ℕ} (m : Packed (l .kind) (l .name) (l .patternSize) M) where
     pub term-whole : {OL OS : List ℕ} → size U ≤ 2048 → size U ≤ length OL → size U ≤ length OS → TermAsks (l .label) (l .size) M (l .numbers) OL OS 0 0
     term-whole h a b =
-        let z = ap size (i .is) in
+        let z = ap size (read-of i) in
         packed-pre m
         (record {
           some = (
@@ -148,4 +154,4 @@ module _ {l : Lists} {U : Term} (i : Instance l U) where
 
     pub written-whole : {OL OS NL NS : List ℕ} {r : ℕ} → TermGives (l .label) (l .size) M (l .numbers) OL OS 0 0 r NL NS → Written OL OS NL NS 0 (U ◂ none)
     written-whole {OL} {OS} {NL} {NS} p =
-        rw (i .is) (packed-post m p .is (i .kinds) (i .tree ◂ none) (i .pattern) ground (good-placed (i .goodPattern)) .1)
+        rw (read-of i) (packed-post m p .is (i .kinds) (i .tree ◂ none) (i .pattern) ground (good-placed (i .goodPattern)) .1)

@@ -1,5 +1,5 @@
 // The instance maker: labels and sizes of a pattern under a record.
-ghost use Rattle.instance.specs.Instance.{lists, Settled};
+ghost use Rattle.instance.specs.Instance.{lists, InstanceSettled};
 
 mod counting;
 mod packed;
@@ -32,7 +32,7 @@ pub fn instance(
     out_label: &mut [u32],
     out_size: &mut [u32],
 ) -> Made
-    ensures { λ r. ⌜ Settled (lists (now (label .entry)) (now (size .entry)) (now (kind .entry)) (now (name .entry)) (now («pattern_size» .entry)) (now («record» .entry))) (now («out_label» .entry)) (now («out_size» .entry)) r (now («out_label» .exit)) (now («out_size» .exit)) ⌝ }
+    ensures { λ r. ⌜ InstanceSettled (lists (now (label .entry)) (now (size .entry)) (now (kind .entry)) (now (name .entry)) (now («pattern_size» .entry)) (now («record» .entry))) (now («out_label» .entry)) (now («out_size» .entry)) r (now («out_label» .exit)) (now («out_size» .exit)) ⌝ }
 {
     if !tree::good(label, size) {
         return Made::Refused(TREE);

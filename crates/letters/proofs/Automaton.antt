@@ -10,7 +10,7 @@ use native.Mathlib.Omega.{arith}
 use lib.ListN.{length, length-append}
 use lib.Bits.{bitOr}
 use Rattle.expression.specs.Expression.{Expression, symbol, empty, concatenation, choice, repetition, Language, in-symbol, in-empty, in-concatenation, in-first, in-second, in-none, in-more}
-use Rattle.expression.specs.Rows.{rows}
+use Rattle.expression.specs.Columns.{rows}
 use Rattle.letters.specs.Accepts.{Has, Accepts}
 use Rattle.letters.specs.Following.{gate}
 use Rattle.letters.proofs.Sets.{has-or, has-or-l, has-or-r, has-zero, has-one, one-has}

@@ -12,7 +12,8 @@ use lib.Bits.{bitOr}
 use borrow.Author.Tests.{eqb-true, eq-eqb}
 use Rattle.meaning.specs.Calls.{Says}
 use Rattle.expression.specs.Expression.{Expression, symbol, empty, concatenation, choice, repetition, Language, Same, In}
-use Rattle.expression.specs.Rows.{rows, GoodTable, StartsAt}
+use Rattle.expression.specs.Rows.{GoodTable, StartsAt}
+use Rattle.expression.specs.Columns.{rows}
 use Rattle.expression.proofs.Placed.{Placed, placed-size}
 use Rattle.expression.proofs.Table.{name-length}
 use Rattle.expression.proofs.Places.{place-total, start-placed, start-within}

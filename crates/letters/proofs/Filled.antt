@@ -10,7 +10,9 @@ use native.Mathlib.Omega.{arith}
 use lib.ListN.{length, getD, set, replicate, length-set, getD-replicate}
 use lib.Seq.{getD-set-same, getD-set-other}
 use Rattle.expression.specs.Expression.{Expression, symbol, empty, concatenation, choice, repetition}
-use Rattle.expression.specs.Rows.{rows, SymbolsFit, AllFit, GoodTable}
+use Rattle.expression.specs.Rows.{GoodTable}
+use Rattle.expression.specs.Columns.{rows}
+use Rattle.expression.proofs.Small.{SymbolsFit, AllFit, small-all}
 use Rattle.expression.specs.Rule.{numberAt, leftOf, rightOf}
 use Rattle.expression.proofs.Ways.{two-ways, three-ways}
 use Rattle.expression.proofs.Placed.{rows-positive, total, Placed, Laid, placed-size}
@@ -233,6 +235,6 @@ module _ {kind name size : List ℕ} {es : List Expression} (g : GoodTable kind 
       (omega (arith, rows .0)) (omega (arith, rows .1)) qe in
       let below : i < 0 + total es = omega (arith, kind-length g) in
       record {
-        sets = all-turn (overSet fs ns) (loopSet fs ns) _ _ i (numberAt kind) (numberAt name) (numberAt size) tc es 0 0 (good-laid g) (g .fit) (omega arith) below (t .sets);
-        finals = all-turn (overEnd fs ns) (loopEnd fs ns) _ _ i (numberAt kind) (numberAt name) (numberAt size) te es 0 true (good-laid g) (g .fit) (omega arith) below (t .finals);
+        sets = all-turn (overSet fs ns) (loopSet fs ns) _ _ i (numberAt kind) (numberAt name) (numberAt size) tc es 0 0 (good-laid g) (small-all g) (omega arith) below (t .sets);
+        finals = all-turn (overEnd fs ns) (loopEnd fs ns) _ _ i (numberAt kind) (numberAt name) (numberAt size) te es 0 true (good-laid g) (small-all g) (omega arith) below (t .finals);
       }

@@ -5,7 +5,7 @@ use mathlib.Core.List.{List, [], _∷_}
 use Prim.Native.Nat.{ℕ, zero, suc, _+_, _<_, _^_}
 use lib.Bits.{bitOr}
 use Rattle.expression.specs.Expression.{Expression, symbol, empty, concatenation, choice, repetition}
-use Rattle.expression.specs.Rows.{rows}
+use Rattle.expression.specs.Columns.{rows}
 use Rattle.expression.specs.Rule.{numberAt, leftOf, rightOf}
 use Rattle.letters.specs.Accepts.{flagAt}
 

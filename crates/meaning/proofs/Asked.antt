@@ -4,19 +4,21 @@ use mathlib.Core.Path.{_≡_, refl, ap, ap₂, _∙_}
 use mathlib.Core.Path.{sym as flip}
 use mathlib.Core.List.{List, [], _∷_, _++_, append-nil}
 use lib.ListN.{length}
+use mathlib.Core.Bool.{Bool, true, false, cond}
+use lib.Dec.{eqb}
 use native.Mathlib.Omega.{arith}
 use native.Mathlib.Nat.{zero-add}
 use native.Mathlib.Decide.{ℕ-discrete}
 use Rattle.meaning.specs.Forest.{Forest, none, some, Term, term, rows, terms, holeRow, size}
-use Rattle.meaning.specs.Read.{takeT, cut}
+use Rattle.meaning.specs.Read.{takeT, cut, values, firsts}
 use Rattle.meaning.proofs.Laws.{dropT, take-drop, terms-take, cut-plugs, cut-holds, take-of, drop-of, terms-of, hole-in, plug-cut}
 use Rattle.meaning.specs.Pattern.{Pattern, symbol, individual, function, context, Patterns, nil, cons, sequence, Kind, Look, old, new, wrong, look, after, afterT, GoodT, GoodF, Numbered}
-use Rattle.meaning.specs.Matcher.{Value, ofIndividual, ofSequence, ofFunction, ofContext, kind, kinds, at, given, asForest, apply}
+use Rattle.meaning.specs.Matcher.{Value, ofIndividual, ofSequence, ofFunction, ofContext, kind, kinds, at, asForest, asContext, apply}
 use Rattle.meaning.proofs.Walk.{same?, Res, fail, need, ok, andThen, met, meet, walkT, walkF, over, walk}
-use Rattle.meaning.specs.Record.{Entry, entry, values, span, second, numbers, note, noteAs, firstsT, firstsF, firsts, recordOf}
+use Rattle.meaning.specs.Record.{Entry, entry, second, numbers, note, firstsT, firstsF, recordOf}
 use Rattle.meaning.specs.Order.{choices}
 use Rattle.meaning.specs.Reached.{Begins, UntilT, in-symbol, in-function, in-context, here-context, UntilF, in-first, in-rest, in-sequence, here-sequence, Reached}
-use Rattle.meaning.proofs.Lists.{look-old, look-new, pre-refl, pre-trans, pre-length, pre-same}
+use Rattle.meaning.proofs.Lists.{at-old, look-old, look-new, pre-refl, pre-trans, pre-length, pre-same}
 use Rattle.meaning.proofs.Steps.{when-yes, when-live, picked, Inv, On, stands-inv, stands-back, stands-unpaid, on-stands, meet-does, meet-sound, choose-does, Chose, asks, goes, choose-live}
 use Rattle.meaning.proofs.Sound.{soundT}
 use Rattle.meaning.proofs.Complete.{after-geT, after-toT, completeT}
@@ -94,12 +96,11 @@ module _ {B : List Entry} {s lo hi : ℕ} where
 
 -- first appearances are only added
 note-grows : (x : ℕ) (v : Value) (t : ℕ) (B : List Entry) → Begins B (note x v t B)
-note-grows x v t B = go (look (values B) x)
+note-grows x v t B = go (eqb x (length B))
   where
-    go : (k : Look Value) → Begins B (noteAs k v t B)
-    go (old w) = pre-refl
-    go new = record { rest = entry v t ∷ []; is = refl }
-    go wrong = pre-refl
+    go : (y : Bool) → Begins B (cond y (B ++ (entry v t ∷ [])) B)
+    go true = record { rest = entry v t ∷ []; is = refl }
+    go false = pre-refl
 
 module _ (σ : List Value) where
   mutual
@@ -109,7 +110,7 @@ module _ (σ : List Value) where
     growsT (symbol f ps) t B = growsF ps (t + 1) B
     growsT (individual x) t B = note-grows x (at σ x) t B
     growsT (function x ps) t B = pre-trans (note-grows x (at σ x) t B) (growsF ps (t + 1) _)
-    growsT (context x q) t B = pre-trans (note-grows x (at σ x) t B) (growsT q (t + span (at σ x)) _)
+    growsT (context x q) t B = pre-trans (note-grows x (at σ x) t B) (growsT q (t + holeRow (asContext (at σ x))) _)
 
     growsF : (ps : Patterns) (t : ℕ) (B : List Entry) → Begins B (firstsF σ ps t B)
     growsF nil t B = pre-refl
@@ -169,7 +170,7 @@ module _ (Allowed : ℕ → Value → Type 0) (allowed? : (x : ℕ) (v : Value) 
             let m = meet-sound Allowed allowed? x v t B cs f in
             let r = ih (note x v t B) cs (stands-inv Allowed t i (g .0) (m .0)) (ap₂ k (m .1) (m .2) ∙ h) in
             let c = stands-back Allowed {σ = values B′} t (m .0) (r .pre) in
-            let a : at (values B′) x ≡ v = ap given (c .1) in
+            let a : at (values B′) x ≡ v = at-old (values B′) x (c .1) in
             record { inv = r .inv; pre = c .0; there = in-function (c .1) (r .there); firsts = rw a (r .firsts); paid = rw (← (stands-unpaid Allowed t (m .0) refl)) (r .paid) }
     askedT (context x q) {n} g T t B cs {B′} {s} {lo} {hi} i e =
         go (choose-live Allowed allowed? x t (t + rows (T .args)) t w B cs k (need B′ s lo hi) (λ d h. cut-holds T d (omega arith)) (λ d. refl) fail-need e)
@@ -199,7 +200,7 @@ module _ (Allowed : ℕ → Value → Type 0) (allowed? : (x : ℕ) (v : Value) 
         go (goes d left s f m p) ih =
             let r = ih d (note x (w d) t B) left (stands-inv Allowed t i (g .0) s) f in
             let c = stands-back Allowed {σ = values B′} t s (r .pre) in
-            let a : at (values B′) x ≡ w d = ap given (c .1) in
+            let a : at (values B′) x ≡ w d = at-old (values B′) x (c .1) in
             let u : UntilT (values B′) q (cut T d .at) (t + holeRow (cut T d .around)) lo hi = rw m (r .there) in
             record {
               inv = r .inv;
@@ -266,7 +267,7 @@ module _ (Allowed : ℕ → Value → Type 0) (allowed? : (x : ℕ) (v : Value) 
         go (goes d left s f m p) ih =
             let r = ih d (note x (w d) t B) left (stands-inv Allowed t i (g .0) s) f in
             let c = stands-back Allowed {σ = values B′} t s (r .pre) in
-            let a : at (values B′) x ≡ w d = ap given (c .1) in
+            let a : at (values B′) x ≡ w d = at-old (values B′) x (c .1) in
             record {
               inv = r .inv;
               pre = c .0;

@@ -6,14 +6,14 @@ use lib.ListN.{length}
 use native.Mathlib.Omega.{arith}
 use native.Mathlib.Decide.{ℕ-discrete}
 use Rattle.meaning.specs.Forest.{Forest, Term, rows, terms, _⊕_, plug, holeRow, size}
-use Rattle.meaning.specs.Read.{takeT, cut}
+use Rattle.meaning.specs.Read.{takeT, cut, span}
 use Rattle.meaning.proofs.Laws.{dropT, take-of, drop-of, terms-of, hole-in, plug-cut}
 use Rattle.meaning.specs.Pattern.{Pattern, symbol, individual, function, context, Patterns, nil, cons, sequence, Kind, anIndividual, aSequence, aFunction, aContext, old, look, Comes, after, afterT, afterF, GoodT, GoodF}
-use Rattle.meaning.specs.Matcher.{Value, ofIndividual, ofSequence, ofFunction, ofContext, kind, kinds, at, given, asTerm, asForest, asSymbol, asContext, apply, applyAll}
-use Rattle.meaning.specs.Record.{Entry, span, note, firstsT, firstsF}
+use Rattle.meaning.specs.Matcher.{Value, ofIndividual, ofSequence, ofFunction, ofContext, kind, kinds, at, asTerm, asForest, asSymbol, asContext, apply, applyAll}
+use Rattle.meaning.specs.Record.{Entry, note, firstsT, firstsF}
 use Rattle.meaning.proofs.Walk.{ok, walkT, walkF}
 use Rattle.meaning.specs.Reached.{Begins}
-use Rattle.meaning.proofs.Lists.{look-less}
+use Rattle.meaning.proofs.Lists.{at-old, look-less}
 use Rattle.meaning.proofs.Steps.{when-yes, kinds-old, kinds-length, Stands, On, on-stands, meet-does, choose-does}
 
 -- a value of a known kind
@@ -78,7 +78,7 @@ module _ (Allowed : ℕ → Value → Type 0) (allowed? : (x : ℕ) (v : Value) 
   has {x} {k} b c =
       let m = kinds-length σ in
       let f = kinds-old σ x k (look-less (kinds σ) (right .rest) x k (omega arith) (rw (right .is) at (c .kept))) in
-      let e : at σ x ≡ f .0 = ap given (f .1) in
+      let e : at σ x ≡ f .0 = at-old σ x (f .1) in
       (rw e (f .1), rw e (f .2))
 
   comes : {x : ℕ} {k : Kind} {n : ℕ} {B : List Entry} (t : ℕ) → x < length σ → Comes Q x k n → On Allowed σ n B
@@ -113,13 +113,13 @@ module _ (Allowed : ℕ → Value → Type 0) (allowed? : (x : ℕ) (v : Value) 
         let d : holeRow (asContext v) ≡ span v = ap span e in
         let p : cut U (span v) ≡ record { around = asContext v; at = T } = rw (← d) (plug-cut (asContext v) T) in
         let h : t + span v ≤ t + rows (U .args) = omega (arith, hole-in (asContext v) T) in
-        let r = completeT q (g .1) (t + span v) (note x v t B) (s .1) b in (
+        let r = completeT q (g .1) (t + holeRow (asContext v)) (note x v t B) (s .1) b in (
           r .0,
           λ cs.
               let c = r .1 cs in
               let k = choose-does Allowed allowed? t (t + rows (U .args)) t (λ d. ofContext (cut U d .around)) (c .0) (λ d B₁ cs₁. walkT Allowed allowed? q (cut U d .at) (t + d) B₁ cs₁)
               (s .0) (rw p e) h in
-              (k .0, k .1 ∙ rw p (c .1)),
+              (k .0, k .1 ∙ rw (p, ← d) (c .1)),
         )
 
     pub completeF : (ps : Patterns) {n : ℕ} → GoodF Q ps n → (t : ℕ) (B : List Entry) → On Allowed σ n B → afterF ps n ≤ length σ

@@ -4,12 +4,12 @@ use mathlib.Core.Path.{_≡_, refl}
 use mathlib.Core.List.{List, [], _∷_, _++_}
 use native.Mathlib.Decide.{ℕ-discrete, decLe}
 use Rattle.meaning.specs.Forest.{Forest, none, some, Term, term, rows, terms, size}
-use Rattle.meaning.specs.Read.{takeT, cut}
+use Rattle.meaning.specs.Read.{takeT, cut, values, span}
 use Rattle.meaning.proofs.Laws.{dropT}
 use Rattle.meaning.specs.Pattern.{Pattern, symbol, individual, function, context, Patterns, nil, cons, sequence, Look, old, new, wrong, look}
 use Rattle.meaning.specs.Matcher.{Value, ofIndividual, ofSequence, ofFunction, ofContext}
 use Rattle.meaning.proofs.Walk.{same?, Res, fail, need, ok, when, andThen, met, chosen, walkT, walkF, over, walk}
-use Rattle.meaning.specs.Record.{Entry, entry, values, span}
+use Rattle.meaning.specs.Record.{Entry, entry}
 
 -- y as one more choice: an answer, and the answer then
 abbrev MoreIs : ℕ → Res → Res → Type 0

@@ -11,6 +11,7 @@ pub mod Asked
 pub mod Tame
 pub mod From
 pub mod Round
+pub mod Means
 pub mod OneKinds
 pub mod OneCode
 pub mod Next

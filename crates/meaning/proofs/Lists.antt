@@ -3,9 +3,10 @@ use Prim.Native.Nat.{ℕ, zero, suc, _<_, _≤_}
 use mathlib.Core.Path.{_≡_, refl, ap, _∙_}
 use mathlib.Core.Path.{sym as flip}
 use mathlib.Core.List.{List, [], _∷_, _++_, append-assoc, append-nil}
-use lib.ListN.{length, length-append}
+use lib.ListN.{length, getD, length-append}
 use native.Mathlib.Omega.{arith}
 use Rattle.meaning.specs.Pattern.{old, new, wrong, look}
+use Rattle.meaning.specs.Matcher.{Value, at}
 use Rattle.meaning.specs.Reached.{Begins}
 
 module _ {A : Type 0} where
@@ -105,3 +106,32 @@ module _ {A : Type 0} where
   all-more P (c ∷ l) zero a h k p y b e = let z : _≡_ {A = ℕ} 0 1 = cc in absurd (omega arith)
   all-more P (c ∷ l) (suc x) a h k p zero b e = k zero b e
   all-more P (c ∷ l) (suc x) a h k p (suc y) b e = all-more (λ z. P (suc z)) l x a h (λ z d f. k (suc z) d f) p y b e
+
+-- the value of a variable that has one
+pub at-old : (σ : List Value) (x : ℕ) {v : Value} → look σ x ≡ old v → at σ x ≡ v
+at-old [] zero h = let z : _≡_ {A = ℕ} 0 1 = cc in absurd (omega arith)
+at-old [] (suc x) h = let z : _≡_ {A = ℕ} 0 1 = cc in absurd (omega arith)
+at-old (v ∷ σ) zero h = cc
+at-old (v ∷ σ) (suc x) h = at-old σ x h
+
+-- every number of the list is below n
+abbrev pub Each : ℕ → List ℕ → Type 0
+Each n [] = Unit {0}
+Each n (x ∷ l) = (x < n) × Each n l
+
+pub each-at : (n : ℕ) (l : List ℕ) → Each n l → (i : ℕ) → i < length l → getD l i 0 < n
+each-at n [] e i h = absurd (omega arith)
+each-at n (x ∷ l) e zero h = e .0
+each-at n (x ∷ l) e (suc i) h = each-at n l (e .1) i (omega arith)
+
+pub at-each : (n : ℕ) (l : List ℕ) → ((i : ℕ) → i < length l → getD l i 0 < n) → Each n l
+at-each n [] h = tt
+at-each n (x ∷ l) h = (h 0 (omega arith), at-each n l (λ i k. h (suc i) (omega arith)))
+
+pub each-append : (n : ℕ) (l m : List ℕ) → Each n l → Each n m → Each n (l ++ m)
+each-append n [] m e f = f
+each-append n (x ∷ l) m e f = (e .0, each-append n l m (e .1) f)
+
+pub each-parts : (n : ℕ) (l m : List ℕ) → Each n (l ++ m) → Each n l × Each n m
+each-parts n [] m e = (tt, e)
+each-parts n (x ∷ l) m e = let p = each-parts n l m (e .1) in ((e .0, p .0), p .1)

@@ -11,8 +11,8 @@ use Rattle.meaning.specs.Forest.{Forest, none, some, Term, term, _◂_, 
 use Rattle.meaning.specs.Pattern.{Pattern, symbol, individual, function, context, Patterns, nil, cons, sequence, Kind, anIndividual, aSequence, aFunction, aContext, Look, old, new, wrong, look, after, afterT, GoodT, GoodF, Numbered}
 use Rattle.meaning.specs.Matcher.{Value, ofIndividual, ofSequence, ofFunction, ofContext}
 use Rattle.meaning.proofs.Walk.{same?, Res, fail, need, ok, when, andThen, over, met, meet, chosen, walkT, walkF, walk}
-use Rattle.meaning.specs.Record.{Entry, entry, values, span}
-use Rattle.meaning.specs.Read.{takeT, fromRow, cut, valueAt, Fits}
+use Rattle.meaning.specs.Record.{Entry, entry}
+use Rattle.meaning.specs.Read.{values, span, takeT, fromRow, cut, valueAt, Fits}
 use Rattle.meaning.proofs.Laws.{dropT, take-drop, cut-plugs, cut-holds}
 use Rattle.meaning.proofs.Lists.{look-new}
 use Rattle.meaning.proofs.Asked.{over-need}

@@ -3,22 +3,25 @@ use Prim.Native.Nat.{ℕ, _+_, _-_, _<_, zero-le}
 use mathlib.Core.Path.{_≡_, refl, ap, ap₂, _∙_}
 use mathlib.Core.Path.{sym as flip}
 use mathlib.Core.List.{List, [], _∷_, _++_}
+use mathlib.Core.Bool.{Bool, true, false, cond}
+use lib.Dec.{eqb}
+use lib.ListN.{length}
 use native.Mathlib.Omega.{arith}
 use Rattle.meaning.specs.Forest.{Forest, none, some, Term, term, _◂_, rows, terms, _⊕_, plug, holeRow, size}
-use Rattle.meaning.specs.Read.{takeT, Split, fromRow, valueAt, readOff, Fits, GoodRecord}
+use Rattle.meaning.specs.Read.{takeT, Split, fromRow, valueAt, readOff, Fits, GoodRecord, values, firsts}
+use Rattle.meaning.proofs.Lists.{at-old}
 use Rattle.meaning.proofs.Laws.{take-of, terms-of, hole-in, plug-cut}
 use Rattle.meaning.proofs.From.{HereF, HereT, here-in, here-args, here-first, here-drop, here-next, here-hole}
-use Rattle.meaning.specs.Pattern.{Pattern, symbol, individual, function, context, Patterns, nil, cons, sequence, Kind, anIndividual, aSequence, aFunction, aContext, Look, old, new, wrong, look, Comes, after, afterT, GoodT, GoodF, Numbered}
-use Rattle.meaning.specs.Matcher.{Value, ofIndividual, ofSequence, ofFunction, ofContext, kind, kinds, at, given, asTerm, asForest, asSymbol, asContext, apply, applyAll, Solves}
-use Rattle.meaning.specs.Record.{Entry, entry, values, span, second, numbers, note, noteAs, firstsT, firstsF, firsts, recordOf}
+use Rattle.meaning.specs.Pattern.{Pattern, symbol, individual, function, context, Patterns, nil, cons, sequence, Kind, anIndividual, aSequence, aFunction, aContext, Comes, after, afterT, GoodT, GoodF, Numbered}
+use Rattle.meaning.specs.Matcher.{Value, ofIndividual, ofSequence, ofFunction, ofContext, kind, kinds, at, asTerm, asForest, asSymbol, asContext, apply, applyAll, Solves}
+use Rattle.meaning.specs.Record.{Entry, entry, second, numbers, note, firstsT, firstsF, recordOf}
 use Rattle.meaning.proofs.Steps.{kinds-old}
-use Rattle.meaning.proofs.Complete.{context-of}
 use Rattle.meaning.proofs.Theorems.{complete}
 
 -- the value is read back at its row, and its numbers are good
-record Stands (R : Forest) (v : Value) (t : ℕ) : Type 0 where
-  back : valueAt (kind v) R t (second v t) ≡ v
-  fits : Fits (kind v) R t (second v t)
+pub record Stands (R : Forest) (v : Value) (t : ℕ) : Type 0 where
+  pub back : valueAt (kind v) R t (second v t) ≡ v
+  pub fits : Fits (kind v) R t (second v t)
 
 -- what was met so far is read back, and is a good record
 record Reads (R : Forest) (B : List Entry) : Type 0 where
@@ -39,39 +42,32 @@ fits-more R [] v t h e = (e, tt)
 fits-more R (b ∷ B) v t h e = (h .0, fits-more R B v t (h .1) e)
 
 reads-note : {R : Forest} {B : List Entry} (x : ℕ) (v : Value) (t : ℕ) → Reads R B → Stands R v t → Reads R (note x v t B)
-reads-note {R} {B} x v t r e = go (look (values B) x)
+reads-note {R} {B} x v t r e = go (eqb x (length B))
   where
-    go : (k : Look Value) → Reads R (noteAs k v t B)
-    go (old w) = r
-    go new = record { back = reads-more R B v t (r .back) (e .back); fits = fits-more R B v t (r .fits) (e .fits) }
-    go wrong = r
+    go : (y : Bool) → Reads R (cond y (B ++ (entry v t ∷ [])) B)
+    go true = record { back = reads-more R B v t (r .back) (e .back); fits = fits-more R B v t (r .fits) (e .fits) }
+    go false = r
 
-module _ (Q : List Kind) (σ : List Value) (right : kinds σ ≡ Q) (R : Forest) where
-  kind-is : {x : ℕ} {k : Kind} {n : ℕ} → Comes Q x k n → kind (at σ x) ≡ k
-  kind-is {x} {k} c =
-      let f = kinds-old σ x k (rw right (c .kept)) in
-      let e : at σ x ≡ f .0 = ap given (f .1) in
-      rw e (f .2)
-
+module _ (R : Forest) where
   -- a term that stands at a row
   in-tree : {t : ℕ} {T : Term} → HereT R t T → t < rows R
   unfolding rows
   in-tree h = let z = rw (h .shows) at (here-in h) in omega arith
 
   -- each kind of value, at its row
-  reads-tree : (v : Value) (t : ℕ) → kind v ≡ anIndividual → HereT R t (asTerm v) → Stands R v t
+  pub reads-tree : (v : Value) (t : ℕ) → kind v ≡ anIndividual → HereT R t (asTerm v) → Stands R v t
   reads-tree (ofIndividual l us) t k h = record { back = rw (h .shows); fits = (in-tree h, refl) }
   reads-tree (ofSequence f) t k h = let z : _≡_ {A = ℕ} 0 1 = cc in absurd (omega arith)
   reads-tree (ofFunction l) t k h = let z : _≡_ {A = ℕ} 0 1 = cc in absurd (omega arith)
   reads-tree (ofContext c) t k h = let z : _≡_ {A = ℕ} 0 1 = cc in absurd (omega arith)
 
-  reads-symbol : (v : Value) (t : ℕ) (us : Forest) → kind v ≡ aFunction → HereT R t (term (asSymbol v) us) → Stands R v t
+  pub reads-symbol : (v : Value) (t : ℕ) (us : Forest) → kind v ≡ aFunction → HereT R t (term (asSymbol v) us) → Stands R v t
   reads-symbol (ofIndividual l vs) t us k h = let z : _≡_ {A = ℕ} 0 1 = cc in absurd (omega arith)
   reads-symbol (ofSequence f) t us k h = let z : _≡_ {A = ℕ} 0 1 = cc in absurd (omega arith)
   reads-symbol (ofFunction l) t us k h = record { back = rw (h .shows); fits = (in-tree h, refl) }
   reads-symbol (ofContext c) t us k h = let z : _≡_ {A = ℕ} 0 1 = cc in absurd (omega arith)
 
-  reads-forest : (v : Value) (t : ℕ) (g : Forest) → kind v ≡ aSequence → HereF R t (asForest v ⊕ g) → Stands R v t
+  pub reads-forest : (v : Value) (t : ℕ) (g : Forest) → kind v ≡ aSequence → HereF R t (asForest v ⊕ g) → Stands R v t
   unfolding takeT terms _⊕_ rows
   reads-forest (ofIndividual l us) t g k h = let z : _≡_ {A = ℕ} 0 1 = cc in absurd (omega arith)
   reads-forest (ofSequence none) t g k h = record { back = refl; fits = (omega (arith, h .inside), zero-le) }
@@ -81,7 +77,7 @@ module _ (Q : List Kind) (σ : List Value) (right : kinds σ ≡ Q) (R : Forest)
   reads-forest (ofFunction l) t g k h = let z : _≡_ {A = ℕ} 0 1 = cc in absurd (omega arith)
   reads-forest (ofContext c) t g k h = let z : _≡_ {A = ℕ} 0 1 = cc in absurd (omega arith)
 
-  reads-context : (v : Value) (t : ℕ) (T : Term) → kind v ≡ aContext → HereT R t (plug (asContext v) T) → Stands R v t
+  pub reads-context : (v : Value) (t : ℕ) (T : Term) → kind v ≡ aContext → HereT R t (plug (asContext v) T) → Stands R v t
   reads-context (ofIndividual l us) t T k h = let z : _≡_ {A = ℕ} 0 1 = cc in absurd (omega arith)
   reads-context (ofSequence f) t T k h = let z : _≡_ {A = ℕ} 0 1 = cc in absurd (omega arith)
   reads-context (ofFunction l) t T k h = let z : _≡_ {A = ℕ} 0 1 = cc in absurd (omega arith)
@@ -92,20 +88,24 @@ module _ (Q : List Kind) (σ : List Value) (right : kinds σ ≡ Q) (R : Forest)
         fits = (in-tree h, omega arith, rw (h .shows) (omega (arith, hole-in c T)));
       }
 
-  hole-here : (v : Value) (t : ℕ) (T : Term) → kind v ≡ aContext → HereT R t (plug (asContext v) T) → HereT R (t + span v) T
-  hole-here v t T k h = rw (ap span (context-of v k)) at (here-hole (asContext v) T h)
+module _ (Q : List Kind) (σ : List Value) (right : kinds σ ≡ Q) (R : Forest) where
+  kind-is : {x : ℕ} {k : Kind} {n : ℕ} → Comes Q x k n → kind (at σ x) ≡ k
+  kind-is {x} {k} c =
+      let f = kinds-old σ x k (rw right (c .kept)) in
+      let e : at σ x ≡ f .0 = at-old σ x (f .1) in
+      rw e (f .2)
 
   mutual
     unfolding apply afterT GoodT firstsT
 
     readsT : (q : Pattern) (n : ℕ) → GoodT Q q n → (t : ℕ) (B : List Entry) → HereT R t (apply σ q) → Reads R B → Reads R (firstsT σ q t B)
     readsT (symbol f ps) n g t B h r = readsF ps n g (t + 1) B (here-args h) r
-    readsT (individual x) n g t B h r = reads-note x (at σ x) t r (reads-tree (at σ x) t (kind-is g) h)
+    readsT (individual x) n g t B h r = reads-note x (at σ x) t r (reads-tree R (at σ x) t (kind-is g) h)
     readsT (function x ps) n g t B h r =
-        readsF ps (after x n) (g .1) (t + 1) (note x (at σ x) t B) (here-args h) (reads-note x (at σ x) t r (reads-symbol (at σ x) t (applyAll σ ps) (kind-is (g .0)) h))
+        readsF ps (after x n) (g .1) (t + 1) (note x (at σ x) t B) (here-args h) (reads-note x (at σ x) t r (reads-symbol R (at σ x) t (applyAll σ ps) (kind-is (g .0)) h))
     readsT (context x q) n g t B h r =
-        readsT q (after x n) (g .1) (t + span (at σ x)) (note x (at σ x) t B) (hole-here (at σ x) t (apply σ q) (kind-is (g .0)) h)
-        (reads-note x (at σ x) t r (reads-context (at σ x) t (apply σ q) (kind-is (g .0)) h))
+        readsT q (after x n) (g .1) (t + holeRow (asContext (at σ x))) (note x (at σ x) t B) (here-hole (asContext (at σ x)) (apply σ q) h)
+        (reads-note x (at σ x) t r (reads-context R (at σ x) t (apply σ q) (kind-is (g .0)) h))
 
     readsF : (ps : Patterns) (n : ℕ) → GoodF Q ps n → (t : ℕ) (B : List Entry) → HereF R t (applyAll σ ps) → Reads R B → Reads R (firstsF σ ps t B)
     readsF nil n g t B h r = r
@@ -114,7 +114,7 @@ module _ (Q : List Kind) (σ : List Value) (right : kinds σ ≡ Q) (R : Forest)
         (readsT q n (g .0) t B (here-first (apply σ q) (applyAll σ ps) h) r)
     readsF (sequence x ps) n g t B h r =
         readsF ps (after x n) (g .1) (t + rows (asForest (at σ x))) (note x (at σ x) t B) (here-drop (asForest (at σ x)) (applyAll σ ps) h)
-        (reads-note x (at σ x) t r (reads-forest (at σ x) t (applyAll σ ps) (kind-is (g .0)) h))
+        (reads-note x (at σ x) t r (reads-forest R (at σ x) t (applyAll σ ps) (kind-is (g .0)) h))
 
 module _ (Allowed : ℕ → Value → Type 0) (allowed? : (x : ℕ) (v : Value) → Dec (Allowed x v)) {Q : List Kind} {P : Pattern} {T : Term} {σ : List Value} (g : Numbered P Q)
     (s : Solves Allowed Q σ P T) where

@@ -6,11 +6,12 @@ use native.Mathlib.Omega.{arith}
 use native.Mathlib.Nat.{zero-add}
 use native.Mathlib.Decide.{ℕ-discrete}
 use Rattle.meaning.specs.Forest.{Forest, none, some, Term, term, rows, terms, size}
-use Rattle.meaning.specs.Read.{takeT, cut}
+use Rattle.meaning.specs.Read.{takeT, cut, values}
+use Rattle.meaning.proofs.Lists.{at-old}
 use Rattle.meaning.proofs.Laws.{dropT, take-drop, terms-take, cut-plugs, cut-holds}
 use Rattle.meaning.specs.Pattern.{Pattern, symbol, individual, function, context, Patterns, nil, cons, sequence, Kind, afterT, afterF, GoodT, GoodF}
-use Rattle.meaning.specs.Matcher.{Value, ofIndividual, ofSequence, ofFunction, ofContext, at, given, asSymbol, apply, applyAll}
-use Rattle.meaning.specs.Record.{Entry, values, note, firstsT, firstsF}
+use Rattle.meaning.specs.Matcher.{Value, ofIndividual, ofSequence, ofFunction, ofContext, at, asSymbol, apply, applyAll}
+use Rattle.meaning.specs.Record.{Entry, note, firstsT, firstsF}
 use Rattle.meaning.proofs.Walk.{ok, walkT, walkF}
 use Rattle.meaning.specs.Reached.{Begins}
 use Rattle.meaning.proofs.Steps.{no-ok, when-ok, then-ok, picked, Inv, stands-inv, stands-back, stands-unpaid, meet-sound, then-meet, choose-sound}
@@ -39,7 +40,7 @@ module _ (Allowed : ℕ → Value → Type 0) (allowed? : (x : ℕ) (v : Value) 
           inv = rw (m .1) at (stands-inv Allowed t i g (m .0));
           back = λ σ p.
               let c = stands-back Allowed {σ = σ} t (m .0) (rw (m .1) p) in
-              let a : at σ x ≡ v = ap given (c .1) in
+              let a : at σ x ≡ v = at-old σ x (c .1) in
               (c .0, rw a, rw a (m .1));
           paid = rw (← (m .1), m .2, stands-unpaid Allowed t (m .0) refl);
         }
@@ -52,7 +53,7 @@ module _ (Allowed : ℕ → Value → Type 0) (allowed? : (x : ℕ) (v : Value) 
           back = λ σ p.
               let b = r .back σ p in
               let c = stands-back Allowed {σ = σ} t (m .0) (b .0) in
-              let a : at σ x ≡ v = ap given (c .1) in
+              let a : at σ x ≡ v = at-old σ x (c .1) in
               (c .0, ap₂ term (ap asSymbol a) (b .1), rw a (b .2));
           paid = rw (← (stands-unpaid Allowed t (m .0) refl)) (r .paid);
         }
@@ -67,7 +68,7 @@ module _ (Allowed : ℕ → Value → Type 0) (allowed? : (x : ℕ) (v : Value) 
           back = λ σ p.
               let b = r .back σ p in
               let c = stands-back Allowed {σ = σ} t (m .2) (b .0) in
-              let a : at σ x ≡ v = ap given (c .1) in
+              let a : at σ x ≡ v = at-old σ x (c .1) in
               (c .0, rw (a, b .1) (cut-plugs T d), rw (a, m .4) (b .2));
           paid = m .5 ∙ r .paid;
         }
@@ -103,7 +104,7 @@ module _ (Allowed : ℕ → Value → Type 0) (allowed? : (x : ℕ) (v : Value) 
           back = λ σ p.
               let b = r .back σ p in
               let c = stands-back Allowed {σ = σ} t (m .2) (b .0) in
-              let a : at σ x ≡ v = ap given (c .1) in
+              let a : at σ x ≡ v = at-old σ x (c .1) in
               (c .0, rw (a, b .1) (take-drop d us), rw a (b .2));
           paid = m .5 ∙ r .paid;
         }

@@ -1,15 +1,17 @@
 -- A variable comes up: what the two steps of the walk, meet and choose, have in common.
-use Prim.Native.Nat.{ℕ, zero, suc, _+_, _-_, _≤_}
+use Prim.Native.Nat.{ℕ, zero, suc, _+_, _-_, _≤_, _<_}
 use mathlib.Core.Path.{_≡_, refl, ap, ap₂, _∙_}
 use mathlib.Core.Path.{sym as flip}
 use mathlib.Core.List.{List, [], _∷_, _++_, append-assoc, append-nil}
 use lib.ListN.{length, length-append}
 use native.Mathlib.Omega.{arith}
 use native.Mathlib.Decide.{decLe}
+use borrow.Author.Tests.{eq-eqb, ne-eqb}
 use Rattle.meaning.specs.Matcher.{Value, ofIndividual, ofSequence, ofFunction, ofContext, kind, kinds}
 use Rattle.meaning.proofs.Walk.{same?, Res, fail, need, ok, when, andThen, met, meet, chosen, choose}
 use Rattle.meaning.specs.Pattern.{Kind, Look, old, new, wrong, look, Comes, after}
-use Rattle.meaning.specs.Record.{Entry, entry, values, span, second, numbers, note, noteAs}
+use Rattle.meaning.specs.Record.{Entry, entry, second, numbers, note}
+use Rattle.meaning.specs.Read.{values, span}
 use Rattle.meaning.specs.Order.{choices}
 use Rattle.meaning.specs.Reached.{Begins}
 use Rattle.meaning.proofs.Lists.{look-new, look-old, look-wrong, pre-more, pre-less, pre-look, pre-last, all-more}
@@ -86,11 +88,15 @@ picked-more (e ∷ B) v t = go (e .value) (e .row) (picked-more B v t)
     go (ofContext c) u h = rw h
 
 -- x is noted: where it is new, and where not
+values-long : (B : List Entry) → length (values B) ≡ length B
+values-long [] = refl
+values-long (e ∷ B) = ap suc (values-long B)
+
 pub note-new : (B : List Entry) (x : ℕ) (v : Value) (t : ℕ) → look (values B) x ≡ new → note x v t B ≡ B ++ (entry v t ∷ [])
-note-new B x v t h = ap (λ (k : Look Value). noteAs k v t B) h
+note-new B x v t h = rw (eq-eqb x (length B) (look-new (values B) x h ∙ values-long B))
 
 pub note-old : (B : List Entry) (x : ℕ) (v w : Value) (t : ℕ) → look (values B) x ≡ old w → note x v t B ≡ B
-note-old B x v w t h = ap (λ (k : Look Value). noteAs k v t B) h
+note-old B x v w t h = let l : x < length B = rw (values-long B) at (look-old (values B) x w h) in rw (ne-eqb x (length B) (λ e. omega (arith, e)))
 
 module _ (Allowed : ℕ → Value → Type 0) where
   -- x may come to stand for v: it is new, and v is allowed; or it stands for v already
@@ -163,8 +169,8 @@ module _ (Allowed : ℕ → Value → Type 0) where
         go wrong h e = no-ok e
 
     pub meet-does : {x : ℕ} {v : Value} {B : List Entry} (t : ℕ) (cs : List ℕ) → Stands B x v → meet Allowed allowed? x v t B cs ≡ ok (note x v t B) cs
-    meet-does {x} {v} {B} t cs (fresh h a) = rw h (when-yes (allowed? x v) (ok (B ++ (entry v t ∷ [])) cs) a)
-    meet-does {x} {v} {B} t cs (again h) = rw h (when-yes (same? v v) (ok B cs) refl)
+    meet-does {x} {v} {B} t cs (fresh h a) = rw (note-new B x v t h, h) (when-yes (allowed? x v) (ok (B ++ (entry v t ∷ [])) cs) a)
+    meet-does {x} {v} {B} t cs (again h) = rw (note-old B x v v t h, h) (when-yes (same? v v) (ok B cs) refl)
 
     -- the variable is asked for; or it is given, and the walk goes on
     pub data Chose (x lo hi t : ℕ) (g : ℕ → Value) (B : List Entry) (cs : List ℕ) (k : ℕ → List Entry → List ℕ → Res) (r : Res) : Type 0 where
@@ -210,8 +216,8 @@ module _ (Allowed : ℕ → Value → Type 0) where
         → Stands B x v → g (span v) ≡ v → lo + span v ≤ hi → (cs₀ : List ℕ) × (choose Allowed allowed? x lo hi t g B cs₀ k ≡ k (span v) (note x v t B) cs)
     choose-does {x} {v} {B} lo hi t g cs k (fresh h a) e f =
         let z : lo + span v - lo ≡ span v = omega arith in
-        ((lo + span v) ∷ cs, rw (h, z, e) (when-yes (decLe lo (lo + span v)) _ (omega arith) ∙ when-yes (decLe (lo + span v) hi) _ f ∙ when-yes (allowed? x v) _ a))
-    choose-does {x} {v} {B} lo hi t g cs k (again h) e f = (cs, rw (h, e) (when-yes (same? v v) _ refl))
+        ((lo + span v) ∷ cs, rw (note-new B x v t h, h, z, e) (when-yes (decLe lo (lo + span v)) _ (omega arith) ∙ when-yes (decLe (lo + span v) hi) _ f ∙ when-yes (allowed? x v) _ a))
+    choose-does {x} {v} {B} lo hi t g cs k (again h) e f = (cs, rw (note-old B x v v t h, h, e) (when-yes (same? v v) _ refl))
 
     pub then-meet : (x : ℕ) (v : Value) (t : ℕ) (B : List Entry) (cs : List ℕ) (k : List Entry → List ℕ → Res) {B′ : List Entry} {cs′ : List ℕ}
         → andThen (meet Allowed allowed? x v t B cs) k ≡ ok B′ cs′ → Stands B x v × (k (note x v t B) cs ≡ ok B′ cs′)

@@ -9,7 +9,8 @@ use Rattle.meaning.specs.Forest.{Forest, Term, _◂_, rows, plug, holeRo
 use Rattle.meaning.proofs.Laws.{terms-few, rows-of}
 use Rattle.meaning.specs.Pattern.{Pattern, Patterns, Kind, anIndividual, aSequence, aFunction, aContext, old, look, after, afterT, GoodT, GoodF, Numbered}
 use Rattle.meaning.specs.Matcher.{Value, ofIndividual, ofSequence, ofFunction, ofContext, kind, kinds}
-use Rattle.meaning.specs.Record.{Entry, values, second, numbers, recordOf}
+use Rattle.meaning.specs.Record.{Entry, second, numbers, recordOf}
+use Rattle.meaning.specs.Read.{values}
 use Rattle.meaning.specs.Order.{choices}
 use Rattle.meaning.proofs.Walk.{need, ok, walk}
 use Rattle.meaning.specs.Reached.{Begins, UntilT, in-symbol, in-function, in-context, here-context, UntilF, in-first, in-rest, in-sequence, here-sequence}

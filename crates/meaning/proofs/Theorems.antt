@@ -8,7 +8,8 @@ use native.Mathlib.Omega.{arith}
 use Rattle.meaning.specs.Forest.{Term}
 use Rattle.meaning.specs.Pattern.{Pattern, Kind, afterT, Numbered}
 use Rattle.meaning.specs.Matcher.{Value, kinds, Solves}
-use Rattle.meaning.specs.Record.{Entry, values, numbers, firsts, recordOf, IsRecord}
+use Rattle.meaning.specs.Record.{Entry, numbers, recordOf, IsRecord}
+use Rattle.meaning.specs.Read.{values, firsts}
 use Rattle.meaning.specs.Order.{choices}
 use Rattle.meaning.proofs.Walk.{Res, fail, need, ok, walkT, over, walk}
 use Rattle.meaning.proofs.Lists.{look-old, pre-all}

@@ -3,11 +3,11 @@ use Prim.Native.Nat.{ℕ, _+_, _-_}
 use mathlib.Core.List.{List, [], _∷_, _++_}
 use native.Mathlib.Decide.{ℕ-discrete, decLe}
 use Rattle.meaning.specs.Forest.{Forest, none, some, Forest-discrete, Term, term, rows, terms, size, Context-discrete}
-use Rattle.meaning.specs.Read.{takeT, cut}
+use Rattle.meaning.specs.Read.{takeT, cut, values, span}
 use Rattle.meaning.proofs.Laws.{dropT}
 use Rattle.meaning.specs.Pattern.{Pattern, symbol, individual, function, context, Patterns, nil, cons, sequence, Look, old, new, wrong, look}
 use Rattle.meaning.specs.Matcher.{Value, ofIndividual, ofSequence, ofFunction, ofContext, Value-discrete}
-use Rattle.meaning.specs.Record.{Entry, entry, values, span}
+use Rattle.meaning.specs.Record.{Entry, entry}
 
 -- whether two values are one, by structure
 abbrev pub same? : Discrete Value

@@ -6,3 +6,4 @@ pub mod Record
 pub mod Reached
 pub mod Order
 pub mod Read
+pub mod Means

@@ -3,8 +3,9 @@
 use Prim.Native.Nat.{ℕ}
 use mathlib.Core.List.{List, [], _∷_}
 use mathlib.Core.Path.{_≡_}
+use lib.ListN.{getD}
 use Rattle.meaning.specs.Forest.{Forest, none, Term, term, Context, hole, _◂_, _⊕_, plug}
-use Rattle.meaning.specs.Pattern.{Kind, anIndividual, aSequence, aFunction, aContext, Look, old, new, wrong, look, Pattern, symbol, individual, function, context, Patterns, nil, cons, sequence}
+use Rattle.meaning.specs.Pattern.{Kind, anIndividual, aSequence, aFunction, aContext, old, look, Pattern, symbol, individual, function, context, Patterns, nil, cons, sequence}
 
 pub data Value : Type 0 where
   ofIndividual : (label : ℕ) (args : Forest) → Value
@@ -25,13 +26,8 @@ kinds [] = []
 kinds (v ∷ σ) = kind v ∷ kinds σ
 
 -- the value of x (and anything where there is none)
-abbrev pub given : Look Value → Value
-given (old v) = v
-given new = ofFunction 0
-given wrong = ofFunction 0
-
 abbrev pub at : List Value → ℕ → Value
-at σ x = given (look σ x)
+at σ x = getD σ x (ofFunction 0)
 
 -- the value as what its kind says it is (and anything where it is of another kind)
 abbrev pub asTerm : Value → Term

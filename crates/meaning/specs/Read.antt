@@ -1,11 +1,28 @@
--- 01, "What a matcher is" and "Numbers and order of checks": the substitution that a record means, read off the tree.
+-- Not needed to believe any promise: what the walk and the proofs read off entries and records. The substitution that a record means is here a
+-- function of the tree, beside when it may be read.
 use Prim.Native.Nat.{ℕ, zero, suc, _-_, _+_, _≤_, _<_}
 use mathlib.Core.List.{List, [], _∷_}
 use native.Mathlib.Decide.{decLt}
 use mathlib.Core.Path.{_≡_}
-use Rattle.meaning.specs.Forest.{Forest, none, some, Term, term, rows, Context, hole, node, terms, size}
-use Rattle.meaning.specs.Pattern.{Kind, anIndividual, aSequence, aFunction, aContext}
+use Rattle.meaning.specs.Forest.{Forest, none, some, Term, term, rows, Context, hole, node, holeRow, terms, size}
+use Rattle.meaning.specs.Pattern.{Pattern, Kind, anIndividual, aSequence, aFunction, aContext}
 use Rattle.meaning.specs.Matcher.{Value, ofIndividual, ofSequence, ofFunction, ofContext}
+use Rattle.meaning.specs.Record.{Entry, firstsT}
+
+-- the values of entries, and the entries of all variables
+abbrev pub values : List Entry → List Value
+values [] = []
+values (e ∷ B) = e .value ∷ values B
+
+abbrev pub firsts : Pattern → List Value → List Entry
+firsts P σ = firstsT σ P 0 []
+
+-- how far below a value's start what it holds goes on: the hole's row of a context, the count of a sequence
+abbrev pub span : Value → ℕ
+span (ofIndividual l us) = 0
+span (ofSequence f) = terms f
+span (ofFunction l) = 0
+span (ofContext c) = holeRow c
 
 -- the first terms of a sequence
 unfoldable pub takeT : ℕ → Forest → Forest
@@ -69,10 +86,7 @@ readOff (k ∷ Q) R [] = []
 readOff (k ∷ Q) R (a ∷ []) = []
 readOff (k ∷ Q) R (a ∷ b ∷ r) = valueAt k R a b ∷ readOff Q R r
 
--- 01, "Numbers and order of checks": "A record is bad if an individual or function row isn't in the tree or its second number isn't
--- 0; a sequence's start is over the tree's length, or its count of neighbouring arguments isn't there (the root counts as one); a
--- context's start isn't in the tree or its hole isn't in that subterm." And code 15: "record not twice the variables long".
--- The two numbers a and b are good for a variable of the kind k; R is the tree, as a list of one
+-- the two numbers a and b are good for a variable of the kind k; R is the tree, as a list of one
 abbrev pub Fits : Kind → Forest → ℕ → ℕ → Type 0
 Fits anIndividual R a b = (a < rows R) × (b ≡ 0)
 Fits aSequence R a b = (a ≤ rows R) × (b ≤ terms (fromRow R a))

@@ -9,8 +9,10 @@ use Rattle.meaning.specs.Pattern.{Pattern, Kind, aSequence}
 use Rattle.tree.specs.Rows.{labels, sizes, depth}
 use Rattle.tree.specs.Shape.{Shape}
 use Rattle.tree.proofs.Lists.{sizes-rows, relabelled}
-use Rattle.pattern.specs.Rows.{code, treeT, kindRows, GoodPattern}
+use Rattle.pattern.specs.Rows.{code, treeT, GoodPattern}
+use Rattle.pattern.specs.Lists.{kindRows}
 use Rattle.pattern.specs.Scan.{Scan, end, symbol-row, variable-row}
+use Rattle.pattern.proofs.Small.{names-below, below-small}
 use Rattle.pattern.proofs.Build.{build, single}
 use Rattle.pattern.proofs.Keeps.{no-sequence, keepsT}
 
@@ -29,7 +31,7 @@ module _ {K N S : List ℕ} {P : Pattern} {Q : List Kind} (g : GoodPattern K N S
 
   pub good-scan : Scan Q 0 K N S
   unfolding labels sizes
-  good-scan = rw (g .kinds, g .names, g .sized) (keepsT Q P 0 [] [] [] (g .numbered .numbered) (g .small) (end (g .numbered .all)))
+  good-scan = rw (g .kinds, g .names, g .sized) (keepsT Q P 0 [] [] [] (g .numbered .numbered) (below-small P (g .names) (g .small)) (end (g .numbered .all)))
 
   pub good-root : getD K 0 0 ≡ code aSequence → ⊥
   unfolding labels
@@ -44,15 +46,16 @@ module _ {K N S : List ℕ} {Q : List Kind} (root : getD K 0 0 ≡ code aSequenc
       let m : N ≡ labels (U ◂ none) ++ [] = sym (append-nil (labels (U ◂ none)) ∙ n) in
       let y : S ≡ sizes (U ◂ none) ++ [] = sym (append-nil (sizes (U ◂ none)) ∙ z) in
       let b = single (build Q (U ◂ none) 0 K [] [] (rw (m, y) at s)) root in
-      let e = ended (b .rest) in (
+      let e = ended (b .rest) in
+      let named = sym (ap labels (b .named) ∙ n) in (
         b .pattern,
         record {
           kinds = b .kinds ∙ ap (λ (k : List ℕ). kindRows (b .pattern) ++ k) (e .0) ∙ append-nil (kindRows (b .pattern));
-          names = sym (ap labels (b .named) ∙ n);
+          names = named;
           sized = sym (ap sizes (b .named) ∙ z);
           few = few;
           shallow = rw (b .named) d;
-          small = b .small;
+          small = names-below (b .pattern) Q named (b .good) bounded (b .small);
           numbered = record { numbered = b .good; all = e .1 };
           bounded = bounded;
         },

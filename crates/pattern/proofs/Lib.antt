@@ -1,3 +1,4 @@
+pub mod Small
 pub mod Build
 pub mod Keeps
 pub mod Joint

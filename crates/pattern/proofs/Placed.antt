@@ -10,7 +10,8 @@ use Rattle.meaning.proofs.Lists.{look-old}
 use Rattle.tree.specs.Places.{TermsAt, stop, step, TermAt}
 use Rattle.tree.proofs.Terms.{terms-end}
 use Rattle.tree.proofs.Lists.{all-at}
-use Rattle.pattern.specs.Rows.{treeT, treeF, theKind, theName, kindTree, nameTree, GoodPattern}
+use Rattle.pattern.specs.Rows.{treeT, treeF, theKind, theName, GoodPattern}
+use Rattle.pattern.specs.Lists.{kindTree, nameTree}
 use Rattle.pattern.specs.Places.{PatternRow, Variable, PatternAt, at-symbol, at-individual, at-function, at-context, PatternsAt, at-nil, at-cons, at-sequence}
 use Rattle.pattern.proofs.Unique.{kind-sizes}
 

@@ -7,7 +7,8 @@ use Rattle.meaning.specs.Pattern.{Pattern, symbol, individual, function, contex
 use Rattle.meaning.proofs.OneKinds.{one-kinds}
 use Rattle.tree.specs.Rows.{sizes}
 use Rattle.tree.proofs.Unique.{one-forest}
-use Rattle.pattern.specs.Rows.{treeT, treeF, theKind, theName, kindTree, nameTree, GoodPattern}
+use Rattle.pattern.specs.Rows.{treeT, treeF, theKind, theName, GoodPattern}
+use Rattle.pattern.specs.Lists.{kindTree, nameTree}
 
 -- both trees of a pattern have the same rows
 mutual

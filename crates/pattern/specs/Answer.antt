@@ -7,7 +7,7 @@ use mathlib.Core.List.{List, [], _∷_, _++_}
 use lib.ListN.{length, replicate}
 use Rattle.meaning.specs.Calls.{Says}
 use Rattle.meaning.specs.Pattern.{Pattern, Kind}
-use Rattle.pattern.specs.Rows.{code, GoodPattern, Good}
+use Rattle.pattern.specs.Rows.{code, GoodPattern, GoodPatternRows}
 use Rattle.pattern.specs.declared.Checked.{Checked}
 
 unfoldable pub codes : List Kind → List ℕ
@@ -18,13 +18,7 @@ codes (k ∷ Q) = code k ∷ codes Q
 unfoldable pub listed : List Kind → List ℕ
 listed Q = codes Q ++ replicate (16 - length Q) 0
 
--- a refusal has no variables
-pub record Refused (r : Checked) : Type 0 where
-  pub bad : r .good ≡ false
-  pub none : r .variables ≡ 0
-  pub empty : r .kinds ≡ listed []
-
-pub record Settled (kind name size : List ℕ) (r : Checked) : Type 0 where
-  pub judged : Says (r .good) (Good kind name size)
+pub record PatternSettled (kind name size : List ℕ) (r : Checked) : Type 0 where
+  pub judged : Says (r .good) (GoodPatternRows kind name size)
   pub found : (P : Pattern) (Q : List Kind) → GoodPattern kind name size P Q → (r .variables ≡ length Q) × (r .kinds ≡ listed Q)
-  pub refused : r .good ≡ false → Refused r
+  pub refused : r .good ≡ false → (r .variables ≡ 0) × (r .kinds ≡ listed [])

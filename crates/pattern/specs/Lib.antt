@@ -1,4 +1,5 @@
 pub mod Rows
+pub mod Lists
 pub mod Answer
 pub mod Scan
 pub mod Places

@@ -1,12 +1,12 @@
 -- 01, "Patterns and constraints": "A pattern is three lists: kind (0 symbol, 1 individual, 2 sequence, 3 function variable, 4
 -- context variable), name, size." They are the rows of a tree whose every row has a kind and a name.
-use Prim.Native.Nat.{ℕ, _<_, _≤_}
+use Prim.Native.Nat.{ℕ, _≤_}
 use mathlib.Core.List.{List}
 use mathlib.Core.Path.{_≡_}
 use lib.ListN.{length}
 use Rattle.meaning.specs.Forest.{Forest, none, some, Term, term, _◂_}
 use Rattle.meaning.specs.Pattern.{Pattern, symbol, individual, function, context, Patterns, nil, cons, sequence, Kind, anIndividual, aSequence, aFunction, aContext, Numbered}
-use Rattle.tree.specs.Rows.{labels, sizes, depth}
+use Rattle.tree.specs.Rows.{labels, sizes, depth, Below}
 
 -- the number of each kind of variable; that of a symbol is 0
 abbrev pub code : Kind → ℕ
@@ -34,49 +34,19 @@ theKind k x = k
 abbrev pub theName : ℕ → ℕ → ℕ
 theName k x = x
 
--- the pattern with its kinds, and with its names, as sequences of one term
-abbrev pub kindTree : Pattern → Forest
-kindTree P = treeT theKind P ◂ none
-
-abbrev pub nameTree : Pattern → Forest
-nameTree P = treeT theName P ◂ none
-
--- the three lists
-abbrev pub kindRows : Pattern → List ℕ
-kindRows P = labels (kindTree P)
-
-abbrev pub nameRows : Pattern → List ℕ
-nameRows P = labels (nameTree P)
-
-abbrev pub sizeRows : Pattern → List ℕ
-sizeRows P = sizes (nameTree P)
-
--- "symbols below 65,536"
-unfoldable mutual
-  pub SmallT : Pattern → Type 0
-  SmallT (symbol f ps) = (f < 65536) × SmallF ps
-  SmallT (individual x) = Unit {0}
-  SmallT (function x ps) = SmallF ps
-  SmallT (context x q) = SmallT q
-
-  pub SmallF : Patterns → Type 0
-  SmallF nil = Unit {0}
-  SmallF (cons q ps) = SmallT q × SmallF ps
-  SmallF (sequence x ps) = SmallF ps
-
 -- 01, "Numbers and order of checks": "Pattern: the same with 1 to 256 rows, at most 16 variables, symbols below 65,536." The rules
 -- of "Patterns and constraints" on sizes, contexts and the root say: the rows of a pattern term; those on numbers: Numbered.
--- The lists are the rows of P, within the limits, and Q has the kinds of P's variables, by number
+-- The lists are the rows of P, within the limits, and Q has the kinds of P's variables, by number. A variable's name is its number.
 pub record GoodPattern (kind name size : List ℕ) (P : Pattern) (Q : List Kind) : Type 0 where
-  pub kinds : kind ≡ kindRows P
-  pub names : name ≡ nameRows P
-  pub sized : size ≡ sizeRows P
+  pub kinds : kind ≡ labels (treeT theKind P ◂ none)
+  pub names : name ≡ labels (treeT theName P ◂ none)
+  pub sized : size ≡ sizes (treeT theName P ◂ none)
   pub few : length kind ≤ 256
-  pub shallow : depth (nameTree P) ≤ 64
-  pub small : SmallT P
+  pub shallow : depth (treeT theName P ◂ none) ≤ 64
+  pub small : Below 65536 name
   pub numbered : Numbered P Q
   pub bounded : length Q ≤ 16
 
 -- the pattern is good: it is the rows of some pattern term within the limits
-abbrev pub Good : List ℕ → List ℕ → List ℕ → Type 0
-Good kind name size = (P : Pattern) × (Q : List Kind) × GoodPattern kind name size P Q
+abbrev pub GoodPatternRows : List ℕ → List ℕ → List ℕ → Type 0
+GoodPatternRows kind name size = (P : Pattern) × (Q : List Kind) × GoodPattern kind name size P Q

@@ -1,12 +1,12 @@
 -- Not needed to believe the promise: the rules of a pattern, row by row, for the contracts of functions that only this crate calls.
 use Prim.Native.Nat.{ℕ, suc, _+_, _<_, _≤_}
 use mathlib.Core.Path.{_≡_}
-use mathlib.Core.Bool.{true}
+use mathlib.Core.Bool.{true, false}
 use mathlib.Core.List.{List, [], _∷_}
 use lib.ListN.{length, getD, drop}
 use Rattle.meaning.specs.Pattern.{Kind, anIndividual, aSequence, aFunction, aContext, Comes, after}
 use Rattle.pattern.specs.Rows.{code}
-use Rattle.pattern.specs.Answer.{listed, Refused}
+use Rattle.pattern.specs.Answer.{listed}
 use Rattle.pattern.specs.declared.Checked.{Checked}
 use Rattle.pattern.specs.declared.Naming.{Naming}
 use Rattle.pattern.specs.declared.Naming.the-variants.{Bad, Known, New}
@@ -52,6 +52,12 @@ pub data Named (A : List ℕ) (k x n : ℕ) : Naming → Type 0 where
   next : (k ≡ 0 → ⊥) → x ≡ n → n < 16 → Named A k x n New
   too-many : (k ≡ 0 → ⊥) → x ≡ n → 16 ≤ n → Named A k x n Bad
   left-out : (k ≡ 0 → ⊥) → n < x → Named A k x n Bad
+
+-- a refusal has no variables
+pub record Refused (r : Checked) : Type 0 where
+  pub bad : r .good ≡ false
+  pub none : r .variables ≡ 0
+  pub empty : r .kinds ≡ listed []
 
 -- what the scan answers: the kinds of all variables if the rows keep the rules, else a refusal
 pub data Scanned (K N S : List ℕ) (r : Checked) : Type 0 where

@@ -3,8 +3,8 @@ ghost use mathlib.Core.Path.{_≡_};
 ghost use Prim.Native.Nat.{_<_, _≤_};
 ghost use lib.ListN.{length};
 ghost use Rattle.meaning.specs.Calls.{Says};
-ghost use Rattle.pattern.specs.Answer.{Refused, Settled};
-ghost use Rattle.pattern.specs.Scan.{OneArgumentAt, SizedAt, Named, Scanned};
+ghost use Rattle.pattern.specs.Answer.{PatternSettled};
+ghost use Rattle.pattern.specs.Scan.{Refused, OneArgumentAt, SizedAt, Named, Scanned};
 use meaning::kinds::CONTEXT;
 use meaning::kinds::FUNCTION;
 use meaning::kinds::INDIVIDUAL;
@@ -127,7 +127,7 @@ fn scan(kind: &[u32], name: &[u32], size: &[u32]) -> Checked
 
 // Whether the lists are a good pattern; how many variables it has, and their kinds.
 pub fn check(kind: &[u32], name: &[u32], size: &[u32]) -> Checked
-    ensures { λ r. ⌜ Settled (now (kind .entry)) (now (name .entry)) (now (size .entry)) r ⌝ }
+    ensures { λ r. ⌜ PatternSettled (now (kind .entry)) (now (name .entry)) (now (size .entry)) r ⌝ }
 {
     let rows = kind.len();
     if name.len() != rows {

@@ -8,13 +8,14 @@ use native.Mathlib.Omega.{arith}
 use Rattle.meaning.specs.Calls.{Says, accept}
 use Rattle.meaning.specs.Pattern.{Kind}
 use Rattle.meaning.proofs.Answers.{said-no}
-use Rattle.tree.specs.Rows.{Good as GoodRows}
-use Rattle.pattern.specs.Answer.{listed, Settled}
+use Rattle.tree.specs.Rows.{GoodRows}
+use Rattle.pattern.specs.Answer.{listed, PatternSettled}
 use Rattle.pattern.specs.declared.Checked.{Checked}
 use Rattle.expression.specs.Expression.{Expression}
-use Rattle.expression.specs.Rows.{sizeRows, GoodTable}
+use Rattle.expression.specs.Rows.{GoodTable}
+use Rattle.expression.specs.Columns.{sizeRows}
 use Rattle.constraint.specs.Obeys.{Constraint}
-use Rattle.constraint.specs.Good.{GoodConstraints, Good as GoodConstraintList}
+use Rattle.constraint.specs.Good.{GoodConstraints, GoodConstraintList}
 use Rattle.pattern.specs.Known.{KindsAre}
 use Rattle.constraint.proofs.Meant.{list-judged}
 use Rattle.problem.specs.Problem.{Lists, Codes}
@@ -34,7 +35,7 @@ abbrev Tree : Lists → Bool → Type 0
 Tree l b = Says b (GoodRows (l .label) (l .size))
 
 abbrev Checks : Lists → Checked → Type 0
-Checks l checked = Settled (l .kind) (l .name) (l .patternSize) checked
+Checks l checked = PatternSettled (l .kind) (l .name) (l .patternSize) checked
 
 abbrev Table : Lists → Bool → Type 0
 Table l b = Says b ((es : List Expression) × GoodTable (l .expressionKind) (l .expressionName) (l .expressionSize) es)

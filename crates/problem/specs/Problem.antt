@@ -5,12 +5,12 @@ use mathlib.Core.List.{List}
 use Rattle.meaning.specs.Forest.{Term}
 use Rattle.meaning.specs.Pattern.{Pattern, Kind}
 use Rattle.meaning.specs.Calls.{refuse}
-use Rattle.tree.specs.Rows.{GoodTree, Good as GoodRows}
-use Rattle.pattern.specs.Rows.{Good as GoodPatternRows}
+use Rattle.tree.specs.Rows.{GoodTree, GoodRows}
+use Rattle.pattern.specs.Rows.{GoodPatternRows}
 use Rattle.expression.specs.Expression.{Expression}
 use Rattle.expression.specs.Rows.{GoodTable}
 use Rattle.constraint.specs.Obeys.{Constraint}
-use Rattle.constraint.specs.Good.{Means, Good as GoodConstraintList}
+use Rattle.constraint.specs.Good.{ListsMean, GoodConstraintList}
 
 -- the nine lists of a problem
 pub record Lists : Type 0 where
@@ -27,7 +27,7 @@ pub record Lists : Type 0 where
 -- the lists mean this tree, this pattern with variables of these kinds, these expressions and these constraints
 pub record Poses (l : Lists) (T : Term) (P : Pattern) (Q : List Kind) (es : List Expression) (cs : List Constraint) : Type 0 where
   pub tree : GoodTree (l .label) (l .size) T
-  pub rest : Means (l .kind) (l .name) (l .patternSize) (l .expressionKind) (l .expressionName) (l .expressionSize) (l .constraint) P Q es cs
+  pub rest : ListsMean (l .kind) (l .name) (l .patternSize) (l .expressionKind) (l .expressionName) (l .expressionSize) (l .constraint) P Q es cs
 
 -- the codes, from the lowest up; `others` are those of a function that checks more
 abbrev pub Codes : Lists → (ℕ → Type 0) → ℕ → Type 0

@@ -9,7 +9,7 @@ use Rattle.meaning.specs.Forest.{Term}
 use Rattle.meaning.specs.Pattern.{Pattern, Kind}
 use Rattle.meaning.specs.Record.{IsRecord}
 use Rattle.meaning.proofs.OneCode.{one-refuse, one-accept}
-use Rattle.meaning.proofs.Round.{round-good}
+use Rattle.meaning.proofs.Means.{matcher-means}
 use Rattle.grammar.specs.Grammar.{Bytes, Content, Document}
 use Rattle.grammar.proofs.Unique.{one-reading}
 use Rattle.dictionary.specs.Names.{GoodDictionary}
@@ -23,11 +23,11 @@ use Rattle.constraint.specs.Obeys.{Constraint, Allowed}
 use Rattle.constraint.proofs.Allowed.{allowed?}
 use Rattle.problem.specs.Problem.{Lists, Poses}
 use Rattle.problem.proofs.Posed.{codes-high, one-codes}
-use Rattle.test.specs.Tested.{codeOf, yesOf, Fifteen, Settled}
+use Rattle.test.specs.Tested.{codeOf, yesOf, Fifteen, TestSettled}
 use Rattle.test.specs.declared.Tested.{Tested}
 use Rattle.test.specs.declared.Tested.the-variants.{Refused, Yes, No}
 use Rattle.instance.proofs.Promises.{instance-made, matcher-made}
-use Rattle.promises.specs.Answers.{LooksUp, Tests, Answers}
+use Rattle.promises.specs.Answers.{LooksUp, Answers}
 
 module _ {d w l s b n l' s' b' n' : List ℕ} where
   tree : {code place rows : ℕ} {names : List (List ℕ)} {f : Content} {t : Bytes} → Read d w l s b n l' s' b' n' code place rows → code ≡ 0
@@ -54,24 +54,20 @@ accepted (Refused c) h = absurd (true≢false (sym h))
 accepted Yes h = refl
 accepted No h = refl
 
-module _ {l : Lists} {list : List ℕ} {r : Tested} {T : Term} {P : Pattern} {Q : List Kind} {es : List Expression} {cs : List Constraint} (s : Settled l list r) (p : Poses l T P Q es cs) where
+module _ {l : Lists} {list : List ℕ} {r : Tested} {T : Term} {P : Pattern} {Q : List Kind} {es : List Expression} {cs : List Constraint} (s : TestSettled l list r) (p : Poses l T P Q es cs) where
   -- the record of a matcher is not refused
   of-matcher : IsRecord (Allowed cs) Q P T list → codeOf r ≡ 0
   of-matcher m =
       let g = p .rest .pattern in
-      let x = rw (m .its) at (round-good (Allowed cs) (allowed? cs) (g .numbered) (m .solves)) in
+      let x = rw (m .its) at (matcher-means (Allowed cs) (allowed? cs) (g .numbered) (m .solves)) in
       one-codes l (Fifteen l list) (λ i j. one-refuse 15 _ _ i j one-accept) (codeOf r) 0 (s .code)
-      (codes-high l (Fifteen l list) 0 (record { T = T; P = P; Q = Q; es = es; cs = cs; poses = p }) (inr ((T, P, Q, p .tree, g, x), refl)))
-
-tests : Tests
-tests l list r T P Q es cs s p =
-    (λ h. s .yes-or-no (accepted r h) T P Q es cs p .0 h, λ m. s .yes-or-no (of-matcher s p m) T P Q es cs p .1 m)
+      (codes-high l (Fifteen l list) 0 (record { T = T; P = P; Q = Q; es = es; cs = cs; poses = p }) (inr ((T, P, Q, m .matcher, p .tree, g, x), refl)))
 
 pub answers : Answers
 answers = record {
   reader = record { tree = tree; one = λ a c. one-reading a c .0; taken = tree-is-good; spelt = spellings-inside; looked-up = lookup-is-read };
   lookup = looks-up;
-  test = tests;
+  test = λ l list r T P Q es cs s p. (λ h. s .yes-or-no (accepted r h) T P Q es cs p .0 h, λ m. s .yes-or-no (of-matcher s p m) T P Q es cs p .1 m);
   instance = λ l L S L' S' r U s i h a b. instance-made l L S r L' S' U i h a b s;
   of-matcher = λ l L S L' S' r T P Q cs s t p m a b. matcher-made (Allowed cs) (allowed? cs) l T P Q L S r L' S' t p m s a b;
 }

@@ -5,9 +5,11 @@ use mathlib.Core.List.{List, [], _∷_}
 use lib.ListN.{length, getD}
 use native.Mathlib.Omega.{arith}
 use Rattle.meaning.specs.Forest.{none, some, Term, term, _◂_, rows}
+use Rattle.meaning.proofs.Lists.{Each, each-at}
 use Rattle.meaning.specs.Pattern.{Pattern, symbol, individual, function, context, nil, cons, sequence, Kind, anIndividual, aSequence, aFunction, aContext, old, look, Comes, GoodT, GoodF, afterT, afterF}
 use Rattle.tree.specs.Rows.{labels, sizes, depth, Below, GoodTree}
-use Rattle.pattern.specs.Rows.{kindRows, nameRows, sizeRows, nameTree, SmallT, SmallF, treeT, treeF, GoodPattern}
+use Rattle.pattern.specs.Rows.{treeT, treeF, GoodPattern}
+use Rattle.pattern.specs.Lists.{kindRows, nameRows, sizeRows, nameTree}
 use Rattle.expression.specs.Expression.{Expression, choice, repetition}
 use Rattle.expression.specs.Expression as E
 use Rattle.expression.specs.Rows.{GoodTable}
@@ -32,14 +34,14 @@ good-tree p q h d b = record { labelled = p; sized = q; few = omega arith; shall
 
 -- .. and their patterns at most three, with at most two variables
 good-pattern : {K N Z : List ℕ} {P : Pattern} {Q : List Kind} → K ≡ kindRows P → N ≡ nameRows P → Z ≡ sizeRows P → length K ≤ 3 → depth (nameTree P) ≤ 3
-    → SmallT P → GoodT Q P 0 → afterT P 0 ≡ length Q → length Q ≤ 2 → GoodPattern K N Z P Q
-good-pattern p q r h d s g e b = record { kinds = p; names = q; sized = r; few = omega arith; shallow = omega arith; small = s; numbered = record { numbered = g; all = e }; bounded = omega arith }
+    → Each 65536 N → GoodT Q P 0 → afterT P 0 ≡ length Q → length Q ≤ 2 → GoodPattern K N Z P Q
+good-pattern {N = N} p q r h d s g e b = record { kinds = p; names = q; sized = r; few = omega arith; shallow = omega arith; small = record { each = each-at 65536 N s }; numbered = record { numbered = g; all = e }; bounded = omega arith }
 
 comes : {Q : List Kind} {x : ℕ} {k : Kind} {n : ℕ} → x ≤ n → look Q x ≡ old k → Comes Q x k n
 comes h e = record { near = h; kept = e }
 
 no-table : GoodTable [] [] [] []
-no-table = record { kinds = refl; names = refl; sizes = refl; most = omega arith; fit = tt }
+no-table = record { kinds = refl; names = refl; sizes = refl; most = omega arith; small = λ i h. absurd (omega arith) }
 
 -- without expressions no variable is constrained
 poses : {L S K N Z C : List ℕ} {T : Term} {P : Pattern} {Q : List Kind} {cs : List Constraint} → GoodTree L S T → GoodPattern K N Z P Q → GoodConstraints [] Q C cs
@@ -54,12 +56,12 @@ abbrev pub query : Pattern
 query = context 0 (symbol 1 (sequence 1 nil))
 
 pub query-on-tree : Poses queryOnTree tree query (aContext ∷ aSequence ∷ []) [] (free ∷ free ∷ [])
-unfolding labels sizes rows depth treeT treeF SmallT SmallF GoodT GoodF afterT afterF
+unfolding labels sizes rows depth treeT treeF GoodT GoodF afterT afterF
 query-on-tree =
     poses
     (good-tree refl refl (omega arith) (omega arith)
     (one-label (omega arith) (one-label (omega arith) (one-label (omega arith) (one-label (omega arith) (one-label (omega arith) no-label))))))
-    (good-pattern refl refl refl (omega arith) (omega arith) (omega arith, tt) (comes (omega arith) refl, (comes (omega arith) refl, tt)) refl (omega arith))
+    (good-pattern refl refl refl (omega arith) (omega arith) (omega arith, (omega arith, (omega arith, tt))) (comes (omega arith) refl, (comes (omega arith) refl, tt)) refl (omega arith))
     (none-given (none-given all-given))
 
 -- f(a, a)
@@ -75,8 +77,8 @@ abbrev pub both : Pattern
 both = symbol 1 (sequence 0 (sequence 1 nil))
 
 good-both : GoodPattern (0 ∷ 2 ∷ 2 ∷ []) (1 ∷ 0 ∷ 1 ∷ []) (3 ∷ 1 ∷ 1 ∷ []) both (aSequence ∷ aSequence ∷ [])
-unfolding labels sizes rows depth treeT treeF SmallT SmallF GoodT GoodF afterT afterF
-good-both = good-pattern refl refl refl (omega arith) (omega arith) (omega arith, tt) (comes (omega arith) refl, (comes (omega arith) refl, tt)) refl (omega arith)
+unfolding labels sizes rows depth treeT treeF GoodT GoodF afterT afterF
+good-both = good-pattern refl refl refl (omega arith) (omega arith) (omega arith, (omega arith, (omega arith, tt))) (comes (omega arith) refl, (comes (omega arith) refl, tt)) refl (omega arith)
 
 pub two-sequences : Poses twoSequences twoLeaves both (aSequence ∷ aSequence ∷ []) [] (free ∷ free ∷ [])
 two-sequences = poses two-leaves good-both (none-given (none-given all-given))
@@ -91,7 +93,7 @@ in-choice =
       rest =
           record {
             pattern = good-both;
-            table = record { kinds = refl; names = refl; sizes = refl; most = omega arith; fit = ((omega arith, omega arith), tt) };
+            table = record { kinds = refl; names = refl; sizes = refl; most = omega arith; small = each-at 65536 (0 ∷ 3 ∷ 3 ∷ []) (omega arith, (omega arith, (omega arith, tt))) };
             constraints = one-given {flag = 0} tt (record { before = []; behind = []; among = refl; place = refl }) (omega arith) (none-given all-given);
           };
     }
@@ -100,10 +102,10 @@ abbrev pub twice : Pattern
 twice = symbol 1 (sequence 0 (sequence 0 nil))
 
 pub same-sequence : Poses sameSequence twoLeaves twice (aSequence ∷ []) [] (free ∷ [])
-unfolding labels sizes rows depth treeT treeF SmallT SmallF GoodT GoodF afterT afterF
+unfolding labels sizes rows depth treeT treeF GoodT GoodF afterT afterF
 same-sequence =
     poses two-leaves
-    (good-pattern refl refl refl (omega arith) (omega arith) (omega arith, tt) (comes (omega arith) refl, (comes (omega arith) refl, tt)) refl (omega arith))
+    (good-pattern refl refl refl (omega arith) (omega arith) (omega arith, (omega arith, (omega arith, tt))) (comes (omega arith) refl, (comes (omega arith) refl, tt)) refl (omega arith))
     (none-given all-given)
 
 abbrev pub once : Pattern
@@ -113,14 +115,14 @@ abbrev pub nothing : Expression
 nothing = repetition E.empty
 
 pub in-repetition : Poses inRepetition twoLeaves once (aSequence ∷ []) (nothing ∷ []) (bound nothing 1 ∷ [])
-unfolding labels sizes rows depth treeT treeF SmallT SmallF GoodT GoodF afterT afterF
+unfolding labels sizes rows depth treeT treeF GoodT GoodF afterT afterF
 in-repetition =
     record {
       tree = two-leaves;
       rest =
           record {
-            pattern = good-pattern refl refl refl (omega arith) (omega arith) (omega arith, tt) (comes (omega arith) refl, tt) refl (omega arith);
-            table = record { kinds = refl; names = refl; sizes = refl; most = omega arith; fit = (tt, tt) };
+            pattern = good-pattern refl refl refl (omega arith) (omega arith) (omega arith, (omega arith, tt)) (comes (omega arith) refl, tt) refl (omega arith);
+            table = record { kinds = refl; names = refl; sizes = refl; most = omega arith; small = each-at 65536 (0 ∷ 0 ∷ []) (omega arith, (omega arith, tt)) };
             constraints = one-given {flag = 1} tt (record { before = []; behind = []; among = refl; place = refl }) (omega arith) all-given;
           };
     }
@@ -133,10 +135,10 @@ abbrev pub twiceAround : Pattern
 twiceAround = context 0 (context 0 (symbol 3 nil))
 
 pub same-context : Poses sameContext nested twiceAround (aContext ∷ []) [] (free ∷ [])
-unfolding labels sizes rows depth treeT treeF SmallT SmallF GoodT GoodF afterT afterF
+unfolding labels sizes rows depth treeT treeF GoodT GoodF afterT afterF
 same-context =
     poses (good-tree refl refl (omega arith) (omega arith) (one-label (omega arith) (one-label (omega arith) (one-label (omega arith) no-label))))
-    (good-pattern refl refl refl (omega arith) (omega arith) (omega arith, tt) (comes (omega arith) refl, (comes (omega arith) refl, tt)) refl (omega arith))
+    (good-pattern refl refl refl (omega arith) (omega arith) (omega arith, (omega arith, (omega arith, tt))) (comes (omega arith) refl, (comes (omega arith) refl, tt)) refl (omega arith))
     (none-given all-given)
 
 -- f, and f(a, s0)
@@ -147,10 +149,10 @@ abbrev pub behind : Pattern
 behind = symbol 1 (cons (symbol 3 nil) (sequence 0 nil))
 
 pub no-term-left : Poses noTermLeft leaf behind (aSequence ∷ []) [] (free ∷ [])
-unfolding labels sizes rows depth treeT treeF SmallT SmallF GoodT GoodF afterT afterF
+unfolding labels sizes rows depth treeT treeF GoodT GoodF afterT afterF
 no-term-left =
     poses (good-tree refl refl (omega arith) (omega arith) (one-label (omega arith) no-label))
-    (good-pattern refl refl refl (omega arith) (omega arith) (omega arith, ((omega arith, tt), tt)) (tt, (comes (omega arith) refl, tt)) refl (omega arith))
+    (good-pattern refl refl refl (omega arith) (omega arith) (omega arith, (omega arith, (omega arith, tt))) (tt, (comes (omega arith) refl, tt)) refl (omega arith))
     (none-given all-given)
 
 -- f(a), and function 0 over individual 1
@@ -161,10 +163,10 @@ abbrev pub anyApplied : Pattern
 anyApplied = function 0 (cons (individual 1) nil)
 
 pub function-over-individual : Poses functionOverIndividual applied anyApplied (aFunction ∷ anIndividual ∷ []) [] (free ∷ free ∷ [])
-unfolding labels sizes rows depth treeT treeF SmallT SmallF GoodT GoodF afterT afterF
+unfolding labels sizes rows depth treeT treeF GoodT GoodF afterT afterF
 function-over-individual =
     poses (good-tree refl refl (omega arith) (omega arith) (one-label (omega arith) (one-label (omega arith) no-label)))
-    (good-pattern refl refl refl (omega arith) (omega arith) (tt, tt) (comes (omega arith) refl, (comes (omega arith) refl, tt)) refl (omega arith))
+    (good-pattern refl refl refl (omega arith) (omega arith) (omega arith, (omega arith, tt)) (comes (omega arith) refl, (comes (omega arith) refl, tt)) refl (omega arith))
     (none-given (none-given all-given))
 
 -- a
@@ -172,7 +174,7 @@ abbrev pub letterA : Term
 letterA = term 3 none
 
 pub is-ground : Poses ground letterA (symbol 3 nil) [] [] []
-unfolding labels sizes rows depth treeT treeF SmallT SmallF GoodT GoodF afterT afterF
+unfolding labels sizes rows depth treeT treeF GoodT GoodF afterT afterF
 is-ground =
     poses (good-tree refl refl (omega arith) (omega arith) (one-label (omega arith) no-label))
     (good-pattern refl refl refl (omega arith) (omega arith) (omega arith, tt) tt refl (omega arith)) all-given

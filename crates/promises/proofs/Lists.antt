@@ -6,12 +6,13 @@ use lib.ListN.{length}
 use native.Mathlib.Omega.{arith}
 use Rattle.meaning.specs.Forest.{Term}
 use Rattle.meaning.specs.Pattern.{Pattern, Kind, Numbered}
-use Rattle.meaning.specs.Record.{values, recordOf}
+use Rattle.meaning.specs.Record.{recordOf}
+use Rattle.meaning.specs.Read.{values}
 use Rattle.meaning.specs.Calls.{accept}
 use Rattle.meaning.proofs.OneCode.{one-accept}
 use Rattle.meaning.proofs.Walk.{need, walk}
 use Rattle.meaning.proofs.Asked.{reached-asked}
-use Rattle.meaning.proofs.Round.{round}
+use Rattle.meaning.proofs.Means.{means-read, matcher-means, one-meaning}
 use Rattle.meaning.proofs.Tame.{count}
 use Rattle.constraint.specs.Obeys.{Constraint, Allowed}
 use Rattle.constraint.proofs.Allowed.{allowed?}
@@ -29,7 +30,7 @@ use Rattle.catalogue.proofs.Stays.{fitting-more}
 use Rattle.catalogue.proofs.Different.{different}
 use Rattle.lister.specs.declared.Listed.{Listed}
 use Rattle.lister.proofs.Whole.{in-room}
-use Rattle.promises.specs.Lists.{ListIs, ListsAll, OnePlace, EmptyIsNone, MoreLengthens, Listings}
+use Rattle.promises.specs.Lists.{ListIs, Listings}
 
 module _ {Q : List Kind} {P : Pattern} (g : Numbered P Q) (T : Term) (cs : List Constraint) where
   -- the answer by going through the events, with the room of a lent list
@@ -50,54 +51,47 @@ accepted : {l : Lists} {T : Term} {P : Pattern} {Q : List Kind} {es : List Expre
 accepted {l} {T} {P} {Q} {es} {cs} {c} w o =
     one-codes l accept one-accept c 0 o (codes-high l accept 0 (record { T = T; P = P; Q = Q; es = es; cs = cs; poses = w }) refl)
 
-lists-all : ListsAll
-lists-all l budget before after r T P Q es cs s w =
-    let g = w .rest .pattern .numbered in
-    let e = accepted w (s .code) in
-    let h = s .listed e T P Q es cs w in
-    let m = h .meant in
-    record {
-      accepted = e;
-      listing = h;
-      leading = leading m;
-      within = rw (h .tried) (bounded g T cs (length before) m);
-      every = λ z σ o. rw (whole m (sym (h .ends) ∙ z)) (m .solutions-are .all (recordOf P σ) .1 (record { matcher = σ; solves = o; its = refl }));
-      only = λ x i.
-          let b = leading m in
-          m .solutions-are .all x .0 (rw (b .is) (mem-left x (h .result .records) (b .rest) i));
-      means = λ σ o. round (Allowed cs) (allowed? cs) g o;
-      once = different (Allowed cs) (allowed? cs) g m;
-    }
-
 no-records : (l : List (List ℕ)) → length l ≡ 0 → l ≡ []
 no-records [] e = refl
 no-records (a ∷ l) e = absurd (omega arith)
-
-empty-is-none : EmptyIsNone
-empty-is-none l budget before after r T P Q es cs s z w =
-    let h = s .listed (accepted w (s .code)) T P Q es cs w in
-    (λ n. empty-none (h .meant) (sym (h .ends) ∙ z) (no-records (h .result .records) (sym (h .counts) ∙ n)), λ n. h .counts ∙ ap length (none-empty (h .meant) n))
 
 module _ {Q : List Kind} {P : Pattern} {T : Term} {cs : List Constraint} {budget : ℕ} {before after : List ℕ} {r : Listed} (x : ListIs Q P T cs budget before r after) where
   is-ran-list : (g : Numbered P Q) → x .listing .result .records ≡ ran g T cs budget (length before) .records
   is-ran-list g = ap (λ (z : Result). z .records) (is-ran g T cs (length before) (x .listing .meant))
 
-more-lengthens : MoreLengthens
-more-lengthens l b c before after before' after' r s T P Q es cs h k w x y =
-    let g = w .rest .pattern .numbered in
-    let e = is-ran-list x g in
-    let f = is-ran-list y g in
-    let d = more (events (walked (Allowed cs) (allowed? cs) g T) (count Q) []) b c (fitting (length before) (length Q + length Q)) (fitting (length before') (length Q + length Q)) h (fitting-more (length before) (length before') (length Q + length Q) k) in
-    rw (e, f) d
-
-one-place : OnePlace
-one-place l T P Q es cs σ τ a b c d w x y e =
-    let g = w .rest .pattern .numbered in
-    let m = reached-asked (Allowed cs) (allowed? cs) g x in
-    let n = reached-asked (Allowed cs) (allowed? cs) g y in
-    let same : need (m .0) (m .1 .0) a b ≡ need (n .0) (n .1 .0) c d = sym (m .1 .1) ∙ ap (λ (v : List ℕ). walk (Allowed cs) (allowed? cs) P T v) e ∙ n .1 .1 in
-    let z : m .0 ≡ n .0 = cc in
-    (sym (m .2) ∙ ap values z ∙ n .2, cc, cc)
-
 pub listings : Listings
-listings = record { lists-all = lists-all; one-place = one-place; empty-is-none = empty-is-none; more-lengthens = more-lengthens }
+listings = record {
+  lists-all = λ l budget before after r T P Q es cs s w.
+      let g = w .rest .pattern .numbered in
+      let e = accepted w (s .code) in
+      let h = s .listed e T P Q es cs w in
+      let m = h .meant in
+      record {
+        accepted = e;
+        listing = h;
+        leading = leading m;
+        within = rw (h .tried) (bounded g T cs (length before) m);
+        every = λ z σ o. rw (whole m (sym (h .ends) ∙ z)) (m .solutions-are .all (recordOf P σ) .1 (record { matcher = σ; solves = o; its = refl }));
+        only = λ x i.
+            let b = leading m in
+            m .solutions-are .all x .0 (rw (b .is) (mem-left x (h .result .records) (b .rest) i));
+        means = λ σ τ o. let m = matcher-means (Allowed cs) (allowed? cs) g o in (λ n. one-meaning n m, λ i. rw i m);
+        once = λ i j σ h k x y. different (Allowed cs) (allowed? cs) g m i j h k (means-read x .1 ∙ sym (means-read y .1));
+      };
+  one-place = λ l T P Q es cs σ τ a b c d w x y e.
+      let g = w .rest .pattern .numbered in
+      let m = reached-asked (Allowed cs) (allowed? cs) g x in
+      let n = reached-asked (Allowed cs) (allowed? cs) g y in
+      let same : need (m .0) (m .1 .0) a b ≡ need (n .0) (n .1 .0) c d = sym (m .1 .1) ∙ ap (λ (v : List ℕ). walk (Allowed cs) (allowed? cs) P T v) e ∙ n .1 .1 in
+      let z : m .0 ≡ n .0 = cc in
+      (sym (m .2) ∙ ap values z ∙ n .2, cc, cc);
+  empty-is-none = λ l budget before after r T P Q es cs s z w.
+      let h = s .listed (accepted w (s .code)) T P Q es cs w in
+      (λ n. empty-none (h .meant) (sym (h .ends) ∙ z) (no-records (h .result .records) (sym (h .counts) ∙ n)), λ n. h .counts ∙ ap length (none-empty (h .meant) n));
+  more-lengthens = λ l b c before after before' after' r s T P Q es cs h k w x y.
+      let g = w .rest .pattern .numbered in
+      let e = is-ran-list x g in
+      let f = is-ran-list y g in
+      let d = more (events (walked (Allowed cs) (allowed? cs) g T) (count Q) []) b c (fitting (length before) (length Q + length Q)) (fitting (length before') (length Q + length Q)) h (fitting-more (length before) (length before') (length Q + length Q) k) in
+      rw (e, f) d;
+}

@@ -10,7 +10,7 @@ use Rattle.grammar.proofs.Unique.{one-reading}
 use Rattle.judge.specs.Verdict.{Verdict, long, outside, deep, many}
 use Rattle.judge.specs.Verdict as Judged
 use Rattle.dictionary.specs.Names.{GoodDictionary}
-use Rattle.document.specs.Reading.{Read, Unchanged, shortest, badDictionary, badDocument, noRoom, filled, Checked, bad, judged}
+use Rattle.document.specs.Reading.{Read, Unchanged, shortest, badDictionary, badDocument, noRoom, filled, DocumentChecked, bad, judged}
 use Rattle.promises.specs.Refusals.{Holds, ReaderAnswer}
 
 -- a document holds one content
@@ -105,6 +105,6 @@ judged-as g (deep h y k) = refused 2048 g (deep h y k) (λ e. omega (arith, e))
 judged-as g (many h y k m) = refused 2048 g (many h y k m) (λ e. omega (arith, e))
 judged-as g (Judged.read h y k m) = whole 2048 g (Judged.read h y k m) refl m
 
-pub check : {d w : List ℕ} {r : ℕ} → Checked d w r → (code : ℕ) × (place : ℕ) × (number : ℕ) × ReaderAnswer d w 2048 code place number × (r ≡ code * 4294967296 + (place + number))
+pub check : {d w : List ℕ} {r : ℕ} → DocumentChecked d w r → (code : ℕ) × (place : ℕ) × (number : ℕ) × ReaderAnswer d w 2048 code place number × (r ≡ code * 4294967296 + (place + number))
 check (bad h) = (1, 0, 0, bad-dictionary 2048 h, refl)
 check (judged {code = code} {place = place} {rows = number} g v) = (code, place, number, judged-as g v, refl)

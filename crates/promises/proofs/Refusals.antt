@@ -7,7 +7,7 @@ use native.Mathlib.Decide.{ℕ-discrete}
 use Rattle.meaning.specs.Calls.{accept}
 use Rattle.meaning.proofs.OneCode.{one-accept}
 use Rattle.meaning.proofs.Answers.{one-answer as one-yes}
-use Rattle.pattern.specs.Answer.{Settled}
+use Rattle.pattern.specs.Answer.{PatternSettled}
 use Rattle.pattern.specs.declared.Checked.{Checked}
 use Rattle.judge.proofs.OneVerdict.{one-verdict}
 use Rattle.dictionary.proofs.Names.{checked-unique}
@@ -24,7 +24,7 @@ use Rattle.instance.proofs.Promises.{one-making}
 use Rattle.promises.specs.Refusals.{Refusals}
 use Rattle.promises.proofs.Reader.{read, unchanged, check}
 
-one-pattern-answer : {k n s : List ℕ} {r r' : Checked} → Settled k n s r → Settled k n s r' → r ≡ r'
+one-pattern-answer : {k n s : List ℕ} {r r' : Checked} → PatternSettled k n s r → PatternSettled k n s r' → r ≡ r'
 one-pattern-answer {k} {n} {s} {r} {r'} a b = go (r .good) refl
   where
     good : r .good ≡ r' .good
@@ -42,7 +42,7 @@ one-pattern-answer {k} {n} {s} {r} {r'} a b = go (r .good) refl
     go false e =
         let f = a .refused e in
         let h = b .refused (sym good ∙ e) in
-        whole (f .none ∙ sym (h .none)) (f .empty ∙ sym (h .empty))
+        whole (f .0 ∙ sym (h .0)) (f .1 ∙ sym (h .1))
 
 one-problem : {l : Lists} {r r' : Problem} → Answered l r → Answered l r' → r ≡ r'
 one-problem {l} {r} {r'} a b = go (ℕ-discrete (r .code) 0)
@@ -87,5 +87,5 @@ refusals = record {
         instance = λ x y. one-making _ _ _ _ _ _ _ _ _ x y;
         yes-or-no = λ {a} {b} h k. one-yes a b h k;
       };
-  nothing-written = record { list = λ s z. let f = s .refused z in (f .3, f .0, f .1, f .2); instance = λ s z. let f = s .refused z in (f .labelled, f .sized, f .answered) };
+  nothing-written = record { list = λ s z. let f = s .refused z in (f .3, f .0, f .1, f .2); instance = λ s z. let f = s .refused z in (f .1, f .2, f .0) };
 }

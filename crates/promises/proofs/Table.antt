@@ -30,7 +30,7 @@ use Rattle.catalogue.proofs.Stays.{run-stays, fitting-more}
 use Rattle.lister.specs.Listed.{Settled}
 use Rattle.lister.specs.declared.Listed.{Listed}
 use Rattle.lister.proofs.Unique.{one-listed}
-use Rattle.promises.specs.Table.{Row, Serves, answerOf, outOf, RowHolds, table, TableHolds}
+use Rattle.promises.specs.Table.{Row, Serves, RowHolds, table, TableHolds}
 use Rattle.promises.proofs.Refusals.{one-answer-listed}
 use Rattle.promises.proofs.Lists.{ran, ran-meant}
 use Rattle.promises.proofs.Examples.{query-on-tree, two-sequences, in-choice, same-sequence, in-repetition, same-context, no-term-left, function-over-individual, is-ground}
@@ -66,6 +66,12 @@ module _ {l : Lists} {T : Term} {P : Pattern} {Q : List Kind} {es : List Express
 fitting-same : (m n width : ℕ) → m / width ≡ n / width → fitting m width ≡ fitting n width
 fitting-same m n zero h = refl
 fitting-same m n (suc w) h = h
+
+abbrev answerOf : Row → Listed
+answerOf row = record { code = 0; ending = row .ending; records = length (row .records); tries = row .tries }
+
+abbrev outOf : Row → List ℕ → List ℕ
+outOf row before = joined (row .records) ++ drop (length (joined (row .records))) before
 
 -- what a row says of one budget and one lent list holds wherever the row serves
 pub answers : {T : Term} {P : Pattern} {Q : List Kind} {es : List Expression} {cs : List Constraint} (row : Row) (p : Poses (row .lists) T P Q es cs)

@@ -18,7 +18,7 @@ use Rattle.grammar.specs.Rows.{forest}
 use Rattle.dictionary.proofs.Names.{no-bytes}
 use Rattle.document.specs.Reading.{Read, shortest}
 use Rattle.constraint.specs.Obeys.{Allowed}
-use Rattle.test.specs.Tested.{yesOf, Settled}
+use Rattle.test.specs.Tested.{yesOf, TestSettled}
 use Rattle.test.specs.declared.Tested.{Tested}
 use Rattle.test.specs.declared.Tested.the-variants.{Refused, Yes, No}
 use Rattle.promises.specs.Demands.{Demands}
@@ -53,7 +53,7 @@ module _ (D : Demands) where
       go (inr (_, inr (_, inr (_, inr (_, inr (_, inr (_, z))))))) = z
 
   -- and the test says yes to a on a
-  pub yes-to-ground : (r : Tested) → Settled ground [] r → r ≡ Yes
+  pub yes-to-ground : (r : Tested) → TestSettled ground [] r → r ≡ Yes
   unfolding apply firstsT
   yes-to-ground r s = go r (D .answers .test ground [] r letterA (symbol 3 nil) [] [] [] s is-ground .1 is-record)
     where

@@ -6,12 +6,12 @@ use mathlib.Core.Path.{_≡_}
 use mathlib.Core.Logic.{_↔_}
 use mathlib.Core.List.{List, []}
 use lib.ListN.{length, getD}
-use Rattle.meaning.specs.Forest.{none, Term, _◂_}
+use Rattle.meaning.specs.Forest.{Term}
 use Rattle.meaning.specs.Pattern.{Pattern, Kind}
 use Rattle.meaning.specs.Matcher.{Value, kinds, Solves}
 use Rattle.meaning.specs.Record.{recordOf, IsRecord}
 use Rattle.meaning.specs.Order.{choices, Mem}
-use Rattle.meaning.specs.Read.{readOff}
+use Rattle.meaning.specs.Means.{RecordMeans}
 use Rattle.meaning.specs.Reached.{Begins, Reached}
 use Rattle.expression.specs.Expression.{Expression}
 use Rattle.constraint.specs.Obeys.{Constraint, Allowed}
@@ -31,38 +31,23 @@ pub record ListIs (Q : List Kind) (P : Pattern) (T : Term) (cs : List Constraint
   -- a list that ends complete
   pub every : r .ending ≡ 0 → (σ : List Value) → Solves (Allowed cs) Q σ P T → Mem (recordOf P σ) (listing .result .records)
   pub only : (x : List ℕ) → Mem x (listing .result .records) → IsRecord (Allowed cs) Q P T x
-  -- a record means its substitution, so that each that solves has one; and no two that are listed mean the same
-  pub means : (σ : List Value) → Solves (Allowed cs) Q σ P T → readOff Q (T ◂ none) (recordOf P σ) ≡ σ
-  pub once : (i j : ℕ) → i < j → j < length (listing .result .records) → readOff Q (T ◂ none) (getD (listing .result .records) i []) ≡ readOff Q (T ◂ none) (getD (listing .result .records) j []) → ⊥
-
--- of every answer that keeps the lister's promise, for every problem that is well formed
-abbrev pub ListsAll : Type 0
-ListsAll =
-    (l : Lists) (budget : ℕ) (before after : List ℕ) (r : Listed) (T : Term) (P : Pattern) (Q : List Kind) (es : List Expression) (cs : List Constraint)
-    → Settled l budget before r after → Poses l T P Q es cs → ListIs Q P T cs budget before r after
-
--- a complete list is empty if and only if nothing solves
-abbrev pub EmptyIsNone : Type 0
-EmptyIsNone =
-    (l : Lists) (budget : ℕ) (before after : List ℕ) (r : Listed) (T : Term) (P : Pattern) (Q : List Kind) (es : List Expression) (cs : List Constraint)
-    → Settled l budget before r after → r .ending ≡ 0 → Poses l T P Q es cs → (r .records ≡ 0) ↔ ((σ : List Value) → Solves (Allowed cs) Q σ P T → ⊥)
-
--- more room or budget only lengthens the list
-abbrev pub MoreLengthens : Type 0
-MoreLengthens =
-    (l : Lists) (b c : ℕ) (before after before' after' : List ℕ) (r s : Listed) (T : Term) (P : Pattern) (Q : List Kind) (es : List Expression) (cs : List Constraint)
-    → b ≤ c → length before ≤ length before' → Poses l T P Q es cs → (x : ListIs Q P T cs b before r after) (y : ListIs Q P T cs c before' s after') → Begins (x .listing .result .records) (y .listing .result .records)
-
--- the choices up to a try tell which it is: where two places are reached by the same choices, the values so far are the same, and so are
--- those to be tried. So each vector in the list of tries is one try.
-abbrev pub OnePlace : Type 0
-OnePlace =
-    (l : Lists) (T : Term) (P : Pattern) (Q : List Kind) (es : List Expression) (cs : List Constraint) (σ τ : List Value) (a b c d : ℕ)
-    → Poses l T P Q es cs → Reached (Allowed cs) Q σ P T a b → Reached (Allowed cs) Q τ P T c d
-    → choices (kinds σ) (recordOf P σ) ≡ choices (kinds τ) (recordOf P τ) → (σ ≡ τ) × (a ≡ c) × (b ≡ d)
+  -- a record means its substitution and no other, so that each that solves has one; and no two that are listed mean the same
+  pub means : (σ τ : List Value) → Solves (Allowed cs) Q σ P T → RecordMeans T Q (recordOf P σ) τ ↔ (τ ≡ σ)
+  pub once : (i j : ℕ) (σ : List Value) → i < j → j < length (listing .result .records) → RecordMeans T Q (getD (listing .result .records) i []) σ → RecordMeans T Q (getD (listing .result .records) j []) σ → ⊥
 
 pub record Listings : Type 0 where
-  pub lists-all : ListsAll
-  pub one-place : OnePlace
-  pub empty-is-none : EmptyIsNone
-  pub more-lengthens : MoreLengthens
+  -- of every answer that keeps the lister's promise, for every problem that is well formed
+  pub lists-all : (l : Lists) (budget : ℕ) (before after : List ℕ) (r : Listed) (T : Term) (P : Pattern) (Q : List Kind) (es : List Expression) (cs : List Constraint)
+      → Settled l budget before r after → Poses l T P Q es cs → ListIs Q P T cs budget before r after
+  -- the choices up to a try tell which it is: where two places are reached by the same choices, the values so far are the same, and so are
+  -- those to be tried. So each vector in the list of tries is one try.
+  pub one-place : (l : Lists) (T : Term) (P : Pattern) (Q : List Kind) (es : List Expression) (cs : List Constraint) (σ τ : List Value) (a b c d : ℕ)
+      → Poses l T P Q es cs → Reached (Allowed cs) Q σ P T a b → Reached (Allowed cs) Q τ P T c d
+      → choices (kinds σ) (recordOf P σ) ≡ choices (kinds τ) (recordOf P τ) → (σ ≡ τ) × (a ≡ c) × (b ≡ d)
+  -- a complete list is empty if and only if nothing solves
+  pub empty-is-none : (l : Lists) (budget : ℕ) (before after : List ℕ) (r : Listed) (T : Term) (P : Pattern) (Q : List Kind) (es : List Expression) (cs : List Constraint)
+      → Settled l budget before r after → r .ending ≡ 0 → Poses l T P Q es cs → (r .records ≡ 0) ↔ ((σ : List Value) → Solves (Allowed cs) Q σ P T → ⊥)
+  -- more room or budget only lengthens the list
+  pub more-lengthens : (l : Lists) (b c : ℕ) (before after before' after' : List ℕ) (r s : Listed) (T : Term) (P : Pattern) (Q : List Kind) (es : List Expression) (cs : List Constraint)
+      → b ≤ c → length before ≤ length before' → Poses l T P Q es cs → (x : ListIs Q P T cs b before r after) (y : ListIs Q P T cs c before' s after')
+      → Begins (x .listing .result .records) (y .listing .result .records)

@@ -2,8 +2,9 @@
 use Prim.Native.Nat.{ℕ, zero, suc, _≤_, _/_}
 use mathlib.Core.Path.{_≡_}
 use mathlib.Core.Logic.{_↔_}
-use mathlib.Core.List.{List, [], _∷_, _++_}
-use lib.ListN.{length, drop}
+use mathlib.Core.List.{List, [], _∷_}
+use lib.ListN.{length}
+use Rattle.meaning.specs.Calls.{Filled}
 use Rattle.problem.specs.Problem.{Lists}
 use Rattle.meaning.specs.Order.{Mem}
 use Rattle.catalogue.specs.Listing.{joined}
@@ -25,30 +26,16 @@ abbrev pub Serves : (ending : ℕ) (row : Row) (budget lent : ℕ) → Type 0
 Serves zero row budget lent = (row .budget ≤ budget) × (row .lent ≤ lent)
 Serves (suc ending) row budget lent = (budget ≡ row .budget) × (lent / length (row .lists .constraint) ≡ row .lent / length (row .lists .constraint))
 
-abbrev pub answerOf : Row → Listed
-answerOf row = record { code = 0; ending = row .ending; records = length (row .records); tries = row .tries }
-
-abbrev pub outOf : Row → List ℕ → List ℕ
-outOf row before = joined (row .records) ++ drop (length (joined (row .records))) before
-
 -- the lister's promise holds of this answer and this list, and of no other
 pub record RowHolds (row : Row) : Type 0 where
   pub exactly : (budget : ℕ) (before : List ℕ) → Serves (row .ending) row budget (length before)
-      → (r : Listed) (after : List ℕ) → Settled (row .lists) budget before r after ↔ ((r ≡ answerOf row) × (after ≡ outOf row before))
+      → (r : Listed) (after : List ℕ) → Settled (row .lists) budget before r after
+      ↔ ((r ≡ record { code = 0; ending = row .ending; records = length (row .records); tries = row .tries }) × Filled (joined (row .records)) before after)
 
 -- tree, pattern, expressions and constraints of an example
 abbrev pub lists : (label size kind name patternSize expressionKind expressionName expressionSize constraint : List ℕ) → Lists
-lists L S K N Z E F G C = record {
-  label = L;
-  size = S;
-  kind = K;
-  name = N;
-  patternSize = Z;
-  expressionKind = E;
-  expressionName = F;
-  expressionSize = G;
-  constraint = C;
-}
+lists L S K N Z E F G C =
+    record { label = L; size = S; kind = K; name = N; patternSize = Z; expressionKind = E; expressionName = F; expressionSize = G; constraint = C }
 
 abbrev pub row : (lists : Lists) (budget lent ending : ℕ) (records : List (List ℕ)) (tries : ℕ) → Row
 row l b n e r t = record { lists = l; budget = b; lent = n; ending = e; records = r; tries = t }

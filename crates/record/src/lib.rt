@@ -1,6 +1,6 @@
 ghost use Rattle.meaning.specs.Calls.{Says};
 ghost use Rattle.meaning.specs.Pattern.{anIndividual, aSequence, aFunction, aContext};
-ghost use Rattle.record.specs.Good.{Good};
+ghost use Rattle.record.specs.Good.{GoodRecordList};
 ghost use Rattle.record.specs.Pairs.{RowsPre, FitsPost, PairPost, RecordPre, RecordPost};
 use meaning::kinds::CONTEXT;
 use meaning::kinds::SEQUENCE;
@@ -87,7 +87,7 @@ pub fn good(
     pattern_size: &[u32],
     record: &[u32],
 ) -> bool
-    ensures { λ r. ⌜ Says r (Good (now (label .entry)) (now (size .entry)) (now (kind .entry)) (now (name .entry)) (now («pattern_size» .entry)) (now («record» .entry))) ⌝ }
+    ensures { λ r. ⌜ Says r (GoodRecordList (now (label .entry)) (now (size .entry)) (now (kind .entry)) (now (name .entry)) (now («pattern_size» .entry)) (now («record» .entry))) ⌝ }
 {
     if !tree::good(label, size) {
         return false;

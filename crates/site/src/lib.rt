@@ -1,5 +1,5 @@
 // What the site's server, written in C, calls: thin exports over the proved functions. `include/khargovsun.h` declares them in C.
-ghost use Rattle.document.specs.Reading.{Checked, Read};
+ghost use Rattle.document.specs.Reading.{DocumentChecked, Read};
 ghost use Rattle.dictionary.specs.Spelling.{PartAnswered};
 ghost use Rattle.instance.specs.Instance.{lists};
 ghost use Rattle.answer.specs.Answers.{Lists, Tests, Makes};
@@ -11,7 +11,7 @@ use answer::Testing;
 
 #[no_mangle]
 pub extern "C" fn khargovsun_check(dictionary: &[u8], document: &[u8]) -> u64
-    ensures { λ r. ⌜ Checked (now (dictionary .entry)) (now (document .entry)) r ⌝ }
+    ensures { λ r. ⌜ DocumentChecked (now (dictionary .entry)) (now (document .entry)) r ⌝ }
 {
     document::check(dictionary, document)
 }

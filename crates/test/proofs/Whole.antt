@@ -12,6 +12,7 @@ use Rattle.meaning.specs.Pattern.{Pattern, Kind, old, look, Numbered}
 use Rattle.meaning.specs.Matcher.{Value}
 use Rattle.meaning.specs.Read.{valueAt, readOff, GoodRecord}
 use Rattle.meaning.specs.Record.{IsRecord}
+use Rattle.meaning.proofs.Means.{means-read, read-means}
 use Rattle.meaning.proofs.Lists.{look-old, look-some}
 use Rattle.meaning.proofs.Steps.{kinds-length}
 use Rattle.meaning.proofs.Next.{Any, any?}
@@ -30,7 +31,7 @@ use Rattle.problem.specs.Problem.{Lists, Poses, Codes}
 use Rattle.problem.specs.Answer.{Answered}
 use Rattle.problem.specs.declared.Problem.{Problem}
 use Rattle.problem.proofs.Posed.{Posed, codes-low, codes-high, the, known}
-use Rattle.test.specs.Tested.{Fifteen, Settled}
+use Rattle.test.specs.Tested.{Fifteen, TestSettled}
 use Rattle.test.specs.Inside.{Walkable, WalkablePre, PlacedPost, Constrained, ConstrainedPre, AllObey, ObeyedPost}
 use Rattle.test.specs.declared.Tested.the-variants.{Refused, Yes, No}
 
@@ -61,7 +62,7 @@ module _ {P : Pattern} {Q : List Kind} {T : Term} {list : List ℕ} (n : Numbere
   obeying cs i = record { each = λ x k l e. i .solves .allowed x _ (its-value (allowed? cs) i x k e) }
 
 module _ (l : Lists) {r : Problem} (a : Answered l r) where
-  pub test-refused : (list : List ℕ) → (r .code ≡ 0 → ⊥) → Settled l list (Refused (r .code))
+  pub test-refused : (list : List ℕ) → (r .code ≡ 0 → ⊥) → TestSettled l list (Refused (r .code))
   test-refused list n =
       record {
         code = codes-low l (Fifteen l list) (r .code) n (a .code);
@@ -77,10 +78,10 @@ module _ (l : Lists) {r : Problem} (a : Answered l r) where
       fits-for : {T : Term} {P : Pattern} {Q : List Kind} → GoodTree (l .label) (l .size) T → GoodPattern (l .kind) (l .name) (l .patternSize) P Q → Says b (GoodRecord Q (T ◂ none) list)
       fits-for {Q = Q} t p = post .is (l .label) _ Q (tree-at t) (known a z p)
 
-      pub test-bad-record : b ≡ false → Settled l list (Refused 15)
+      pub test-bad-record : b ≡ false → TestSettled l list (Refused 15)
       test-bad-record e =
           record {
-            code = codes-high l (Fifteen l list) 15 (the a z) (inl (λ g. said-no (fits-for (g .3) (g .4)) e (g .5), refl));
+            code = codes-high l (Fifteen l list) 15 (the a z) (inl (λ g. said-no (fits-for (g .4) (g .5)) e (means-read (g .6) .0), refl));
             yes-or-no = λ h. absurd (omega arith);
             numbered = λ h. let y : _≡_ {A = ℕ} 15 0 = cc in omega arith;
           }
@@ -104,7 +105,7 @@ module _ {l : Lists} {r : Problem} {list : List ℕ} (fitted : Fitted l r list) 
   accepted : Codes l (Fifteen l list) 0
   accepted =
       let w = posed-for .poses in
-      codes-high l (Fifteen l list) 0 posed-for (inr ((posed-for .T, posed-for .P, posed-for .Q, w .tree, w .rest .pattern, walkable w .good), refl))
+      codes-high l (Fifteen l list) 0 posed-for (inr ((posed-for .T, posed-for .P, posed-for .Q, _, w .tree, w .rest .pattern, read-means (posed-for .T) (posed-for .Q) list (walkable w .good)), refl))
 
   pub placed-asked : WalkablePre (l .label) (l .size) (l .kind) (l .name) (l .patternSize) (r .variables) list
   placed-asked = record { some = (posed-for .T, posed-for .P, posed-for .Q, walkable (posed-for .poses), kinds-for (posed-for .poses .rest .pattern) .many) }
@@ -119,7 +120,7 @@ module _ {l : Lists} {r : Problem} {list : List ℕ} (fitted : Fitted l r list) 
   obeyed-asked = record { some = (posed-for .T, posed-for .Q, posed-for .es, posed-for .cs, constrained (posed-for .poses), kinds-for (posed-for .poses .rest .pattern) .many) }
 
   module _ {p : Bool} (placed : PlacedPost (l .label) (l .size) (l .kind) (l .name) (l .patternSize) list p) where
-    pub test-elsewhere : p ≡ false → Settled l list No
+    pub test-elsewhere : p ≡ false → TestSettled l list No
     test-elsewhere e =
         record {
           code = accepted;
@@ -130,7 +131,7 @@ module _ {l : Lists} {r : Problem} {list : List ℕ} (fitted : Fitted l r list) 
         }
 
     module _ (there : p ≡ true) {o : Bool} (obeyed : ObeyedPost (l .label) (l .size) (l .expressionKind) (l .expressionName) (l .expressionSize) (l .constraint) (r .kinds) list o) where
-      pub test-yes : o ≡ true → Settled l list Yes
+      pub test-yes : o ≡ true → TestSettled l list Yes
       test-yes e =
           record {
             code = accepted;
@@ -140,7 +141,7 @@ module _ {l : Lists} {r : Problem} {list : List ℕ} (fitted : Fitted l r list) 
             numbered = λ h. let y : _≡_ {A = ℕ} 0 1 = cc in omega arith;
           }
 
-      pub test-no : o ≡ false → Settled l list No
+      pub test-no : o ≡ false → TestSettled l list No
       test-no e =
           record {
             code = accepted;

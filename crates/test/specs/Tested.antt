@@ -8,7 +8,7 @@ use Rattle.meaning.specs.Calls.{Says, refuse, accept}
 use Rattle.meaning.specs.Forest.{Term}
 use Rattle.meaning.specs.Pattern.{Pattern, Kind}
 use Rattle.meaning.specs.Record.{IsRecord}
-use Rattle.record.specs.Good.{Good as GoodRecordList}
+use Rattle.record.specs.Good.{GoodRecordList}
 use Rattle.expression.specs.Expression.{Expression}
 use Rattle.constraint.specs.Obeys.{Constraint, Allowed}
 use Rattle.problem.specs.Problem.{Lists, Poses, Codes}
@@ -31,7 +31,7 @@ abbrev pub Fifteen : Lists → List ℕ → ℕ → Type 0
 Fifteen l list = refuse 15 (GoodRecordList (l .label) (l .size) (l .kind) (l .name) (l .patternSize) list) accept
 
 -- what the test promises of its answer, for any lists
-pub record Settled (l : Lists) (list : List ℕ) (r : Tested) : Type 0 where
+pub record TestSettled (l : Lists) (list : List ℕ) (r : Tested) : Type 0 where
   -- the lowest code that applies
   pub code : Codes l (Fifteen l list) (codeOf r)
   -- yes if and only if it is the record of a matcher

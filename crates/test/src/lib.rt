@@ -2,7 +2,7 @@ ghost use mathlib.Core.Path.{_≡_};
 ghost use Prim.Native.Nat.{_≤_};
 ghost use lib.ListN.{length};
 ghost use Rattle.meaning.specs.Calls.{Says};
-ghost use Rattle.test.specs.Tested.{Settled};
+ghost use Rattle.test.specs.Tested.{TestSettled};
 ghost use Rattle.test.specs.Followed.{FollowPre, FollowPost};
 ghost use Rattle.test.specs.Inside.{Copied, WalkablePre, PlacedPost, ConstrainedPre, ObeyedPost, AllPre, AllPost};
 use meaning::codes::RECORD;
@@ -151,7 +151,7 @@ pub fn test(
     constraint: &[u32],
     record: &[u32],
 ) -> Tested
-    ensures { λ r. ⌜ Settled (record {
+    ensures { λ r. ⌜ TestSettled (record {
       label = now (label .entry);
       size = now (size .entry);
       kind = now (kind .entry);

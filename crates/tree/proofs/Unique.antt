@@ -5,7 +5,7 @@ use mathlib.Core.List.{List}
 use lib.ListN.{length}
 use native.Mathlib.Omega.{arith}
 use Rattle.meaning.specs.Forest.{Forest, none, Term, term, _◂_, rows}
-use Rattle.tree.specs.Rows.{labels, sizes, Below, GoodTree, Good}
+use Rattle.tree.specs.Rows.{labels, sizes, Below, GoodTree, GoodRows}
 use Rattle.tree.specs.Shape.{Shape}
 use Rattle.tree.specs.Places.{TermsAt, step, TermAt}
 use Rattle.tree.proofs.Compare.{one-sequence}
@@ -41,11 +41,11 @@ pub unique : {L S : List ℕ} {T U : Term} → GoodTree L S T → GoodTree L S U
 unique {T = T} {U = U} x y = the-term T U (one-sequence (good-at x) (good-at y))
 
 -- what the check looks at is what good means
-pub shape-good : {L S : List ℕ} → length L ≡ length S → length L ≤ 2048 → Below 65536 L → Shape S → Good L S
+pub shape-good : {L S : List ℕ} → length L ≡ length S → length L ≤ 2048 → Below 65536 L → Shape S → GoodRows L S
 shape-good {L} {S} same few small (T, sized, shallow) =
     let z : length L ≡ rows (T ◂ none) = same ∙ ap length sized ∙ sizes-rows (T ◂ none) in
     let w = relabelled T L z in
     (w .0, record { labelled = sym (w .1); sized = sized ∙ sym (w .2); few = few; shallow = omega (arith, w .3); small = small })
 
-pub good-shape : {L S : List ℕ} → Good L S → Shape S
+pub good-shape : {L S : List ℕ} → GoodRows L S → Shape S
 good-shape (T, g) = (T, g .sized, g .shallow)

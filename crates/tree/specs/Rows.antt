@@ -32,5 +32,5 @@ pub record GoodTree (label size : List ℕ) (T : Term) : Type 0 where
   pub small : Below 65536 label
 
 -- the tree is good: it is the rows of some term within the limits
-abbrev pub Good : List ℕ → List ℕ → Type 0
-Good label size = (T : Term) × GoodTree label size T
+abbrev pub GoodRows : List ℕ → List ℕ → Type 0
+GoodRows label size = (T : Term) × GoodTree label size T

@@ -2,7 +2,7 @@ ghost use mathlib.Core.Path.{_≡_};
 ghost use Prim.Native.Nat.{_+_, _<_, _≤_};
 ghost use lib.ListN.{length, getD};
 ghost use Rattle.meaning.specs.Calls.{Says};
-ghost use Rattle.tree.specs.Rows.{Below, Good};
+ghost use Rattle.tree.specs.Rows.{Below, GoodRows};
 ghost use Rattle.tree.specs.Shape.{Shape};
 ghost use Rattle.tree.specs.Endings.{Told, EndingPost, NestedPre};
 ghost use Rattle.tree.specs.Places.{SameRows};
@@ -118,7 +118,7 @@ pub fn below(s: &[u32], limit: u32) -> bool
 
 // The tree check.
 pub fn good(label: &[u32], size: &[u32]) -> bool
-    ensures { λ r. ⌜ Says r (Good (now (label .entry)) (now (size .entry))) ⌝ }
+    ensures { λ r. ⌜ Says r (GoodRows (now (label .entry)) (now (size .entry))) ⌝ }
 {
     if label.len() != size.len() {
         return false;

@@ -7,7 +7,8 @@ use native.Mathlib.Omega.{arith}
 use Rattle.meaning.specs.Pattern.{Kind, Comes}
 use Rattle.meaning.specs.Matcher.{Value}
 use Rattle.meaning.proofs.Walk.{same?, Res, fail, when}
-use Rattle.meaning.specs.Record.{Entry, span}
+use Rattle.meaning.specs.Record.{Entry}
+use Rattle.meaning.specs.Read.{span}
 use Rattle.meaning.proofs.Steps.{when-yes}
 use Rattle.variable.specs.State.{State}
 use Rattle.variable.specs.Steps.{Chose, chose-fail, chose-go}

@@ -6,10 +6,10 @@ use mathlib.Core.List.{List}
 use lib.ListN.{length, getD}
 use native.Mathlib.Omega.{arith}
 use Rattle.meaning.specs.Forest.{Term, rows, Context, plug, holeRow}
-use Rattle.meaning.specs.Read.{Split, cut}
+use Rattle.meaning.specs.Read.{Split, cut, span}
 use Rattle.meaning.specs.Pattern.{Kind, aContext, Comes}
 use Rattle.meaning.specs.Matcher.{Value, ofContext, kind}
-use Rattle.meaning.specs.Record.{Entry, second, span}
+use Rattle.meaning.specs.Record.{Entry, second}
 use Rattle.meaning.proofs.Laws.{cut-plugs, plug-cut}
 use Rattle.tree.specs.Places.{TermAt, ContextAt}
 use Rattle.compare.specs.Appear.{Fits, misfit, fitting, FitsPre, FitsPost}

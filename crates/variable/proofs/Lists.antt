@@ -7,7 +7,8 @@ use lib.Seq.{ext-getD, getD-take}
 use native.Mathlib.Omega.{arith}
 use Rattle.meaning.specs.Pattern.{old, look}
 use Rattle.meaning.specs.Matcher.{Value, kind, kinds}
-use Rattle.meaning.specs.Record.{Entry, entry, values, second, numbers}
+use Rattle.meaning.specs.Record.{Entry, entry, second, numbers}
+use Rattle.meaning.specs.Read.{values}
 use Rattle.meaning.proofs.Lists.{look-old}
 
 pub kinds-look : (l : List Value) (x : ℕ) (v : Value) → look l x ≡ old v → look (kinds l) x ≡ old (kind v)

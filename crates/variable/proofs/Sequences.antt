@@ -6,10 +6,10 @@ use mathlib.Core.List.{List}
 use lib.ListN.{length, getD}
 use native.Mathlib.Omega.{arith}
 use Rattle.meaning.specs.Forest.{Forest, some, terms}
-use Rattle.meaning.specs.Read.{takeT}
+use Rattle.meaning.specs.Read.{takeT, span}
 use Rattle.meaning.specs.Pattern.{Kind, aSequence, Comes}
 use Rattle.meaning.specs.Matcher.{Value, ofSequence, kind}
-use Rattle.meaning.specs.Record.{Entry, second, span}
+use Rattle.meaning.specs.Record.{Entry, second}
 use Rattle.tree.specs.Places.{TermsAt}
 use Rattle.tree.proofs.Terms.{terms-rows}
 use Rattle.compare.specs.Appear.{AgainPre, AgainPost}

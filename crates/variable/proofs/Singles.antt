@@ -11,7 +11,8 @@ use Rattle.meaning.specs.Forest.{Forest, none, some}
 use Rattle.meaning.specs.Pattern.{Kind, anIndividual, aFunction, old, look, Comes}
 use Rattle.meaning.specs.Matcher.{Value, ofIndividual, ofFunction, kind}
 use Rattle.meaning.proofs.Walk.{same?, ok}
-use Rattle.meaning.specs.Record.{Entry, values}
+use Rattle.meaning.specs.Record.{Entry}
+use Rattle.meaning.specs.Read.{values}
 use Rattle.meaning.proofs.Lists.{look-old}
 use Rattle.meaning.proofs.Steps.{when-yes}
 use Rattle.tree.specs.Places.{TermAt, Next}

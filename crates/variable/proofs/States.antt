@@ -8,7 +8,8 @@ use lib.Seq.{getD-take, getD-set-same, getD-set-other, take-suc}
 use native.Mathlib.Omega.{arith}
 use Rattle.meaning.specs.Pattern.{Kind, old, new, look, Comes, after}
 use Rattle.meaning.specs.Matcher.{Value, kind}
-use Rattle.meaning.specs.Record.{Entry, entry, values, second, numbers}
+use Rattle.meaning.specs.Record.{Entry, entry, second, numbers}
+use Rattle.meaning.specs.Read.{values}
 use Rattle.meaning.proofs.Lists.{look-old, look-some, look-end, pre-look, all-more}
 use Rattle.meaning.proofs.Steps.{values-length, fresh, stands-inv, note-new}
 use Rattle.meaning.proofs.Next.{Any}

@@ -3,10 +3,10 @@ use Prim.Native.Nat.{ℕ, _+_}
 use mathlib.Core.Path.{_≡_}
 use mathlib.Core.List.{List, [], _∷_}
 use Rattle.meaning.specs.Forest.{Forest, Term, rows, terms}
-use Rattle.meaning.specs.Read.{takeT, cut}
+use Rattle.meaning.specs.Read.{takeT, cut, values}
 use Rattle.meaning.specs.Pattern.{Pattern, context, Patterns, sequence, new, look}
 use Rattle.meaning.specs.Matcher.{ofSequence, ofContext}
-use Rattle.meaning.specs.Record.{Entry, values}
+use Rattle.meaning.specs.Record.{Entry}
 use Rattle.meaning.proofs.Laws.{dropT}
 use Rattle.meaning.proofs.Walk.{need, andThen, walkT, walkF}
 use Rattle.meaning.proofs.Resume.{Frame, at-sequence, at-context, run, enter, then-chosen}

@@ -5,7 +5,8 @@ use mathlib.Core.List.{List}
 use native.Mathlib.Omega.{arith}
 use lib.ListN.{length}
 use Rattle.expression.specs.Expression.{Expression}
-use Rattle.expression.specs.Rows.{rows, sizeRows, StartsAt}
+use Rattle.expression.specs.Rows.{StartsAt}
+use Rattle.expression.specs.Columns.{rows, sizeRows}
 use Rattle.meaning.proofs.Answers.{says-no, says-equal}
 use Rattle.expression.proofs.Placed.{rows-positive}
 use Rattle.expression.proofs.Places.{Walked, walk-begins, walk-meets, walk-on, later-start, start-size, start-in, sizes-length}
