@@ -8,21 +8,16 @@ ghost use Rattle.meaning.specs.Calls.{Says};
 ghost use Rattle.dictionary.specs.Scan.{range};
 ghost use Rattle.dictionary.specs.Labels.{placeOf};
 ghost use Rattle.dictionary.specs.Index.{bucketOf, MayLabel, Labelled, inserted};
+use meaning::short;
 use words::hash;
 use words::same;
 use words::same_bytes;
-
-fn wide(x: u16) -> usize
-    ensures { λ r. ⌜ r ≡ x ⌝ }
-{
-    x as usize
-}
 
 fn number(index: &[u16], i: usize) -> usize
     requires { ⌜ i < length (now index) ⌝ }
     ensures { λ r. ⌜ r ≡ getD (now (index .entry)) i 0 ⌝ }
 {
-    wide(index[i])
+    short(index[i])
 }
 
 // The length counts too: of spellings that agree where the hash looks, each length has a bucket of its own.

@@ -17,7 +17,7 @@ use Rattle.grammar.specs.Machine.{Open, inRun, level, runs, initial, Final, At}
 use Rattle.grammar.proofs.Theory.{accepted, accepts}
 use Rattle.grammar.proofs.Trees.{leafRows, contentRows, contentDepth, one-leaf, shape-rows, shape-depth}
 use Rattle.grammar.proofs.Positions.{posS, at-good, at-place, three}
-use Rattle.judge.specs.Tokens.{Span, bytes, levelOf, runAt}
+use Rattle.tokens.specs.Tokens.{Span, bytes, levelOf, runAt}
 use Rattle.judge.specs.Tags.{RunTo, Named, opened, Closed, closed, OpenedTo, EmptyTo, Top, Tagging, Done, too-deep, too-many, done, Last, ended, early}
 use Rattle.judge.specs.Verdict.{Verdict, outside, deep, many, read}
 use Rattle.judge.proofs.Machine.{run-walk, run-refused}

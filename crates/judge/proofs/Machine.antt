@@ -15,7 +15,7 @@ use Rattle.grammar.specs.Machine.{mayFollow, Open, State, dead, inRun, afterLes
 use Rattle.grammar.proofs.Theory.{Live, runs-append, dies-at, ends-early, not-less, white-no-name}
 use Rattle.grammar.specs.Rows.{#}
 use Rattle.judge.specs.Tags.{Named}
-use Rattle.judge.specs.Tokens.{Passed, Span, bytes, whiteAt, nameAt, runAt, sameAt}
+use Rattle.tokens.specs.Tokens.{Passed, Span, bytes, whiteAt, nameAt, runAt, sameAt}
 
 -- ONE STEP
 next-is : (w : List ℕ) (j : ℕ) (z : State) → runs initial (take j w) ≡ z → j < length w → runs initial (take (suc j) w) ≡ step z (getD w j 0)

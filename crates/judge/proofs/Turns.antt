@@ -15,9 +15,9 @@ use Rattle.grammar.specs.Machine.{Open, inRun, afterLess, inEndName, level, At}
 use Rattle.judge.specs.declared.tags.Tag.{Tag}
 use Rattle.judge.specs.declared.tags.Tag.the-variants.{Refused, Opens, Empty, Closes}
 use Rattle.judge.specs.declared.tags.Kind.the-variants.{Nothing, Start, End}
-use Rattle.judge.specs.Tokens.{Passed, Span, bytes, whiteAt, nameAt, levelOf, runAt, textAt, sameAt}
+use Rattle.tokens.specs.Tokens.{Passed, Span, bytes, whiteAt, nameAt, levelOf, runAt, textAt, sameAt}
 use Rattle.judge.specs.Tags.{RunTo, Named, closed, Does, Ends, Started, Ended, Top, Tagging, Tagged, KindOf, second-root, root, inner-start, inner-end}
-use Rattle.judge.proofs.Spans.{text-yes, name-yes, less-stops}
+use Rattle.tokens.proofs.Spans.{text-yes, name-yes, less-stops}
 use Rattle.judge.proofs.Machine.{at-byte, at-same, there, refuse, start-refused, opens, empties, slash-refused, space-refused, end-refused, closes, close-refused}
 
 -- A RUN

@@ -14,7 +14,7 @@ use Rattle.judge.specs.declared.tags.Tag.{Tag}
 use Rattle.judge.specs.declared.tags.Tag.the-variants.{Refused, Opens, Empty, Closes}
 use Rattle.judge.specs.declared.tags.Kind.{Kind}
 use Rattle.judge.specs.declared.tags.Kind.the-variants.{Nothing, Start, End}
-use Rattle.judge.specs.Tokens.{Span, bytes, nameAt, levelOf, runAt}
+use Rattle.tokens.specs.Tokens.{Span, bytes, nameAt, levelOf, runAt}
 
 -- the run that starts at a ends at r, and makes so many rows
 pub record RunTo (w : List ℕ) (depth a r n : ℕ) : Type 0 where

@@ -2,18 +2,14 @@
 ghost use mathlib.Core.Path.{_≡_};
 ghost use Prim.Native.Nat.{_+_, _≤_, _<_, max};
 ghost use lib.ListN.{length};
-ghost use Rattle.judge.specs.Tokens.{Classed};
+ghost use Rattle.tokens.specs.Tokens.{Classed};
 ghost use Rattle.judge.specs.Tags.{RunTo, Done, Last};
 ghost use Rattle.judge.specs.Verdict.{Verdict};
 
-pub mod class;
 pub mod codes;
 pub mod stack;
 pub mod tags;
-pub mod tokens;
 
-use class::byte_at;
-use class::table;
 use codes::DEEPEST;
 use codes::MOST_BYTES;
 use codes::MOST_ROWS;
@@ -26,6 +22,8 @@ use stack::pop;
 use stack::push;
 use tags::Tag;
 use tags::next_tag;
+use tokens::class::byte_at;
+use tokens::class::table;
 use tokens::text_end;
 use tokens::white_end;
 

@@ -2,12 +2,7 @@
 ghost use mathlib.Core.Path.{_≡_};
 ghost use Prim.Native.Nat.{_<_};
 ghost use lib.ListN.{length, getD, set};
-
-fn wide(x: u16) -> usize
-    ensures { λ r. ⌜ (r ≡ x) × (r < 65536) ⌝ }
-{
-    x as usize
-}
+use meaning::short;
 
 // An element opens inside the innermost one, which `depth` others hold.
 pub fn push(stack: &mut [u16], depth: usize, innermost: usize)
@@ -22,5 +17,5 @@ pub fn pop(stack: &[u16], depth: usize) -> usize
     requires { ⌜ depth < length (now stack) ⌝ }
     ensures { λ r. ⌜ (r ≡ getD (now (stack .entry)) depth 0) × (r < 65536) ⌝ }
 {
-    wide(stack[depth])
+    short(stack[depth])
 }

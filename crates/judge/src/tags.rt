@@ -1,15 +1,15 @@
 // One tag: where it ends and what it does, or where no document goes on.
 ghost use Prim.Native.Nat.{_≤_, _<_};
 ghost use lib.ListN.{length};
-ghost use Rattle.judge.specs.Tokens.{Classed};
+ghost use Rattle.tokens.specs.Tokens.{Classed};
 ghost use Rattle.judge.specs.Tags.{Shut, Started, Ended, Tagged, KindOf};
-use super::class::FIRST;
-use super::class::WHITE;
-use super::class::byte_at;
-use super::class::class_of;
-use super::tokens::name_end;
-use super::tokens::same_end;
-use super::tokens::white_end;
+use tokens::class::FIRST;
+use tokens::class::WHITE;
+use tokens::class::byte_at;
+use tokens::class::class_of;
+use tokens::name_end;
+use tokens::same_end;
+use tokens::white_end;
 
 // Each holds a place: that of code 3, or that behind the tag; a start tag also where its name ends.
 pub enum Tag {

@@ -3,18 +3,13 @@ ghost use mathlib.Core.Path.{_≡_};
 ghost use Prim.Native.Nat.{_-_, _≤_, _<_};
 ghost use lib.ListN.{getD, set};
 ghost use Rattle.labels.specs.Lists.{Put};
-
-fn wide(x: u16) -> usize
-    ensures { λ r. ⌜ (r ≡ x) × (r < 65536) ⌝ }
-{
-    x as usize
-}
+use meaning::short;
 
 pub fn number(list: &[u16; 2052], i: usize) -> usize
     requires { ⌜ i < 2052 ⌝ }
     ensures { λ r. ⌜ (r ≡ getD (now (list .entry)) i 0) × (r < 65536) ⌝ }
 {
-    wide(list[i])
+    short(list[i])
 }
 
 // A row behind those that are noted: it holds no other yet.

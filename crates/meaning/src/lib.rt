@@ -13,3 +13,10 @@ pub fn wide(x: u32) -> usize
 {
     x as usize
 }
+
+// One of 16 bits.
+pub fn short(x: u16) -> usize
+    ensures { λ r. ⌜ (r ≡ x) × (r < 65536) ⌝ }
+{
+    x as usize
+}

@@ -12,9 +12,9 @@ use Rattle.grammar.specs.Grammar.{Bytes}
 use Rattle.grammar.specs.Tokens.{Level}
 use Rattle.grammar.specs.Machine.{mayFollow}
 use Rattle.grammar.proofs.Theory.{not-less}
-use Rattle.judge.specs.Tokens.{Span, bytes, whiteAt, nameAt, sameAt, levelOf, runAt}
+use Rattle.tokens.specs.Tokens.{Span, bytes, whiteAt, nameAt, sameAt, levelOf, runAt}
 use Rattle.judge.specs.Tags.{RunTo}
-use Rattle.judge.proofs.Spans.{passed-none, same-yes, same-ended}
+use Rattle.tokens.proofs.Spans.{passed-none, same-yes, same-ended}
 use Rattle.words.specs.Words.{Again}
 
 pub empty-run : {w : List ℕ} (depth a : ℕ) → a ≤ length w → getD w a 0 ≡ 60 → RunTo w depth a a 0

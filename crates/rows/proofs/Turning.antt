@@ -6,7 +6,7 @@ use native.Mathlib.Omega.{arith}
 use lib.ListN.{length, getD, set}
 use Rattle.grammar.specs.Grammar.{Content}
 use Rattle.grammar.specs.Machine.{Open}
-use Rattle.judge.specs.Tokens.{bytes}
+use Rattle.tokens.specs.Tokens.{bytes}
 use Rattle.judge.proofs.Judging.{closed-within}
 use Rattle.rows.specs.Notes.{Notes}
 use Rattle.rows.specs.Turns.{MayTag, refused, deep-open, deep-empty, opens, empty, closes, RunDone, many, last-run, deep-text, to-tag, MayTurn, TurnDone, over, tagged}

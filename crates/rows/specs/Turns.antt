@@ -5,7 +5,7 @@ use Prim.Native.Nat.{ℕ, _+_, _-_, _≤_, _<_}
 use lib.ListN.{length, getD}
 use Rattle.grammar.specs.Grammar.{Bytes, less, Content, OutsideAt}
 use Rattle.grammar.specs.Machine.{Open}
-use Rattle.judge.specs.Tokens.{Span, bytes, nameAt}
+use Rattle.tokens.specs.Tokens.{Span, bytes, nameAt}
 use Rattle.judge.specs.Tags.{RunTo, OpenedTo, EmptyTo, Closed, Tagging}
 use Rattle.labels.specs.Lists.{Put}
 use Rattle.rows.specs.Notes.{LastOf}

@@ -4,25 +4,25 @@ ghost use Prim.Native.Nat.{_≤_};
 ghost use lib.ListN.{length};
 ghost use Rattle.grammar.specs.Grammar.{Bytes, Content};
 ghost use Rattle.grammar.specs.Machine.{Open};
-ghost use Rattle.judge.specs.Tokens.{Classed};
+ghost use Rattle.tokens.specs.Tokens.{Classed};
 ghost use Rattle.judge.specs.Tags.{RunTo};
 ghost use Rattle.labels.specs.Lists.{Long};
 ghost use Rattle.rows.specs.Notes.{LastOf, Notes};
 ghost use Rattle.rows.specs.Turns.{MayTag, TagDone, RunDone, MayTurn, TurnDone};
 use super::tags::next_tag;
 use judge::Run;
-use judge::class::byte_at;
-use judge::class::table;
 use judge::codes::DEEPEST;
 use judge::codes::MOST_ROWS;
 use judge::stack::pop;
 use judge::stack::push;
 use judge::tags::Tag;
-use judge::tokens::long_text_end;
-use judge::tokens::long_white_end;
 use labels::note::close;
 use labels::note::number;
 use labels::note::put;
+use tokens::class::byte_at;
+use tokens::class::table;
+use tokens::long_text_end;
+use tokens::long_white_end;
 
 // So many rows are noted; or the place of code 3; or a document, if it is one, that is too deep or has too many rows.
 pub enum Noted {

@@ -2,17 +2,17 @@
 
 ghost use Prim.Native.Nat.{_+_, _≤_, _<_};
 ghost use lib.ListN;
-ghost use Rattle.judge.specs.Tokens.{Classed, Span, nameAt};
+ghost use Rattle.tokens.specs.Tokens.{Classed, Span, nameAt};
 ghost use Rattle.judge.specs.Tags.{Started, Ended, Tagged};
-use judge::class::FIRST;
-use judge::class::byte_at;
-use judge::class::class_of;
 use judge::tags::Kind;
 use judge::tags::Tag;
 use judge::tags::shut;
 use judge::tags::stands;
-use judge::tokens::long_name_end;
-use judge::tokens::white_end;
+use tokens::class::FIRST;
+use tokens::class::byte_at;
+use tokens::class::class_of;
+use tokens::long_name_end;
+use tokens::white_end;
 use words::stands_again;
 
 // The tag whose `<` stands before `at`. Most end behind the name at once.

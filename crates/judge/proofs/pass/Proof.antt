@@ -3,7 +3,7 @@ use mathlib.Core.Path.{sym, _∙_, subst}
 use native.Mathlib.Omega.{arith}
 use lib.ListN.{length, length-replicate}
 use Rattle.judge.proofs.Machine.{there}
-use Rattle.judge.specs.Tokens.{bytes}
+use Rattle.tokens.specs.Tokens.{bytes}
 use Rattle.judge.specs.Tags.{Does}
 use Rattle.judge.specs.declared.tags.Tag.{Tag}
 use Rattle.judge.specs.declared.tags.Tag.the-variants.{Refused, Opens, Empty, Closes}

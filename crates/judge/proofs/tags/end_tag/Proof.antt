@@ -1,7 +1,7 @@
 use mathlib.Core.Path.{sym, ap, _∙_}
 use native.Mathlib.Omega.{arith}
 use Rattle.grammar.specs.Classes.{classOf}
-use Rattle.judge.proofs.Spans.{name-yes, name-not}
+use Rattle.tokens.proofs.Spans.{name-yes, name-not}
 use Rattle.judge.proofs.Turns.{end-differs, end-closes, end-other}
 use borrow.Author.Needs.{needs}
 use Rattle.judge.proofs.tags.end_tag.Statement.{statement}

@@ -3,7 +3,7 @@ use mathlib.Core.Path.{_≡_, ap, _∙_}
 use native.Mathlib.Omega.{arith}
 use lib.ListN.{getD}
 use Rattle.grammar.specs.Classes.{classOf, nameStart}
-use Rattle.judge.proofs.Spans.{start-yes, start-not, few-classes}
+use Rattle.tokens.proofs.Spans.{start-yes, start-not, few-classes}
 use Rattle.judge.proofs.Turns.{name-there, start-none}
 use borrow.Author.Needs.{needs}
 use Rattle.judge.proofs.tags.start_tag.Statement.{statement}
