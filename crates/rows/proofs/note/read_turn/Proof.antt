@@ -1,9 +1,7 @@
 use mathlib.Core.Path.{subst}
-use mathlib.Core.List.{List}
-use Prim.Native.Nat.{ℕ}
 use Rattle.rows.specs.Turns.{RunDone, over, tagged}
 use Rattle.rows.specs.declared.note.Ran.{Ran}
-use Rattle.rows.specs.declared.note.Ran.the-variants.{Over, Tag}
+use Rattle.rows.specs.declared.note.Ran.the-variants.{Tag}
 use borrow.Author.Needs.{needs}
 use Rattle.rows.proofs.note.read_turn.Statement.{statement}
 use Rattle.rows.proofs.note.read_turn.Tie as tie
