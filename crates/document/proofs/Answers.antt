@@ -15,7 +15,8 @@ use Rattle.grammar.proofs.Trees.{shape-rows}
 use Rattle.judge.specs.Verdict.{Verdict, long as long-document, outside, deep, many, read}
 use Rattle.dictionary.specs.Names.{GoodDictionary, DictionaryChecked}
 use Rattle.dictionary.specs.Index.{Indexed, NamesLearnt}
-use Rattle.document.specs.Reading.{Unchanged, shortest, Read, badDictionary, badDocument, noRoom, filled, DocumentChecked, bad, judged, spellingsOf}
+use Rattle.document.specs.Reading.{Unchanged, shortest, Read, DocumentChecked, spellingsOf}
+use Rattle.document.proofs.Cases.{badDictionary, badDocument, noRoom, filled, told, bad, judged, check-told}
 use Rattle.document.specs.Learnt.{MayRead}
 use Rattle.meaning.specs.Calls.{Filled}
 use Rattle.labels.specs.Lists.{Copied}
@@ -77,16 +78,16 @@ unchanged label size start width = (refl, refl, refl, refl)
 
 module _ {d w label size start width : List ℕ} {good : Bool} {k : ℕ} (dictionary : DictionaryChecked d good k) where
   pub answers-bad : {c p n : ℕ} → good ≡ false → (c ≡ 1) × (p ≡ 0) × (n ≡ 0) → Read d w label size start width label size start width c p n
-  answers-bad e r = rw (r .0, r .1, r .2) (badDictionary (not-good dictionary e) (unchanged label size start width))
+  answers-bad e r = rw (r .0, r .1, r .2) (told (badDictionary (not-good dictionary e) (unchanged label size start width)))
 
   pub answers-refused : {c p n : ℕ} → good ≡ true → Verdict w c p n → (c ≡ 0 → ⊥) → Read d w label size start width label size start width c p n
-  answers-refused e v h = badDocument (is-good dictionary e .1) v h (unchanged label size start width)
+  answers-refused e v h = told (badDocument (is-good dictionary e .1) v h (unchanged label size start width))
 
   pub answers-small : {c p n x y z : ℕ} → good ≡ true → Verdict w c p n → c ≡ 0 →
       ((n ≤ length label) × (n ≤ length size) × (n ≤ length start) × (n ≤ length width) → ⊥) → (x ≡ 6) × (y ≡ 0) × (z ≡ 0) →
       Read d w label size start width label size start width x y z
   answers-small {c} {p} {n} e v h no-room r =
-      rw (r .0, r .1, r .2) (noRoom (is-good dictionary e .1) (whole v h .verdict) (go (ltb (shortest label size start width) n) refl) (unchanged label size start width))
+      rw (r .0, r .1, r .2) (told (noRoom (is-good dictionary e .1) (whole v h .verdict) (go (ltb (shortest label size start width) n) refl) (unchanged label size start width)))
     where
       go : (t : Bool) → ltb (shortest label size start width) n ≡ t → shortest label size start width < n
       go true q = ltb-true (shortest label size start width) n q
@@ -160,12 +161,12 @@ module _ {d w clear index : List ℕ} (label size start width : List ℕ) {k : �
     pub answers-read : {label' : List ℕ} {c p m : ℕ} → LabelsRows d w k index label start' width' n label' →
         (c ≡ 0) × (p ≡ 0) × (m ≡ n) → Read d w label size start width label' size' start' width' c p m
     answers-read h e =
-        rw (e .0, e .1, e .2) (filled good-names (noted-verdict (may .short) noted) (omega (arith, room)) (noted .document) (record {
+        rw (e .0, e .1, e .2) (told (filled good-names (noted-verdict (may .short) noted) (omega (arith, room)) (noted .document) (record {
           label-is = h names (spellingsOf (noted .f)) labelling;
           size-is = copied size (noted .sizes-are) (sizes-rows (shape (noted .f)) ∙ noted .rows-are) (copies .size-copy);
           start-is = start-is;
           width-is = width-is;
-        }))
+        })))
 
 -- where they are not
 pub long-verdict : {w : List ℕ} {c p n : ℕ} → 32768 < length w → (c ≡ 2) × (p ≡ 0) × (n ≡ 0) → Verdict w c p n
@@ -179,8 +180,8 @@ beyond-refused h v e = let d = whole v e in h (d .f) (d .t) (d .document) (d .sh
 
 -- THE ANSWERS OF `check`
 pub checks-bad : {d w : List ℕ} {good : Bool} {k x : ℕ} → DictionaryChecked d good k → good ≡ false → (x ≡ 1) × (x < 4294967296) → DocumentChecked d w (x * 4294967296)
-checks-bad c e is-x = rw (is-x .0) (bad (not-good c e))
+checks-bad c e is-x = rw (is-x .0) (check-told (bad (not-good c e)))
 
 pub checks-judged : {d w : List ℕ} {good : Bool} {k c p n x y z : ℕ} → DictionaryChecked d good k → good ≡ true → Verdict w c p n →
     (x ≡ c) × (x < 4294967296) → (y ≡ p) × (y < 4294967296) → (z ≡ n) × (z < 4294967296) → DocumentChecked d w (x * 4294967296 + (y + z))
-checks-judged k e v x y z = rw (x .0, y .0, z .0) (judged (is-good k e .1) v)
+checks-judged k e v x y z = rw (x .0, y .0, z .0) (check-told (judged (is-good k e .1) v))

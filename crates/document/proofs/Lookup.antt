@@ -15,7 +15,8 @@ use Rattle.dictionary.specs.Labels.{labelsOf}
 use Rattle.dictionary.proofs.Labels.{knownAfter, length-labels, label-spelling, known-at}
 use Rattle.dictionary.specs.Spelling.{partOfDictionary, partOfDocument, spellingOf, bytesOf, SpellingAnswered}
 use Rattle.dictionary.proofs.Parts.{name-bytes}
-use Rattle.document.specs.Reading.{spellingsOf, Spelt, Read, badDictionary, badDocument, noRoom, filled}
+use Rattle.document.specs.Reading.{spellingsOf, Spelt, Read}
+use Rattle.document.proofs.Cases.{Cases, badDictionary, badDocument, noRoom, filled, cases}
 use Rattle.document.proofs.Promises.{spelt}
 
 module _ {d w label start width : List ℕ} {names : List (List ℕ)} {f : Content} {rows row : ℕ} (g : GoodDictionary d names) (s : Spelt w label start width rows names f)
@@ -59,9 +60,9 @@ begun xs before after e h l = omega (arith, ap length e, length-append xs (drop 
 
 pub lookup-is-read : (d w label size start width label' size' start' width' : List ℕ) (place rows row : ℕ) (dAt wAt at : ℕ × ℕ) (bytes : List ℕ) → Read d w label size start width label' size' start' width' 0 place rows → row < rows →
     SpellingAnswered dAt wAt d w label' start' width' row at bytes → bytes ≡ take (getD width' row 0) (drop (getD start' row 0) w)
-lookup-is-read d w _ _ _ _ _ _ _ _ p n row dAt wAt at bytes r l x = go r refl l x
+lookup-is-read d w _ _ _ _ _ _ _ _ p n row dAt wAt at bytes r l x = go (cases r) refl l x
   where
-    go : {label size start width label' size' start' width' : List ℕ} {c p n : ℕ} → Read d w label size start width label' size' start' width' c p n → c ≡ 0 → row < n →
+    go : {label size start width label' size' start' width' : List ℕ} {c p n : ℕ} → Cases d w label size start width label' size' start' width' c p n → c ≡ 0 → row < n →
         SpellingAnswered dAt wAt d w label' start' width' row at bytes → bytes ≡ take (getD width' row 0) (drop (getD start' row 0) w)
     go (badDictionary h u) e l x = absurd (omega (arith, e))
     go (badDocument g v z u) e l x = absurd (z e)

@@ -19,7 +19,8 @@ use Rattle.dictionary.specs.Names.{GoodDictionary}
 use Rattle.dictionary.specs.Labels.{labelsOf}
 use Rattle.dictionary.proofs.Names.{good-unique}
 use Rattle.dictionary.proofs.Labels.{length-labels, label-below}
-use Rattle.document.specs.Reading.{spellingsOf, Unchanged, Written, Spelt, shortest, Read, badDictionary, badDocument, noRoom, filled, DocumentChecked, bad, judged}
+use Rattle.document.specs.Reading.{spellingsOf, Unchanged, Written, Spelt, shortest, Read, DocumentChecked}
+use Rattle.document.proofs.Cases.{Cases, badDictionary, badDocument, noRoom, filled, cases, CheckCases, bad, judged, check-cases}
 use Rattle.document.proofs.Filling.{labelOf, treeOf, tree-labels, tree-sizes, rows-spell}
 use Rattle.document.proofs.Answers.{whole}
 
@@ -62,40 +63,52 @@ module _ {label size start width label₁ size₁ start₁ width₁ label₂ siz
       let b : f' ≡ f = one-reading y' y .0 in
       same-written e u (rw (a, b) at v)
 
+one-case : {d w label size start width label₁ size₁ start₁ width₁ label₂ size₂ start₂ width₂ : List ℕ} {c₁ p₁ n₁ c₂ p₂ n₂ : ℕ} →
+    Cases d w label size start width label₁ size₁ start₁ width₁ c₁ p₁ n₁ → Cases d w label size start width label₂ size₂ start₂ width₂ c₂ p₂ n₂ →
+    Same c₁ p₁ n₁ label₁ size₁ start₁ width₁ c₂ p₂ n₂ label₂ size₂ start₂ width₂
+one-case (badDictionary h u) (badDictionary k v) = same-kept (refl, refl, refl) u v
+one-case (badDictionary h u) (badDocument g x z v) = absurd (h _ g)
+one-case (badDictionary h u) (noRoom g x z v) = absurd (h _ g)
+one-case (badDictionary h u) (filled g x z y v) = absurd (h _ g)
+one-case (badDocument g x z u) (badDictionary h v) = absurd (h _ g)
+one-case (badDocument g x z u) (badDocument g' x' z' v) = same-kept (one-verdict x x') u v
+one-case (badDocument g x z u) (noRoom g' x' z' v) = absurd (z (one-verdict x x' .0))
+one-case (badDocument g x z u) (filled g' x' z' y v) = absurd (z (one-verdict x x' .0))
+one-case (noRoom g x z u) (badDictionary h v) = absurd (h _ g)
+one-case (noRoom g x z u) (badDocument g' x' z' v) = absurd (z' (one-verdict x' x .0))
+one-case (noRoom g x z u) (noRoom g' x' z' v) = same-kept (refl, refl, refl) u v
+one-case (noRoom g x z u) (filled g' x' z' y v) = absurd (omega (arith, one-verdict x x' .2))
+one-case (filled g x z y u) (badDictionary h v) = absurd (h _ g)
+one-case (filled g x z y u) (badDocument g' x' z' v) = absurd (z' (one-verdict x' x .0))
+one-case (filled g x z y u) (noRoom g' x' z' v) = absurd (omega (arith, one-verdict x x' .2))
+one-case (filled g x z y u) (filled g' x' z' y' v) = same-both g g' y y' (refl, refl, one-verdict x x' .2) u v
+
 -- two answers, with the lists after them, that both keep the promise of `read` are equal
 pub one-answer : (d w label size start width label₁ size₁ start₁ width₁ label₂ size₂ start₂ width₂ : List ℕ) (c₁ p₁ n₁ c₂ p₂ n₂ : ℕ) →
     Read d w label size start width label₁ size₁ start₁ width₁ c₁ p₁ n₁ → Read d w label size start width label₂ size₂ start₂ width₂ c₂ p₂ n₂ →
     Same c₁ p₁ n₁ label₁ size₁ start₁ width₁ c₂ p₂ n₂ label₂ size₂ start₂ width₂
-one-answer d w _ _ _ _ _ _ _ _ _ _ _ _ _ _ _ _ _ _ (badDictionary h u) (badDictionary k v) = same-kept (refl, refl, refl) u v
-one-answer d w _ _ _ _ _ _ _ _ _ _ _ _ _ _ _ _ _ _ (badDictionary h u) (badDocument g x z v) = absurd (h _ g)
-one-answer d w _ _ _ _ _ _ _ _ _ _ _ _ _ _ _ _ _ _ (badDictionary h u) (noRoom g x z v) = absurd (h _ g)
-one-answer d w _ _ _ _ _ _ _ _ _ _ _ _ _ _ _ _ _ _ (badDictionary h u) (filled g x z y v) = absurd (h _ g)
-one-answer d w _ _ _ _ _ _ _ _ _ _ _ _ _ _ _ _ _ _ (badDocument g x z u) (badDictionary h v) = absurd (h _ g)
-one-answer d w _ _ _ _ _ _ _ _ _ _ _ _ _ _ _ _ _ _ (badDocument g x z u) (badDocument g' x' z' v) = same-kept (one-verdict x x') u v
-one-answer d w _ _ _ _ _ _ _ _ _ _ _ _ _ _ _ _ _ _ (badDocument g x z u) (noRoom g' x' z' v) = absurd (z (one-verdict x x' .0))
-one-answer d w _ _ _ _ _ _ _ _ _ _ _ _ _ _ _ _ _ _ (badDocument g x z u) (filled g' x' z' y v) = absurd (z (one-verdict x x' .0))
-one-answer d w _ _ _ _ _ _ _ _ _ _ _ _ _ _ _ _ _ _ (noRoom g x z u) (badDictionary h v) = absurd (h _ g)
-one-answer d w _ _ _ _ _ _ _ _ _ _ _ _ _ _ _ _ _ _ (noRoom g x z u) (badDocument g' x' z' v) = absurd (z' (one-verdict x' x .0))
-one-answer d w _ _ _ _ _ _ _ _ _ _ _ _ _ _ _ _ _ _ (noRoom g x z u) (noRoom g' x' z' v) = same-kept (refl, refl, refl) u v
-one-answer d w _ _ _ _ _ _ _ _ _ _ _ _ _ _ _ _ _ _ (noRoom g x z u) (filled g' x' z' y v) = absurd (omega (arith, one-verdict x x' .2))
-one-answer d w _ _ _ _ _ _ _ _ _ _ _ _ _ _ _ _ _ _ (filled g x z y u) (badDictionary h v) = absurd (h _ g)
-one-answer d w _ _ _ _ _ _ _ _ _ _ _ _ _ _ _ _ _ _ (filled g x z y u) (badDocument g' x' z' v) = absurd (z' (one-verdict x' x .0))
-one-answer d w _ _ _ _ _ _ _ _ _ _ _ _ _ _ _ _ _ _ (filled g x z y u) (noRoom g' x' z' v) = absurd (omega (arith, one-verdict x x' .2))
-one-answer d w _ _ _ _ _ _ _ _ _ _ _ _ _ _ _ _ _ _ (filled g x z y u) (filled g' x' z' y' v) = same-both g g' y y' (refl, refl, one-verdict x x' .2) u v
+one-answer d w _ _ _ _ _ _ _ _ _ _ _ _ _ _ _ _ _ _ x y = one-case (cases x) (cases y)
+
+one-check-case : (d w : List ℕ) (r s : ℕ) → CheckCases d w r → CheckCases d w s → r ≡ s
+one-check-case d w r s (bad h) (bad k) = refl
+one-check-case d w r s (bad h) (judged g v) = absurd (h _ g)
+one-check-case d w r s (judged g v) (bad h) = absurd (h _ g)
+one-check-case d w r s (judged g v) (judged g' v') = rw (one-verdict v v' .0, one-verdict v v' .1, one-verdict v v' .2) refl
 
 pub one-check : (d w : List ℕ) (r s : ℕ) → DocumentChecked d w r → DocumentChecked d w s → r ≡ s
-one-check d w r s (bad h) (bad k) = refl
-one-check d w r s (bad h) (judged g v) = absurd (h _ g)
-one-check d w r s (judged g v) (bad h) = absurd (h _ g)
-one-check d w r s (judged g v) (judged g' v') = rw (one-verdict v v' .0, one-verdict v v' .1, one-verdict v v' .2) refl
+one-check d w r s a b = one-check-case d w r s (check-cases a) (check-cases b)
 
 -- THE CHECK IS THE READER
+case-is-read : (d w label size start width label' size' start' width' : List ℕ) (code place rows r : ℕ) → 2048 ≤ shortest label size start width →
+    Cases d w label size start width label' size' start' width' code place rows → CheckCases d w r → r ≡ code * 4294967296 + (place + rows)
+case-is-read d w label size start width label' size' start' width' c p n r room (badDictionary h u) k = one-check-case d w r (1 * 4294967296) k (bad h)
+case-is-read d w label size start width label' size' start' width' c p n r room (badDocument g v z u) k = one-check-case d w r (c * 4294967296 + (p + n)) k (judged g v)
+case-is-read d w label size start width label' size' start' width' c p n r room (noRoom g v z u) k = absurd (omega (arith, whole v refl .few))
+case-is-read d w label size start width label' size' start' width' c p n r room (filled g v z y u) k = one-check-case d w r (0 * 4294967296 + (0 + n)) k (judged g v)
+
 pub check-is-read : (d w label size start width label' size' start' width' : List ℕ) (code place rows r : ℕ) → 2048 ≤ shortest label size start width →
     Read d w label size start width label' size' start' width' code place rows → DocumentChecked d w r → r ≡ code * 4294967296 + (place + rows)
-check-is-read d w label size start width label' size' start' width' c p n r room (badDictionary h u) k = one-check d w r (1 * 4294967296) k (bad h)
-check-is-read d w label size start width label' size' start' width' c p n r room (badDocument g v z u) k = one-check d w r (c * 4294967296 + (p + n)) k (judged g v)
-check-is-read d w label size start width label' size' start' width' c p n r room (noRoom g v z u) k = absurd (omega (arith, whole v refl .few))
-check-is-read d w label size start width label' size' start' width' c p n r room (filled g v z y u) k = one-check d w r (0 * 4294967296 + (0 + n)) k (judged g v)
+check-is-read d w label size start width label' size' start' width' c p n r room x k = case-is-read d w label size start width label' size' start' width' c p n r room (cases x) (check-cases k)
 
 -- A TREE THAT WAS READ
 module _ {d w label size start width label' size' start' width' : List ℕ} {names : List (List ℕ)} {f : Content} {t : Bytes} {n : ℕ}
@@ -161,9 +174,9 @@ module _ {d w label size start width label' size' start' width' : List ℕ} {nam
           rw n at e
 
 pub tree-is-good : (d w label size start width label' size' start' width' : List ℕ) (place rows : ℕ) → Read d w label size start width label' size' start' width' 0 place rows → GoodRows (take rows label') (take rows size')
-tree-is-good d w _ _ _ _ _ _ _ _ p n r = go r refl
+tree-is-good d w _ _ _ _ _ _ _ _ p n r = go (cases r) refl
   where
-    go : {d w label size start width label' size' start' width' : List ℕ} {c p n : ℕ} → Read d w label size start width label' size' start' width' c p n → c ≡ 0 → GoodRows (take n label') (take n size')
+    go : {d w label size start width label' size' start' width' : List ℕ} {c p n : ℕ} → Cases d w label size start width label' size' start' width' c p n → c ≡ 0 → GoodRows (take n label') (take n size')
     go (badDictionary h u) e = absurd (omega (arith, e))
     go (badDocument g v z u) e = absurd (z e)
     go (noRoom g v z u) e = absurd (omega (arith, e))
@@ -171,9 +184,9 @@ tree-is-good d w _ _ _ _ _ _ _ _ p n r = go r refl
 
 pub spellings-inside : (d w label size start width label' size' start' width' : List ℕ) (place rows : ℕ) (names : List (List ℕ)) (f : Content) (t : Bytes) →
     Read d w label size start width label' size' start' width' 0 place rows → GoodDictionary d names → Document w f t → Spelt w label' start' width' rows names f
-spellings-inside d w _ _ _ _ _ _ _ _ p n names f t r g y = go r refl
+spellings-inside d w _ _ _ _ _ _ _ _ p n names f t r g y = go (cases r) refl
   where
-    go : {label size start width label' size' start' width' : List ℕ} {c p n : ℕ} → Read d w label size start width label' size' start' width' c p n → c ≡ 0 → Spelt w label' start' width' n names f
+    go : {label size start width label' size' start' width' : List ℕ} {c p n : ℕ} → Cases d w label size start width label' size' start' width' c p n → c ≡ 0 → Spelt w label' start' width' n names f
     go (badDictionary h u) e = absurd (h names g)
     go (badDocument g' v z u) e = absurd (z e)
     go (noRoom g' v z u) e = absurd (omega (arith, e))

@@ -5,12 +5,12 @@ use mathlib.Core.List.{List, [], map}
 use Prim.Native.Nat.{ℕ, _≤_, _<_, min, _+_, _*_}
 use mathlib.Core.Path.{_≡_}
 use lib.ListN.{length, getD, take, drop}
-use Rattle.grammar.specs.Grammar.{Bytes, _⊲_, Content, Document}
+use Rattle.meaning.specs.Forest.{rows}
+use Rattle.grammar.specs.Grammar.{Bytes, _⊲_, Content, Document, OutsideAt}
 use Rattle.grammar.specs.Rows.{shape, Row, rowsOf, starts, lengths}
 use Rattle.dictionary.specs.Labels.{labelsOf}
-use Rattle.tree.specs.Rows.{sizes}
-use Rattle.judge.specs.Verdict.{Verdict}
-use Rattle.meaning.specs.Calls.{Filled}
+use Rattle.tree.specs.Rows.{sizes, depth}
+use Rattle.meaning.specs.Calls.{refuse, accept, Filled}
 use Rattle.dictionary.specs.Names.{GoodDictionary}
 
 -- the spellings of a document's rows in preorder
@@ -39,22 +39,41 @@ pub record Spelt (w label start width : List ℕ) (rows : ℕ) (names : List (Li
 abbrev pub shortest : List ℕ → List ℕ → List ℕ → List ℕ → ℕ
 shortest label size start width = min (min (length label) (length size)) (min (length start) (length width))
 
--- the promise of `read` for the dictionary d and the document w: code, place and rows
-pub data Read (d w label size start width label' size' start' width' : List ℕ) : ℕ → ℕ → ℕ → Type 0 where
-  badDictionary : ((names : List (List ℕ)) → GoodDictionary d names → ⊥) → Unchanged label size start width label' size' start' width' →
-      Read d w label size start width label' size' start' width' 1 0 0
-  badDocument : {names : List (List ℕ)} {code place rows : ℕ} → GoodDictionary d names → Verdict w code place rows → (code ≡ 0 → ⊥) →
-      Unchanged label size start width label' size' start' width' → Read d w label size start width label' size' start' width' code place rows
-  noRoom : {names : List (List ℕ)} {rows : ℕ} → GoodDictionary d names → Verdict w 0 0 rows → shortest label size start width < rows →
-      Unchanged label size start width label' size' start' width' → Read d w label size start width label' size' start' width' 6 0 0
-  filled : {names : List (List ℕ)} {f : Content} {t : Bytes} {rows : ℕ} → GoodDictionary d names → Verdict w 0 0 rows →
-      rows ≤ shortest label size start width → Document w f t → Written names f label size start width label' size' start' width' →
-      Read d w label size start width label' size' start' width' 0 0 rows
+-- w is a document of the subset, and of what it holds this is true
+abbrev pub Holds : List ℕ → (Content → Type 0) → Type 0
+Holds w Is = (f : Content) × (t : Bytes) × Document w f t × Is f
+
+-- the codes, from the lowest up, for the dictionary d, the document w and room for so many rows
+abbrev pub ReaderCodes : (d w : List ℕ) (room : ℕ) → ℕ → Type 0
+ReaderCodes d w room =
+    refuse 1 ((names : List (List ℕ)) × GoodDictionary d names)
+    (refuse 2 (length w ≤ 32768)
+    (refuse 3 (Holds w (λ f. Unit {0}))
+    (refuse 4 (Holds w (λ f. depth (shape f) ≤ 64))
+    (refuse 5 (Holds w (λ f. rows (shape f) ≤ 2048))
+    (refuse 6 (Holds w (λ f. rows (shape f) ≤ room))
+    accept)))))
+
+-- code, place and rows
+pub record ReaderAnswer (d w : List ℕ) (room code place number : ℕ) : Type 0 where
+  pub lowest : ReaderCodes d w room code
+  pub placed : code ≡ 3 → OutsideAt w place
+  pub no-place : (code ≡ 3 → ⊥) → place ≡ 0
+  pub counted : code ≡ 0 → Holds w (λ f. number ≡ rows (shape f))
+  pub no-rows : (code ≡ 0 → ⊥) → number ≡ 0
+
+-- the promise of `read` for the dictionary d and the document w: code, place and rows, and the four lists
+pub record Read (d w label size start width label' size' start' width' : List ℕ) (code place rows : ℕ) : Type 0 where
+  pub answer : ReaderAnswer d w (shortest label size start width) code place rows
+  pub written : code ≡ 0 → (names : List (List ℕ)) (f : Content) (t : Bytes) → GoodDictionary d names → Document w f t → Written names f label size start width label' size' start' width'
+  pub kept : (code ≡ 0 → ⊥) → Unchanged label size start width label' size' start' width'
 
 -- 01: "The site's server, written in C, calls a check of dictionary bytes and document bytes and gets one 64-bit number:
 -- code times 4,294,967,296 plus the place (code 3), the rows (code 0) or 0. It has no room limit, so it never gives 6."
--- The place is 0 unless the code is 3, and the rows are 0 unless it is 0: so their sum is the one that counts
-pub data DocumentChecked (d w : List ℕ) : ℕ → Type 0 where
-  bad : ((names : List (List ℕ)) → GoodDictionary d names → ⊥) → DocumentChecked d w (1 * 4294967296)
-  judged : {names : List (List ℕ)} {code place rows : ℕ} → GoodDictionary d names → Verdict w code place rows →
-      DocumentChecked d w (code * 4294967296 + (place + rows))
+-- The place is 0 unless the code is 3, and the rows are 0 unless it is 0: so their sum is the one that counts. A tree of 2,048 rows has room.
+pub record DocumentChecked (d w : List ℕ) (r : ℕ) : Type 0 where
+  pub code : ℕ
+  pub place : ℕ
+  pub rows : ℕ
+  pub answer : ReaderAnswer d w 2048 code place rows
+  pub is : r ≡ code * 4294967296 + (place + rows)

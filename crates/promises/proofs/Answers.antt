@@ -4,18 +4,14 @@ use mathlib.Core.Path.{_≡_, refl, sym, ap, subst, _∙_}
 use mathlib.Core.Bool.{true, true≢false}
 use mathlib.Core.Logic.{inr}
 use mathlib.Core.List.{List}
-use native.Mathlib.Omega.{arith}
 use Rattle.meaning.specs.Forest.{Term}
 use Rattle.meaning.specs.Pattern.{Pattern, Kind}
 use Rattle.meaning.specs.Record.{IsRecord}
 use Rattle.meaning.proofs.OneCode.{one-refuse, one-accept}
 use Rattle.meaning.proofs.Means.{matcher-means}
-use Rattle.grammar.specs.Grammar.{Bytes, Content, Document}
 use Rattle.grammar.proofs.Unique.{one-reading}
-use Rattle.dictionary.specs.Names.{GoodDictionary}
 use Rattle.dictionary.specs.Spelling.{spellingOf, bytesOf, IsPart, standsAt}
-use Rattle.dictionary.proofs.Names.{good-unique, names-unique}
-use Rattle.document.specs.Reading.{Read, Written, badDictionary, badDocument, noRoom, filled}
+use Rattle.dictionary.proofs.Names.{names-unique}
 use Rattle.document.proofs.Promises.{tree-is-good, spellings-inside}
 use Rattle.document.proofs.Lookup.{lookup-is-read}
 use Rattle.expression.specs.Expression.{Expression}
@@ -28,17 +24,6 @@ use Rattle.test.specs.declared.Tested.{Tested}
 use Rattle.test.specs.declared.Tested.the-variants.{Refused, Yes, No}
 use Rattle.instance.proofs.Promises.{instance-made, matcher-made}
 use Rattle.promises.specs.Answers.{LooksUp, Answers}
-
-module _ {d w l s b n l' s' b' n' : List ℕ} where
-  tree : {code place rows : ℕ} {names : List (List ℕ)} {f : Content} {t : Bytes} → Read d w l s b n l' s' b' n' code place rows → code ≡ 0
-      → GoodDictionary d names → Document w f t → Written names f l s b n l' s' b' n'
-  tree (badDictionary h u) e g y = absurd (h _ g)
-  tree (badDocument g' v z u) e g y = absurd (z e)
-  tree (noRoom g' v h u) e g y = absurd (omega (arith, e))
-  tree {names = names} {f = f} (filled {names = ns} {f = h} g' v k y' u) e g y =
-      let a : ns ≡ names = good-unique g' g in
-      let c : h ≡ f = one-reading y' y .0 in
-      rw (a, c) at u
 
 looks-up : LooksUp
 looks-up = record {
@@ -65,7 +50,7 @@ module _ {l : Lists} {list : List ℕ} {r : Tested} {T : Term} {P : Pattern} {Q 
 
 pub answers : Answers
 answers = record {
-  reader = record { tree = tree; one = λ a c. one-reading a c .0; taken = tree-is-good; spelt = spellings-inside; looked-up = lookup-is-read };
+  reader = record { tree = λ r e g y. r .written e _ _ _ g y; one = λ a c. one-reading a c .0; taken = tree-is-good; spelt = spellings-inside; looked-up = lookup-is-read };
   lookup = looks-up;
   test = λ l list r T P Q es cs s p. (λ h. s .yes-or-no (accepted r h) T P Q es cs p .0 h, λ m. s .yes-or-no (of-matcher s p m) T P Q es cs p .1 m);
   instance = λ l L S L' S' r U s i h a b. instance-made l L S r L' S' U i h a b s;

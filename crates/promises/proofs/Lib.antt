@@ -1,4 +1,3 @@
-pub mod Reader
 pub mod Refusals
 pub mod Answers
 pub mod Lists

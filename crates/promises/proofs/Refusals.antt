@@ -22,7 +22,6 @@ use Rattle.lister.specs.declared.Listed.{Listed}
 use Rattle.lister.proofs.Unique.{Same, one-listed}
 use Rattle.instance.proofs.Promises.{one-making}
 use Rattle.promises.specs.Refusals.{Refusals}
-use Rattle.promises.proofs.Reader.{read, unchanged, check}
 
 one-pattern-answer : {k n s : List ℕ} {r r' : Checked} → PatternSettled k n s r → PatternSettled k n s r' → r ≡ r'
 one-pattern-answer {k} {n} {s} {r} {r'} a b = go (r .good) refl
@@ -70,7 +69,7 @@ one-answer-listed o = (λ i. record { code = o .code i; ending = o .ending i; re
 
 pub refusals : Refusals
 refusals = record {
-  reader = record { read = read; unchanged = unchanged; check = check; check-is-read = check-is-read };
+  reader = record { read = λ x. x .answer; unchanged = λ x. x .kept; check = λ x. (x .code, x .place, x .rows, x .answer, x .is); check-is-read = check-is-read };
   matcher = record { list = λ s. s .code; test = λ s. s .code; instance = λ s. s .coded };
   one =
       record {

@@ -16,13 +16,12 @@ use Rattle.grammar.specs.Classes.{classOf, nameStart}
 use Rattle.grammar.specs.Grammar.{ε, _▸_, Content, nothing, emptyElement, Document}
 use Rattle.grammar.specs.Rows.{forest}
 use Rattle.dictionary.proofs.Names.{no-bytes}
-use Rattle.document.specs.Reading.{Read, shortest}
+use Rattle.document.specs.Reading.{ReaderCodes, Read, shortest}
 use Rattle.constraint.specs.Obeys.{Allowed}
 use Rattle.test.specs.Tested.{yesOf, TestSettled}
 use Rattle.test.specs.declared.Tested.{Tested}
 use Rattle.test.specs.declared.Tested.the-variants.{Refused, Yes, No}
 use Rattle.promises.specs.Demands.{Demands}
-use Rattle.promises.specs.Refusals.{ReaderCodes}
 use Rattle.promises.specs.Table.{ground}
 use Rattle.promises.proofs.Examples.{letterA, is-ground}
 

@@ -5,17 +5,13 @@ use mathlib.Core.Path.{_≡_}
 use mathlib.Core.List.{List}
 use lib.ListN.{length}
 use mathlib.Core.Bool.{Bool}
-use Rattle.meaning.specs.Forest.{rows}
-use Rattle.meaning.specs.Calls.{refuse, accept, Says}
-use Rattle.tree.specs.Rows.{depth}
-use Rattle.grammar.specs.Grammar.{Bytes, Content, Document, OutsideAt}
-use Rattle.grammar.specs.Rows.{shape}
-use Rattle.dictionary.specs.Names.{GoodDictionary, DictionaryChecked}
+use Rattle.meaning.specs.Calls.{accept, Says}
+use Rattle.dictionary.specs.Names.{DictionaryChecked}
 use Rattle.pattern.specs.Answer.{PatternSettled}
 use Rattle.pattern.specs.declared.Checked.{Checked as PatternChecked}
 use Rattle.judge.specs.Verdict.{Verdict}
 use Rattle.dictionary.specs.Spelling.{PartAnswered, SpellingAnswered}
-use Rattle.document.specs.Reading.{Read, Unchanged, shortest, DocumentChecked}
+use Rattle.document.specs.Reading.{Unchanged, shortest, ReaderAnswer, Read, DocumentChecked}
 use Rattle.problem.specs.Problem.{Lists, Codes}
 use Rattle.problem.specs.Answer.{Answered}
 use Rattle.problem.specs.declared.Problem.{Problem as ProblemChecked}
@@ -26,31 +22,7 @@ use Rattle.lister.specs.declared.Listed.{Listed}
 use Rattle.instance.specs.Instance.{codeGiven, rowsGiven, InstanceLists, InstanceCodes, InstanceSettled}
 use Rattle.instance.specs.declared.Made.{Made}
 
--- w is a document of the subset, and of what it holds this is true
-abbrev pub Holds : List ℕ → (Content → Type 0) → Type 0
-Holds w Is = (f : Content) × (t : Bytes) × Document w f t × Is f
-
--- the codes, from the lowest up, for the dictionary d, the document w and room for so many rows
-abbrev pub ReaderCodes : (d w : List ℕ) (room : ℕ) → ℕ → Type 0
-ReaderCodes d w room =
-    refuse 1 ((names : List (List ℕ)) × GoodDictionary d names)
-    (refuse 2 (length w ≤ 32768)
-    (refuse 3 (Holds w (λ f. Unit {0}))
-    (refuse 4 (Holds w (λ f. depth (shape f) ≤ 64))
-    (refuse 5 (Holds w (λ f. rows (shape f) ≤ 2048))
-    (refuse 6 (Holds w (λ f. rows (shape f) ≤ room))
-    accept)))))
-
--- code, place and rows
-pub record ReaderAnswer (d w : List ℕ) (room code place number : ℕ) : Type 0 where
-  pub lowest : ReaderCodes d w room code
-  pub placed : code ≡ 3 → OutsideAt w place
-  pub no-place : (code ≡ 3 → ⊥) → place ≡ 0
-  pub counted : code ≡ 0 → Holds w (λ f. number ≡ rows (shape f))
-  pub no-rows : (code ≡ 0 → ⊥) → number ≡ 0
-
--- the reader and the C server's check give the lowest code whose rule is broken, and 0 where none is, with 01's place and rows; a
--- tree of 2,048 rows has room in the check, so that it never gives 6
+-- the reader and the C server's check give the lowest code whose rule is broken, and 0 where none is, with 01's place and rows
 pub record ReaderRefuses : Type 0 where
   pub read : {d w l s b n l' s' b' n' : List ℕ} {code place rows : ℕ} → Read d w l s b n l' s' b' n' code place rows → ReaderAnswer d w (shortest l s b n) code place rows
   pub unchanged : {d w l s b n l' s' b' n' : List ℕ} {code place rows : ℕ} → Read d w l s b n l' s' b' n' code place rows → (code ≡ 0 → ⊥) → Unchanged l s b n l' s' b' n'

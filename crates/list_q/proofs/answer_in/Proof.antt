@@ -4,12 +4,12 @@ use mathlib.Core.List.{List}
 use lib.ListN.{length}
 use native.Mathlib.Omega.{arith}
 use borrow.Author.Needs.{needs}
-use Rattle.document.specs.Reading.{Read, badDictionary, badDocument, noRoom, filled}
+use Rattle.document.proofs.Cases.{Cases, badDictionary, badDocument, noRoom, filled, cases}
 use Rattle.list_q.proofs.answer_in.Statement.{statement}
 use Rattle.list_q.proofs.answer_in.Tie as tie
 
 -- the rows of a document that was read fit the lists
-fits : {d w label size start width label' size' start' width' : List ℕ} {code place rows : ℕ} → Read d w label size start width label' size' start' width' code place rows →
+fits : {d w label size start width label' size' start' width' : List ℕ} {code place rows : ℕ} → Cases d w label size start width label' size' start' width' code place rows →
     code ≡ 0 → (rows ≤ length label) × (rows ≤ length size)
 fits (badDictionary n u) e = absurd (omega arith)
 fits (badDocument g v n u) e = absurd (n e)
@@ -50,7 +50,7 @@ part-list-q-start : tie.Need-part-list-q-start
 part-list-q-start c = search needs
 
 part-list-q-end : tie.Need-part-list-q-end
-part-list-q-end c = omega (arith, fits (c .before .before .before .before .before .before .before .before .before .before .before .read .ensures) (omega arith))
+part-list-q-end c = omega (arith, fits (cases (c .before .before .before .before .before .before .before .before .before .before .before .read .ensures)) (omega arith))
 
 sub-list-q-2 : tie.Need-sub-list-q-2
 sub-list-q-2 c = search needs
@@ -59,7 +59,7 @@ part-list-q-start-2 : tie.Need-part-list-q-start-2
 part-list-q-start-2 c = search needs
 
 part-list-q-end-2 : tie.Need-part-list-q-end-2
-part-list-q-end-2 c = omega (arith, fits (c .before .before .before .before .before .before .before .before .before .before .before .before .before .read .ensures) (omega arith))
+part-list-q-end-2 c = omega (arith, fits (cases (c .before .before .before .before .before .before .before .before .before .before .before .before .before .read .ensures)) (omega arith))
 
 list-q-requires : tie.Need-list-q-requires
 list-q-requires c κs = search needs
