@@ -33,6 +33,6 @@ abbrev pub Obeys : Constraint → Value → Type 0
 Obeys free v = Unit {0}
 Obeys (bound e flag) v = In e (word v) × (flag ≡ 1 → word v ≡ [] → ⊥)
 
--- what the constraints allow x to stand for: this is the parameter of `Solves` and `Reached`
+-- what the constraints allow x to stand for, one without a constraint anything: this is the parameter of `Solves` and `Reached`
 abbrev pub Allowed : List Constraint → ℕ → Value → Type 0
 Allowed cs x v = Obeys (getD cs x free) v

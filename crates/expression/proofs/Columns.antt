@@ -2,7 +2,6 @@
 use mathlib.Core.Path.{_≡_, refl, sym, ap, ap₂, _∙_}
 use mathlib.Core.List.{List, [], _∷_, _++_, map, map-append}
 use Prim.Native.Nat.{ℕ, suc, _+_}
-use native.Mathlib.Omega.{arith}
 use lib.ListN.{length, length-append, length-map}
 use Rattle.expression.specs.Expression.{Expression, symbol, empty, concatenation, choice, repetition}
 use Rattle.expression.specs.Rows.{over, rowsOf, tableOf, GoodTable}

@@ -9,10 +9,10 @@ use Rattle.meaning.specs.Forest.{Forest, none, some, Term, term, _◂_, 
 use Rattle.meaning.specs.Pattern.{Pattern, Kind, anIndividual, aSequence, aFunction, aContext, Numbered}
 use Rattle.meaning.specs.Matcher.{Value, ofIndividual, ofSequence, ofFunction, ofContext, Solves}
 use Rattle.meaning.specs.Record.{recordOf}
-use Rattle.meaning.specs.Read.{takeT, fromIn, fromRow, headTerm, Split, cut, valueAt, readOff, Fits, GoodRecord}
+use Rattle.meaning.specs.Read.{takeT, fromIn, fromRow, headTerm, cut, valueAt, readOff, Fits, GoodRecord}
 use Rattle.meaning.specs.Means.{PairMeans, a-term, a-symbol, a-context, no-terms, the-root, neighbours, RecordMeans, no-pair, one-pair}
 use Rattle.meaning.proofs.Laws.{dropT, rows-of, take-drop, terms-take, cut-plugs, cut-holds}
-use Rattle.meaning.proofs.From.{HereF, HereT, here-args, here-drop, here-hole, from-hole}
+use Rattle.meaning.proofs.From.{HereT, here-args, here-drop, here-hole}
 use Rattle.meaning.proofs.Round.{reads-tree, reads-symbol, reads-forest, reads-context, round, round-good}
 
 -- WHAT IS MEANT IS READ OFF
