@@ -1,11 +1,9 @@
 ghost use mathlib.Core.Path.{_≡_};
 ghost use mathlib.Core.List.{List};
-ghost use Prim.Native.Nat.{ℕ, _≤_};
 ghost use Rattle.meaning.specs.Calls.{Says};
 ghost use Rattle.meaning.specs.Pattern.{Kind};
-ghost use Rattle.meaning.specs.Forest.{Forest, Context, terms};
-ghost use Rattle.meaning.specs.Read.{takeT};
-ghost use Rattle.tree.specs.Places.{TermsAt, ContextAt};
+ghost use Rattle.meaning.specs.Forest.{Context};
+ghost use Rattle.tree.specs.Places.{ContextAt};
 ghost use Rattle.pattern.specs.Rows.{code};
 ghost use Rattle.expression.specs.Expression.{Expression};
 ghost use Rattle.expression.specs.Columns.{sizeRows};

@@ -1,5 +1,4 @@
 // The spelling lookup: for a row of a tree, the part of the dictionary or of the document that spells it.
-ghost use mathlib.Core.Path.{_≡_};
 ghost use mathlib.Core.List.{List};
 ghost use Prim.Native.Nat.{ℕ, _<_};
 ghost use lib.ListN.{length};
