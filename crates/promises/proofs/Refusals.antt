@@ -1,14 +1,12 @@
 -- Demand 1 holds.
 use Prim.Native.Nat.{ℕ}
-use mathlib.Core.Path.{_≡_, refl, _∙_, sym}
-use mathlib.Core.Bool.{Bool, true, false}
+use mathlib.Core.Path.{_≡_, _∙_, sym}
 use mathlib.Core.List.{List}
 use native.Mathlib.Decide.{ℕ-discrete}
 use Rattle.meaning.specs.Calls.{accept}
 use Rattle.meaning.proofs.OneCode.{one-accept}
 use Rattle.meaning.proofs.Answers.{one-answer as one-yes}
-use Rattle.pattern.specs.Answer.{PatternSettled}
-use Rattle.pattern.specs.declared.Checked.{Checked}
+use Rattle.pattern.proofs.Settle.{one-checked}
 use Rattle.judge.proofs.OneVerdict.{one-verdict}
 use Rattle.dictionary.proofs.Names.{checked-unique}
 use Rattle.dictionary.proofs.Parts.{part-unique, spelling-unique}
@@ -22,26 +20,6 @@ use Rattle.lister.specs.declared.Listed.{Listed}
 use Rattle.lister.proofs.Unique.{Same, one-listed}
 use Rattle.instance.proofs.Promises.{one-making}
 use Rattle.promises.specs.Refusals.{Refusals}
-
-one-pattern-answer : {k n s : List ℕ} {r r' : Checked} → PatternSettled k n s r → PatternSettled k n s r' → r ≡ r'
-one-pattern-answer {k} {n} {s} {r} {r'} a b = go (r .good) refl
-  where
-    good : r .good ≡ r' .good
-    good = one-yes (r .good) (r' .good) (a .judged) (b .judged)
-
-    whole : r .variables ≡ r' .variables → r .kinds ≡ r' .kinds → r ≡ r'
-    whole v t = λ i. record { good = good i; variables = v i; kinds = t i }
-
-    go : (g : Bool) → r .good ≡ g → r ≡ r'
-    go true e =
-        let x = a .judged .0 e in
-        let f = a .found (x .0) (x .1) (x .2) in
-        let h = b .found (x .0) (x .1) (x .2) in
-        whole (f .0 ∙ sym (h .0)) (f .1 ∙ sym (h .1))
-    go false e =
-        let f = a .refused e in
-        let h = b .refused (sym good ∙ e) in
-        whole (f .0 ∙ sym (h .0)) (f .1 ∙ sym (h .1))
 
 one-problem : {l : Lists} {r r' : Problem} → Answered l r → Answered l r' → r ≡ r'
 one-problem {l} {r} {r'} a b = go (ℕ-discrete (r .code) 0)
@@ -79,7 +57,7 @@ refusals = record {
         dictionary = λ x y. checked-unique _ _ _ _ _ x y;
         part = λ x y. part-unique _ _ _ _ _ _ _ _ _ _ _ _ x y;
         spelling = λ x y. spelling-unique _ _ _ _ _ _ _ _ _ _ _ _ x y;
-        pattern = one-pattern-answer;
+        pattern = one-checked;
         problem = one-problem;
         test = λ {l} {list} {r} {s} a b. one-tested r s a b;
         list = λ a b. one-answer-listed (one-listed a b);
