@@ -8,9 +8,9 @@ use native.Mathlib.Decide.{ℕ-discrete}
 use lib.ListN.{length, getD}
 use Rattle.meaning.specs.Calls.{Says}
 use Rattle.dictionary.specs.Scan.{range}
-use Rattle.dictionary.specs.Labels.{placeOf}
-use Rattle.dictionary.specs.Index.{bucketOf, Link, Indexed, MayLabel}
-use Rattle.dictionary.proofs.Labels.{place-at, place-none}
+use Rattle.dictionary.specs.Numbers.{placeOf}
+use Rattle.dictionary.specs.Index.{bucketOf, Link, Indexed, MayNumber}
+use Rattle.dictionary.proofs.Numbers.{place-at, place-none}
 use Rattle.dictionary.proofs.Buckets.{bucket-below}
 
 -- q - 1 is the last place that may still hold w
@@ -45,7 +45,7 @@ sought-found {known = known} {w = w} j x h e = place-at known w j h e (λ i p q.
 
 -- A WALK ALONG A CHAIN
 module _ {dictionary document : List ℕ} {names : ℕ} {index : List ℕ} {count start end : ℕ} {known : List (List ℕ)}
-    (m : MayLabel dictionary document names index count start end known) where
+    (m : MayNumber dictionary document names index count start end known) where
   pub seek-begins : {bucket next : ℕ} → bucket ≡ bucketOf (range document start end) → next ≡ getD index bucket 0 → Sought known (range document start end) next
   seek-begins is-bucket is-next = sought-first (rw (is-next, is-bucket) (m .indexed .head (bucketOf (range document start end)) (bucket-below (range document start end))))
 

@@ -8,7 +8,7 @@ use lib.ListN.{length, getD}
 use borrow.Author.Tests.{lt-ltb, le-ltb}
 use Rattle.meaning.specs.Calls.{Says}
 use Rattle.dictionary.specs.Scan.{range}
-use Rattle.dictionary.specs.Index.{sourceOf, Entry, MayLabel}
+use Rattle.dictionary.specs.Index.{sourceOf, Entry, MayNumber}
 use Rattle.dictionary.proofs.Ranges.{range-length}
 
 pub source-name : (dictionary document : List ℕ) (names place : ℕ) → place < names → sourceOf dictionary document names place ≡ dictionary
@@ -19,7 +19,7 @@ source-new dictionary document names place h = simp (le-ltb place names h)
 
 -- A KNOWN SPELLING COMPARED: it stands in its source from `at` to `to`
 module _ {dictionary document : List ℕ} {names : ℕ} {index : List ℕ} {count start end : ℕ} {known : List (List ℕ)}
-    (m : MayLabel dictionary document names index count start end known) (place : ℕ) (p : place < count) {at to : ℕ}
+    (m : MayNumber dictionary document names index count start end known) (place : ℕ) (p : place < count) {at to : ℕ}
     (is-at : at ≡ getD index (2048 + 3 * place) 0) (is-to : to ≡ getD index (2049 + 3 * place) 0) where
   here : Entry (sourceOf dictionary document names place) (getD known place []) at to
   here = rw (is-at, is-to) (m .indexed .entry place (omega (arith, m .counted)))

@@ -9,9 +9,9 @@ use lib.ListN.{length, getD, set, length-append, length-set, List·getD-append}
 use lib.Seq.{getD-set-same, getD-set-other, getD-at}
 use borrow.Author.Tests.{le-ltb}
 use Rattle.dictionary.specs.Scan.{range}
-use Rattle.dictionary.specs.Labels.{placeOf}
-use Rattle.dictionary.specs.Index.{bucketOf, Link, sourceOf, Entry, Indexed, MayLabel, Labelled, inserted}
-use Rattle.dictionary.proofs.Labels.{place-le, place-some, learn-old, learn-new}
+use Rattle.dictionary.specs.Numbers.{placeOf}
+use Rattle.dictionary.specs.Index.{bucketOf, Link, sourceOf, Entry, Indexed, MayNumber, Numbered, inserted}
+use Rattle.dictionary.proofs.Numbers.{place-le, place-some, learn-old, learn-new}
 use Rattle.dictionary.proofs.Buckets.{bucket-below}
 
 append-old : (known : List (List ℕ)) (w : List ℕ) (i : ℕ) → i < length known → getD (known ++ (w ∷ [])) i [] ≡ getD known i []
@@ -180,18 +180,18 @@ module _ (dictionary document : List ℕ) (names : ℕ) (index : List ℕ) (know
 
 -- THE ANSWER OF `label`, for a spelling that is known and for one that is not
 module _ {dictionary document : List ℕ} {names : ℕ} {index : List ℕ} {count start end : ℕ} {known : List (List ℕ)}
-    (m : MayLabel dictionary document names index count start end known) where
-  pub labelled-old : {place : ℕ} → place ≡ placeOf known (range document start end) → place < count →
-      Labelled dictionary document names index index known (range document start end) place
-  labelled-old is h = record {
+    (m : MayNumber dictionary document names index count start end known) where
+  pub numbered-old : {place : ℕ} → place ≡ placeOf known (range document start end) → place < count →
+      Numbered dictionary document names index index known (range document start end) place
+  numbered-old is h = record {
     placed = is;
     kept = refl;
     indexed = rw (learn-old known (range document start end) (omega (arith, m .counted))) (m .indexed);
   }
 
-  pub labelled-new : {place bucket : ℕ} → place ≡ placeOf known (range document start end) → count ≤ place → bucket ≡ bucketOf (range document start end) → {new : List ℕ} →
-      new ≡ inserted index count bucket start end → Labelled dictionary document names index new known (range document start end) count
-  labelled-new {place} {bucket} is h at {new} done =
+  pub numbered-new : {place bucket : ℕ} → place ≡ placeOf known (range document start end) → count ≤ place → bucket ≡ bucketOf (range document start end) → {new : List ℕ} →
+      new ≡ inserted index count bucket start end → Numbered dictionary document names index new known (range document start end) count
+  numbered-new {place} {bucket} is h at {new} done =
       let fresh : placeOf known (range document start end) ≡ length known = omega (arith, place-le known (range document start end), m .counted) in
       let e : Entry document (range document start end) start end = record { ordered = m .ordered; inside = m .inside; spelled = refl } in
       let x : Indexed dictionary document names (inserted index (length known) (bucketOf (range document start end)) start end) (known ++ (range document start end ∷ [])) =

@@ -10,11 +10,11 @@ use lib.ListN.{length, getD, take, drop, replicate, length-replicate, getD-repli
 use lib.Seq.{take-suc, take-all, getD-take, length-take-le}
 use Rattle.dictionary.specs.Names.{GoodDictionary}
 use Rattle.dictionary.specs.Scan.{range, upto, pieces}
-use Rattle.dictionary.specs.Labels.{learn}
-use Rattle.dictionary.specs.Index.{Indexed, MayLabel, Labelled, Fresh, NamesLearnt}
+use Rattle.dictionary.specs.Numbers.{learn}
+use Rattle.dictionary.specs.Index.{Indexed, MayNumber, Numbered, Fresh, NamesLearnt}
 use Rattle.dictionary.proofs.Pieces.{unbroken, piece-length}
 use Rattle.dictionary.proofs.Names.{Begins, begins, begins-end, begins-next, there, piece-is, good-pieces, checked-good, checked-bad, bad-end, bad-empty, bad-many, bad-twice}
-use Rattle.dictionary.proofs.Labels.{place-is, learn-new}
+use Rattle.dictionary.proofs.Numbers.{place-is, learn-new}
 use Rattle.dictionary.proofs.Entries.{source-name, source-new}
 use Rattle.dictionary.proofs.Insert.{last-two}
 
@@ -113,7 +113,7 @@ module _ {d old index : List ℕ} {start names end : ℕ} (t : Turn d old index 
   pub refused-many : 1023 < names → NamesLearnt d false 0 old index
   refused-many h = refused d old index (t .learning .kept) (λ ns g. bad-many d start end names (t .here) (t .is-end) (t .learning .begun) ns g (omega arith))
 
-  pub may-learn : names ≤ 1023 → MayLabel d d 0 index names start end (take names (pieces d))
+  pub may-learn : names ≤ 1023 → MayNumber d d 0 index names start end (take names (pieces d))
   may-learn few = record {
     indexed = t .learning .indexed;
     counted = known-size d old index start names (t .learning);
@@ -125,16 +125,16 @@ module _ {d old index : List ℕ} {start names end : ℕ} (t : Turn d old index 
     short = omega (arith, t .learning .short, t .inside);
   }
 
-  module _ {new : List ℕ} {label : ℕ} (done : Labelled d d 0 index new (take names (pieces d)) (range d start end) label) where
-    pub refused-twice : label < names → NamesLearnt d false 0 old new
+  module _ {new : List ℕ} {number : ℕ} (done : Numbered d d 0 index new (take names (pieces d)) (range d start end) number) where
+    pub refused-twice : number < names → NamesLearnt d false 0 old new
     refused-twice below =
-        let same : getD (pieces d) label [] ≡ range d start end =
-        sym (getD-take names (pieces d) label [] below)
+        let same : getD (pieces d) number [] ≡ range d start end =
+        sym (getD-take names (pieces d) number [] below)
         ∙ ap (λ (i : ℕ). getD (take names (pieces d)) i []) (done .placed)
         ∙ place-is (take names (pieces d)) (range d start end) (omega (arith, done .placed, known-size d old index start names (t .learning))) in
-        refused d old new (done .kept ∙ t .learning .kept) (λ ns g. bad-twice d start end names (t .here) (t .is-end) (t .learning .begun) ns g label below same)
+        refused d old new (done .kept ∙ t .learning .kept) (λ ns g. bad-twice d start end names (t .here) (t .is-end) (t .learning .begun) ns g number below same)
 
-    pub learning-next : (end ≡ length d → ⊥) → start < end → names ≤ 1023 → names ≤ label → Learning d old new (end + 1) (names + 1)
+    pub learning-next : (end ≡ length d → ⊥) → start < end → names ≤ 1023 → names ≤ number → Learning d old new (end + 1) (names + 1)
     learning-next other filled few fresh =
         let name : getD (pieces d) names [] ≡ range d start end = piece-is d start end names (t .here) (t .is-end) (t .learning .begun) in
         let all : learn (take names (pieces d)) (range d start end) ≡ take (names + 1) (pieces d) =

@@ -3,7 +3,7 @@ pub mod Ranges
 pub mod Pieces
 pub mod Names
 pub mod Decided
-pub mod Labels
+pub mod Numbers
 pub mod Buckets
 pub mod Chains
 pub mod Entries

@@ -8,7 +8,7 @@ use lib.ListN.{length, getD, set}
 use Rattle.words.specs.Words.{hashOf}
 use Rattle.dictionary.specs.Names.{GoodDictionary, DictionaryChecked}
 use Rattle.dictionary.specs.Scan.{range}
-use Rattle.dictionary.specs.Labels.{placeOf, learn}
+use Rattle.dictionary.specs.Numbers.{placeOf, learn}
 
 -- one of 2,048 numbers for a spelling
 unfoldable pub bucketOf : List ℕ → ℕ
@@ -37,8 +37,8 @@ pub record Indexed (dictionary document : List ℕ) (names : ℕ) (index : List 
   pub head : (h : ℕ) → h < 2048 → Link known h (length known) (getD index h 0)
   pub before : (j : ℕ) → j < length known → Link known (bucketOf (getD known j [])) j (getD index (2050 + 3 * j) 0)
 
--- what a call of `label` may be given: `count` spellings are known, and the new one is document's from start to end
-pub record MayLabel (dictionary document : List ℕ) (names : ℕ) (index : List ℕ) (count start end : ℕ) (known : List (List ℕ)) : Type 0 where
+-- what a call of `number_of` may be given: `count` spellings are known, and the new one is document's from start to end
+pub record MayNumber (dictionary document : List ℕ) (names : ℕ) (index : List ℕ) (count start end : ℕ) (known : List (List ℕ)) : Type 0 where
   pub indexed : Indexed dictionary document names index known
   pub counted : length known ≡ count
   pub named : names ≤ count
@@ -48,9 +48,9 @@ pub record MayLabel (dictionary document : List ℕ) (names : ℕ) (index : List
   pub inside : end ≤ length document
   pub short : end < 65536
 
--- and what it does: the label is the spelling's place, and the index has learnt it
-pub record Labelled (dictionary document : List ℕ) (names : ℕ) (old new : List ℕ) (known : List (List ℕ)) (w : List ℕ) (label : ℕ) : Type 0 where
-  pub placed : label ≡ placeOf known w
+-- and what it does: the number is the spelling's place, and the index has learnt it
+pub record Numbered (dictionary document : List ℕ) (names : ℕ) (old new : List ℕ) (known : List (List ℕ)) (w : List ℕ) (number : ℕ) : Type 0 where
+  pub placed : number ≡ placeOf known w
   pub kept : length new ≡ length old
   pub indexed : Indexed dictionary document names new (learn known w)
 

@@ -1,6 +1,6 @@
--- The dictionary, labels and spellings.
+-- The dictionary, numbers and spellings.
 pub mod Names
-pub mod Labels
+pub mod Numbers
 pub mod Spelling
 pub mod Scan
 pub mod Index

@@ -6,8 +6,8 @@ ghost use Prim.Native.Nat.{ℕ, _+_, _-_, _*_, _≤_, _<_};
 ghost use lib.ListN.{length, getD};
 ghost use Rattle.meaning.specs.Calls.{Says};
 ghost use Rattle.dictionary.specs.Scan.{range};
-ghost use Rattle.dictionary.specs.Labels.{placeOf};
-ghost use Rattle.dictionary.specs.Index.{bucketOf, MayLabel, Labelled, inserted};
+ghost use Rattle.dictionary.specs.Numbers.{placeOf};
+ghost use Rattle.dictionary.specs.Index.{bucketOf, MayNumber, Numbered, inserted};
 use meaning::short;
 use words::hash;
 use words::same;
@@ -40,8 +40,8 @@ fn is_at(
     start: usize,
     end: usize,
 ) -> bool
-    requires { ⌜ ((known : List (List ℕ)) × MayLabel (now dictionary) (now document) names (now index) count start end known) × (place < count) ⌝ }
-    ensures { λ r. ⌜ ((known : List (List ℕ)) → MayLabel (now (dictionary .entry)) (now (document .entry)) names (now (index .entry)) count start end known → Says r (getD known place [] ≡ range (now (document .entry)) start end)) ⌝ }
+    requires { ⌜ ((known : List (List ℕ)) × MayNumber (now dictionary) (now document) names (now index) count start end known) × (place < count) ⌝ }
+    ensures { λ r. ⌜ ((known : List (List ℕ)) → MayNumber (now (dictionary .entry)) (now (document .entry)) names (now (index .entry)) count start end known → Says r (getD known place [] ≡ range (now (document .entry)) start end)) ⌝ }
 {
     let at = number(index, 2048 + 3 * place);
     let to = number(index, 2049 + 3 * place);
@@ -65,8 +65,8 @@ fn seek(
     start: usize,
     end: usize,
 ) -> usize
-    requires { ⌜ ((known : List (List ℕ)) × MayLabel (now dictionary) (now document) names (now index) count start end known) × (bucket ≡ bucketOf (range (now document) start end)) ⌝ }
-    ensures { λ r. ⌜ ((known : List (List ℕ)) → MayLabel (now (dictionary .entry)) (now (document .entry)) names (now (index .entry)) count start end known → r ≡ placeOf known (range (now (document .entry)) start end)) ⌝ }
+    requires { ⌜ ((known : List (List ℕ)) × MayNumber (now dictionary) (now document) names (now index) count start end known) × (bucket ≡ bucketOf (range (now document) start end)) ⌝ }
+    ensures { λ r. ⌜ ((known : List (List ℕ)) → MayNumber (now (dictionary .entry)) (now (document .entry)) names (now (index .entry)) count start end known → r ≡ placeOf known (range (now (document .entry)) start end)) ⌝ }
 {
     let mut next = number(index, bucket);
     while 0 < next {
@@ -90,9 +90,9 @@ fn insert(index: &mut [u16], count: usize, bucket: usize, start: usize, end: usi
     index[bucket] = (count + 1) as u16;
 }
 
-// The label of the document's spelling from `start` to `end`: its place among the `count` spellings known, of which the
+// The number of the document's spelling from `start` to `end`: its place among the `count` spellings known, of which the
 // first `names` stand in the dictionary. A new one gets `count`, and is known from then on.
-pub fn label(
+pub fn number_of(
     dictionary: &[u8],
     document: &[u8],
     names: usize,
@@ -101,8 +101,8 @@ pub fn label(
     start: usize,
     end: usize,
 ) -> usize
-    requires { ⌜ ((known : List (List ℕ)) × MayLabel (now dictionary) (now document) names (now index) count start end known) ⌝ }
-    ensures { λ r. ⌜ ((known : List (List ℕ)) → MayLabel (now (dictionary .entry)) (now (document .entry)) names (now (index .entry)) count start end known → Labelled (now (dictionary .entry)) (now (document .entry)) names (now (index .entry)) (now (index .exit)) known (range (now (document .entry)) start end) r) ⌝ }
+    requires { ⌜ ((known : List (List ℕ)) × MayNumber (now dictionary) (now document) names (now index) count start end known) ⌝ }
+    ensures { λ r. ⌜ ((known : List (List ℕ)) → MayNumber (now (dictionary .entry)) (now (document .entry)) names (now (index .entry)) count start end known → Numbered (now (dictionary .entry)) (now (document .entry)) names (now (index .entry)) (now (index .exit)) known (range (now (document .entry)) start end) r) ⌝ }
 {
     let bucket = bucket_of(document, start, end);
     let place = seek(
@@ -131,8 +131,8 @@ fn is_name(
     start: usize,
     end: usize,
 ) -> bool
-    requires { ⌜ ((known : List (List ℕ)) × MayLabel (now dictionary) (now dictionary) 0 (now index) count start end known) × (place < count) ⌝ }
-    ensures { λ r. ⌜ ((known : List (List ℕ)) → MayLabel (now (dictionary .entry)) (now (dictionary .entry)) 0 (now (index .entry)) count start end known → Says r (getD known place [] ≡ range (now (dictionary .entry)) start end)) ⌝ }
+    requires { ⌜ ((known : List (List ℕ)) × MayNumber (now dictionary) (now dictionary) 0 (now index) count start end known) × (place < count) ⌝ }
+    ensures { λ r. ⌜ ((known : List (List ℕ)) → MayNumber (now (dictionary .entry)) (now (dictionary .entry)) 0 (now (index .entry)) count start end known → Says r (getD known place [] ≡ range (now (dictionary .entry)) start end)) ⌝ }
 {
     let at = number(index, 2048 + 3 * place);
     let to = number(index, 2049 + 3 * place);
@@ -151,8 +151,8 @@ fn seek_name(
     start: usize,
     end: usize,
 ) -> usize
-    requires { ⌜ ((known : List (List ℕ)) × MayLabel (now dictionary) (now dictionary) 0 (now index) count start end known) × (bucket ≡ bucketOf (range (now dictionary) start end)) ⌝ }
-    ensures { λ r. ⌜ ((known : List (List ℕ)) → MayLabel (now (dictionary .entry)) (now (dictionary .entry)) 0 (now (index .entry)) count start end known → r ≡ placeOf known (range (now (dictionary .entry)) start end)) ⌝ }
+    requires { ⌜ ((known : List (List ℕ)) × MayNumber (now dictionary) (now dictionary) 0 (now index) count start end known) × (bucket ≡ bucketOf (range (now dictionary) start end)) ⌝ }
+    ensures { λ r. ⌜ ((known : List (List ℕ)) → MayNumber (now (dictionary .entry)) (now (dictionary .entry)) 0 (now (index .entry)) count start end known → r ≡ placeOf known (range (now (dictionary .entry)) start end)) ⌝ }
 {
     let mut next = number(index, bucket);
     while 0 < next {
@@ -165,11 +165,11 @@ fn seek_name(
     count
 }
 
-// `label` for the dictionary's own names, none of which is known from elsewhere. It is apart since `label` is then called in one place
+// `number_of` for the dictionary's own names, none of which is known from elsewhere. It is apart since `number_of` is then called in one place
 // only, that of the rows, where the compiler puts it in line.
 pub fn learn(dictionary: &[u8], index: &mut [u16], count: usize, start: usize, end: usize) -> usize
-    requires { ⌜ ((known : List (List ℕ)) × MayLabel (now dictionary) (now dictionary) 0 (now index) count start end known) ⌝ }
-    ensures { λ r. ⌜ ((known : List (List ℕ)) → MayLabel (now (dictionary .entry)) (now (dictionary .entry)) 0 (now (index .entry)) count start end known → Labelled (now (dictionary .entry)) (now (dictionary .entry)) 0 (now (index .entry)) (now (index .exit)) known (range (now (dictionary .entry)) start end) r) ⌝ }
+    requires { ⌜ ((known : List (List ℕ)) × MayNumber (now dictionary) (now dictionary) 0 (now index) count start end known) ⌝ }
+    ensures { λ r. ⌜ ((known : List (List ℕ)) → MayNumber (now (dictionary .entry)) (now (dictionary .entry)) 0 (now (index .entry)) count start end known → Numbered (now (dictionary .entry)) (now (dictionary .entry)) 0 (now (index .entry)) (now (index .exit)) known (range (now (dictionary .entry)) start end) r) ⌝ }
 {
     let bucket = bucket_of(dictionary, start, end);
     let place = seek_name(dictionary, index, count, bucket, start, end);

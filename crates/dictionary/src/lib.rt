@@ -39,8 +39,8 @@ fn name_end(dictionary: &[u8], start: usize) -> usize
     end
 }
 
-// Checks the dictionary, and leaves the names of a good one in the index. Every name is labelled as it is come to: it is
-// different from those before exactly where its label is new.
+// Checks the dictionary, and leaves the names of a good one in the index. Every name is numbered as it is come to: it is
+// different from those before exactly where its number is new.
 pub fn learn_names(dictionary: &[u8], index: &mut [u16]) -> Checked
     requires { ⌜ Fresh (now index) ⌝ }
     ensures { λ r. ⌜ NamesLearnt (now (dictionary .entry)) (r .good) (r .names) (now (index .entry)) (now (index .exit)) ⌝ }
@@ -61,8 +61,8 @@ pub fn learn_names(dictionary: &[u8], index: &mut [u16]) -> Checked
         if MOST_NAMES <= names {
             return BAD;
         }
-        let label = index::learn(dictionary, index, names, start, end);
-        if label < names {
+        let number = index::learn(dictionary, index, names, start, end);
+        if number < names {
             return BAD;
         }
         start = end + 1;

@@ -14,8 +14,8 @@ use Rattle.meaning.specs.Calls.{Filled}
 use Rattle.labels.specs.Labelling.{Spells}
 use Rattle.rows.proofs.Large.{no-row}
 use Rattle.rows.proofs.Sizes.{sizes-tree}
-use Rattle.dictionary.specs.Labels.{placeOf, labelsOf}
-use Rattle.dictionary.proofs.Labels.{knownAfter, label-place, length-labels}
+use Rattle.dictionary.specs.Numbers.{placeOf, numbersOf}
+use Rattle.dictionary.proofs.Numbers.{knownAfter, number-place, length-numbers}
 use Rattle.document.specs.Reading.{spellingsOf}
 
 -- THE LABELS, in 01's words and as the tree's
@@ -36,13 +36,13 @@ getD-map-to g [] r h = absurd (omega arith)
 getD-map-to g (w ∷ ws) zero h = refl
 getD-map-to g (w ∷ ws) (suc r) h = getD-map-to g ws r (omega arith)
 
-labels-map : (ns ws : List (List ℕ)) → labelsOf ns ws ≡ map (placeOf (knownAfter ns ws)) ws
+labels-map : (ns ws : List (List ℕ)) → numbersOf ns ws ≡ map (placeOf (knownAfter ns ws)) ws
 labels-map ns ws =
-    ext-getD 0 (labelsOf ns ws) (map (placeOf (knownAfter ns ws)) ws) (length-labels ns ws ∙ sym (length-map ws (placeOf (knownAfter ns ws))))
-    (λ r h. let p : r < length ws = omega (arith, length-labels ns ws) in label-place ns ws r p .0 ∙ sym (getD-map-to (placeOf (knownAfter ns ws)) ws r p))
+    ext-getD 0 (numbersOf ns ws) (map (placeOf (knownAfter ns ws)) ws) (length-numbers ns ws ∙ sym (length-map ws (placeOf (knownAfter ns ws))))
+    (λ r h. let p : r < length ws = omega (arith, length-numbers ns ws) in number-place ns ws r p .0 ∙ sym (getD-map-to (placeOf (knownAfter ns ws)) ws r p))
 
 -- the tree's labels are those by first appearance in preorder
-pub tree-labels : (names : List (List ℕ)) (f : Content) → labels (treeOf names f) ≡ labelsOf names (spellingsOf f)
+pub tree-labels : (names : List (List ℕ)) (f : Content) → labels (treeOf names f) ≡ numbersOf names (spellingsOf f)
 tree-labels names f =
     labels-are (labelOf names f) f
     ∙ sym (labels-map names (spellingsOf f) ∙ map-twice (placeOf (knownAfter names (spellingsOf f))) (λ (x : Row). x .spelling ⊲ []) (rowsOf f))

@@ -11,8 +11,8 @@ use borrow.Author.Tests.{ltb-true, lt-ltb, le-leb}
 use Rattle.grammar.specs.Grammar.{_⊲_, Content}
 use Rattle.grammar.specs.Rows.{#, Row, rowsOf, starts, lengths}
 use Rattle.dictionary.specs.Names.{GoodDictionary}
-use Rattle.dictionary.specs.Labels.{labelsOf}
-use Rattle.dictionary.proofs.Labels.{knownAfter, length-labels, label-spelling, known-at}
+use Rattle.dictionary.specs.Numbers.{numbersOf}
+use Rattle.dictionary.proofs.Numbers.{knownAfter, length-numbers, number-spelling, known-at}
 use Rattle.dictionary.specs.Spelling.{partOfDictionary, partOfDocument, spellingOf, bytesOf, SpellingAnswered}
 use Rattle.dictionary.proofs.Parts.{name-bytes}
 use Rattle.document.specs.Reading.{spellingsOf, Spelt, Read}
@@ -21,7 +21,7 @@ use Rattle.document.proofs.Promises.{spelt}
 
 module _ {d w label start width : List ℕ} {names : List (List ℕ)} {f : Content} {rows row : ℕ} (g : GoodDictionary d names) (s : Spelt w label start width rows names f)
     (l : row < rows) (in-label : row < length label) (in-start : row < length start) (in-width : row < length width) where
-  its-label : getD label row 0 ≡ getD (labelsOf names (spellingsOf f)) row 0
+  its-label : getD label row 0 ≡ getD (numbersOf names (spellingsOf f)) row 0
   its-label = sym (getD-take rows label row 0 l) ∙ ap (λ (xs : List ℕ). getD xs row 0) (s .labelled)
 
   -- where the dictionary answers
@@ -30,7 +30,7 @@ module _ {d w label start width : List ℕ} {names : List (List ℕ)} {f : Conte
       name-bytes d names g (getD label row 0) p w
       ∙ sym (known-at names (spellingsOf f) (getD label row 0) p)
       ∙ ap (λ (k : ℕ). getD (knownAfter names (spellingsOf f)) k []) its-label
-      ∙ label-spelling names (spellingsOf f) row (omega (arith, s .all))
+      ∙ number-spelling names (spellingsOf f) row (omega (arith, s .all))
 
   -- where the document does
   by-document : bytesOf d w (partOfDocument w (getD start row 0) (getD width row 0)) ≡ getD (spellingsOf f) row []
@@ -71,7 +71,7 @@ lookup-is-read d w _ _ _ _ _ _ _ _ p n row dAt wAt at bytes r l x = go (cases r)
         let s = spelt g v y u in
         let k : length (rowsOf f) ≡ _ = sym (length-map (rowsOf f) (λ (x : Row). x .spelling ⊲ [])) ∙ s .all in
         looked-up g s l
-        (begun (labelsOf names (spellingsOf f)) label label' (u .label-is) (length-labels names (spellingsOf f) ∙ s .all) l)
+        (begun (numbersOf names (spellingsOf f)) label label' (u .label-is) (length-numbers names (spellingsOf f) ∙ s .all) l)
         (begun (starts f) start start' (u .start-is) (length-map (rowsOf f) (λ (x : Row). x .start) ∙ k) l)
         (begun (lengths f) width width' (u .width-is) (length-map (rowsOf f) (λ (x : Row). # (x .spelling)) ∙ k) l)
         x

@@ -16,9 +16,9 @@ use Rattle.judge.specs.Verdict.{Verdict}
 use Rattle.judge.proofs.OneVerdict.{one-verdict}
 use Rattle.dictionary.specs.Scan.{range}
 use Rattle.dictionary.specs.Names.{GoodDictionary}
-use Rattle.dictionary.specs.Labels.{labelsOf}
+use Rattle.dictionary.specs.Numbers.{numbersOf}
 use Rattle.dictionary.proofs.Names.{good-unique}
-use Rattle.dictionary.proofs.Labels.{length-labels, label-below}
+use Rattle.dictionary.proofs.Numbers.{length-numbers, number-below}
 use Rattle.document.specs.Reading.{spellingsOf, Unchanged, Written, Spelt, shortest, Read, DocumentChecked}
 use Rattle.document.proofs.Cases.{Cases, badDictionary, badDocument, noRoom, filled, cases, CheckCases, bad, judged, check-cases}
 use Rattle.document.proofs.Filling.{labelOf, treeOf, tree-labels, tree-sizes, rows-spell}
@@ -122,11 +122,11 @@ module _ {d w label size start width label' size' start' width' : List ℕ} {nam
   spellings-n : length (spellingsOf f) ≡ n
   spellings-n = length-map (rowsOf f) (λ (x : Row). x .spelling ⊲ []) ∙ rows-n
 
-  labels-n : length (labelsOf names (spellingsOf f)) ≡ n
-  labels-n = length-labels names (spellingsOf f) ∙ spellings-n
+  labels-n : length (numbersOf names (spellingsOf f)) ≡ n
+  labels-n = length-numbers names (spellingsOf f) ∙ spellings-n
 
   pub first-labels : take n label' ≡ labels (treeOf names f)
-  first-labels = ap (take n) (u .label-is) ∙ take-at (labelsOf names (spellingsOf f)) _ n labels-n ∙ sym (tree-labels names f)
+  first-labels = ap (take n) (u .label-is) ∙ take-at (numbersOf names (spellingsOf f)) _ n labels-n ∙ sym (tree-labels names f)
 
   pub first-sizes : take n size' ≡ sizes (treeOf names f)
   first-sizes =
@@ -155,9 +155,9 @@ module _ {d w label size start width label' size' start' width' : List ℕ} {nam
     where
       small : (i : ℕ) → i < length (take n label') → getD (take n label') i 0 < 65536
       small i h =
-          let e : take n label' ≡ labelsOf names (spellingsOf f) = first-labels ∙ tree-labels names f in
+          let e : take n label' ≡ numbersOf names (spellingsOf f) = first-labels ∙ tree-labels names f in
           let p : i < length (spellingsOf f) = omega (arith, ap length e, labels-n, spellings-n) in
-          rw e (omega (arith, label-below names (spellingsOf f) i p, g .few, spellings-n, whole v refl .few))
+          rw e (omega (arith, number-below names (spellingsOf f) i p, g .few, spellings-n, whole v refl .few))
 
   pub spelt : Spelt w label' start' width' n names f
   spelt = record {

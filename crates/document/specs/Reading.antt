@@ -8,7 +8,7 @@ use lib.ListN.{length, getD, take, drop}
 use Rattle.meaning.specs.Forest.{rows}
 use Rattle.grammar.specs.Grammar.{Bytes, _⊲_, Content, Document, OutsideAt}
 use Rattle.grammar.specs.Rows.{shape, Row, rowsOf, starts, lengths}
-use Rattle.dictionary.specs.Labels.{labelsOf}
+use Rattle.dictionary.specs.Numbers.{numbersOf}
 use Rattle.tree.specs.Rows.{sizes, depth}
 use Rattle.meaning.specs.Calls.{refuse, accept, Filled}
 use Rattle.dictionary.specs.Names.{GoodDictionary}
@@ -22,7 +22,7 @@ abbrev pub Unchanged : (label size start width label' size' start' width' : List
 Unchanged label size start width label' size' start' width' = (label' ≡ label) × (size' ≡ size) × (start' ≡ start) × (width' ≡ width)
 
 pub record Written (names : List (List ℕ)) (f : Content) (label size start width label' size' start' width' : List ℕ) : Type 0 where
-  pub label-is : Filled (labelsOf names (spellingsOf f)) label label'
+  pub label-is : Filled (numbersOf names (spellingsOf f)) label label'
   pub size-is : Filled (sizes (shape f)) size size'
   pub start-is : Filled (starts f) start start'
   pub width-is : Filled (lengths f) width width'
@@ -33,7 +33,7 @@ pub record Spelt (w label start width : List ℕ) (rows : ℕ) (names : List (Li
   pub all : length (spellingsOf f) ≡ rows
   pub inside : (row : ℕ) → row < rows → getD start row 0 + getD width row 0 ≤ length w
   pub bytes : (row : ℕ) → row < rows → take (getD width row 0) (drop (getD start row 0) w) ≡ getD (spellingsOf f) row []
-  pub labelled : take rows label ≡ labelsOf names (spellingsOf f)
+  pub labelled : take rows label ≡ numbersOf names (spellingsOf f)
 
 -- the shortest of the four lists
 abbrev pub shortest : List ℕ → List ℕ → List ℕ → List ℕ → ℕ

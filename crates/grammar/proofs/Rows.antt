@@ -9,7 +9,7 @@ use lib.Seq.{take-at, drop-at}
 use Rattle.meaning.specs.Forest.{Forest, none, some}
 use Rattle.tree.specs.Rows.{labels}
 use Rattle.grammar.specs.Grammar.{Bytes, _⊲_, Content, nothing, emptyElement, element, print, Document}
-use Rattle.grammar.specs.Rows.{inked, leaf, forest, #, width, Kind, ofElement, ofText, Row, row, leafRow, rowsFrom, rowsOf}
+use Rattle.grammar.specs.Rows.{inked, leaf, forest, #, width, Sort, ofElement, ofText, Row, row, leafRow, rowsFrom, rowsOf}
 use Rattle.grammar.proofs.Theory.{⊲-append}
 use Rattle.grammar.proofs.Positions.{len-⊲, len-print}
 
@@ -99,7 +99,7 @@ module _ {w : List ℕ} {a : ℕ} where
   pub behind-content : (f : Content) (v : List ℕ) → Stands w a (print f v) → Stands w (a + width f) v
   behind-content f v h = behind (print f []) v (width f) (len-print f [] ∙ omega arith) (rw (← (print-append f v)) h)
 
-  spelled-at : (q : Kind) (k : ℕ) (s : Bytes) (v : List ℕ) → Stands w a (s ⊲ v) → Spelled w (row q k a s)
+  spelled-at : (q : Sort) (k : ℕ) (s : Bytes) (v : List ℕ) → Stands w a (s ⊲ v) → Spelled w (row q k a s)
   spelled-at q k s v h = record {
     inside = omega (arith, ap length (h .is), length-append (h .before) (s ⊲ v), len-⊲ s v, h .long);
     is = ap (λ (x : List ℕ). take (# s) (drop a x)) (h .is ∙ ap (λ (y : List ℕ). h .before ++ y) (sym (⊲-append s [] v)))

@@ -1,4 +1,4 @@
--- A row's kind can be told from the document: the byte before an element's spelling is <, the one before a text is >.
+-- A row's sort can be told from the document: the byte before an element's spelling is <, the one before a text is >.
 use mathlib.Core.Path.{_≡_, refl, ap, _∙_}
 use mathlib.Core.Bool.{Bool, true, false, cond, true≢false}
 use mathlib.Core.List.{List, [], _∷_}
@@ -8,18 +8,18 @@ use lib.ListN.{length, getD}
 use lib.Seq.{getD-append-seam}
 use Rattle.grammar.specs.Grammar.{Bytes, ε, _▸_, _⊲_, less, greater, Content, nothing, emptyElement, element, print, Document}
 use Rattle.grammar.specs.Tokens.{Level, outer, inner, Run, WellFormed}
-use Rattle.grammar.specs.Rows.{inked, #, width, Kind, ofElement, ofText, Row, row, leafRow, rowsFrom, rowsOf}
+use Rattle.grammar.specs.Rows.{inked, #, width, Sort, ofElement, ofText, Row, row, leafRow, rowsFrom, rowsOf}
 use Rattle.grammar.proofs.InWords.{root-formed}
 use Rattle.grammar.proofs.Rows.{All, Stands, behind-byte, behind-bytes, behind-content}
 
 -- the byte before a row's spelling tells what the row is of: it is the < of an element's tag, or the > of the tag before a text
-abbrev pub before : Kind → ℕ
+abbrev pub before : Sort → ℕ
 before ofElement = less
 before ofText = greater
 
 pub record Preceded (w : List ℕ) (x : Row) : Type 0 where
   pub some : 0 < x .start
-  pub is : getD w (x .start - 1) 0 ≡ before (x .kind)
+  pub is : getD w (x .start - 1) 0 ≡ before (x .sort)
 
 -- the byte before a is a >
 record Ended (w : List ℕ) (a : ℕ) : Type 0 where

@@ -39,18 +39,18 @@ width (emptyElement f t n g) = width f + # t + 1 + # n + # g + 2
 width (element f t n g i l h) = width f + # t + 1 + # n + # g + 1 + width i + # l + 2 + # n + # h + 1
 
 -- a row is an element's or a text's
-pub data Kind : Type 0 where
-  ofElement ofText : Kind
+pub data Sort : Type 0 where
+  ofElement ofText : Sort
 
 -- a row: what it is of, how deep it is, the root being at 1, where its spelling starts in the document, and its spelling
 pub record Row : Type 0 where
-  pub kind : Kind
+  pub sort : Sort
   pub depth : ℕ
   pub start : ℕ
   pub spelling : Bytes
 
-abbrev pub row : Kind → ℕ → ℕ → Bytes → Row
-row q k a s = record { kind = q; depth = k; start = a; spelling = s }
+abbrev pub row : Sort → ℕ → ℕ → Bytes → Row
+row q k a s = record { sort = q; depth = k; start = a; spelling = s }
 
 -- the row of a run at a, if it is not dropped, and then r
 abbrev pub leafRow : ℕ → ℕ → Bytes → List Row → List Row

@@ -11,9 +11,9 @@ use lib.Seq.{take-suc}
 use Rattle.meaning.specs.Calls.{Filled}
 use Rattle.labels.proofs.Upto.{Upto, upto-more, upto-all}
 use Rattle.dictionary.specs.Scan.{range}
-use Rattle.dictionary.specs.Labels.{placeOf, learn, labelsOf}
-use Rattle.dictionary.proofs.Labels.{knownAfter, place-le, known-next, label-at, length-labels}
-use Rattle.dictionary.specs.Index.{Indexed, MayLabel, Labelled}
+use Rattle.dictionary.specs.Numbers.{placeOf, learn, numbersOf}
+use Rattle.dictionary.proofs.Numbers.{knownAfter, place-le, known-next, number-at, length-numbers}
+use Rattle.dictionary.specs.Index.{Indexed, MayNumber, Numbered}
 use Rattle.labels.specs.Labelling.{MayLabelRows}
 
 known-more : (ns ws : List (List ℕ)) (r : ℕ) → r < length ws → knownAfter ns (take (r + 1) ws) ≡ learn (knownAfter ns (take r ws)) (getD ws r [])
@@ -34,7 +34,7 @@ pub record LabelledTo (d w : List ℕ) (names : ℕ) (index₀ label₀ index la
   pub low : names ≤ count
   pub high : count ≤ names + row
   pub within : row ≤ rows
-  pub labelled : Upto (labelsOf known ws) label₀ row label
+  pub labelled : Upto (numbersOf known ws) label₀ row label
 
 module _ {d w : List ℕ} {names : ℕ} {index₀ label₀ start width : List ℕ} {rows : ℕ} {known ws : List (List ℕ)}
     (m : MayLabelRows d w names index₀ label₀ start width rows known ws) where
@@ -50,8 +50,8 @@ module _ {d w : List ℕ} {names : ℕ} {index₀ label₀ start width : List �
   }
 
   module _ {index label : List ℕ} {count row : ℕ} (k : LabelledTo d w names index₀ label₀ index label known ws rows count row) where
-    pub labels-end : rows ≤ row → Filled (labelsOf known ws) label₀ label
-    labels-end h = upto-all (k .labelled) (omega (arith, k .within, m .all, length-labels known ws))
+    pub labels-end : rows ≤ row → Filled (numbersOf known ws) label₀ label
+    labels-end h = upto-all (k .labelled) (omega (arith, k .within, m .all, length-numbers known ws))
 
     module _ (here : row < rows) {from to : ℕ} (is-from : from ≡ getD start row 0) (is-to : to ≡ from + getD width row 0) where
       to-is : to ≡ getD start row 0 + getD width row 0
@@ -63,7 +63,7 @@ module _ {d w : List ℕ} {names : ℕ} {index₀ label₀ start width : List �
       pub from-short : getD start row 0 + getD width row 0 ≤ 32768
       from-short = omega (arith, m .spells row here .inside, m .short)
 
-      pub may-label : MayLabel d w names index count from to (knownAfter known (take row ws))
+      pub may-label : MayNumber d w names index count from to (knownAfter known (take row ws))
       may-label = record {
         indexed = k .indexed;
         counted = k .counted;
@@ -78,7 +78,7 @@ module _ {d w : List ℕ} {names : ℕ} {index₀ label₀ start width : List �
       spelling : range w from to ≡ getD ws row []
       spelling = rw (to-is, is-from) (m .spells row here .is)
 
-      module _ {index' : List ℕ} {found : ℕ} (done : Labelled d w names index index' (knownAfter known (take row ws)) (range w from to) found) where
+      module _ {index' : List ℕ} {found : ℕ} (done : Numbered d w names index index' (knownAfter known (take row ws)) (range w from to) found) where
         place : found ≡ placeOf (knownAfter known (take row ws)) (getD ws row [])
         place = done .placed ∙ ap (placeOf (knownAfter known (take row ws))) spelling
 
@@ -103,8 +103,8 @@ module _ {d w : List ℕ} {names : ℕ} {index₀ label₀ start width : List �
           low = bounds (ltb found count) e .0;
           high = bounds (ltb found count) e .1;
           within = omega arith;
-          labelled = upto-more (k .labelled) (omega (arith, here, m .room-label)) (omega (arith, length-labels known ws, in-ws))
-              (label-at known ws row in-ws ∙ sym place) refl;
+          labelled = upto-more (k .labelled) (omega (arith, here, m .room-label)) (omega (arith, length-numbers known ws, in-ws))
+              (number-at known ws row in-ws ∙ sym place) refl;
         }
           where
             bounds : (t : Bool) → count' ≡ cond t count (count + 1) → (names ≤ count') × (count' ≤ names + (row + 1))

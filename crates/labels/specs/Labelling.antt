@@ -5,7 +5,7 @@ use Prim.Native.Nat.{ℕ, _+_, _≤_, _<_}
 use lib.ListN.{length, getD}
 use Rattle.meaning.specs.Calls.{Filled}
 use Rattle.dictionary.specs.Scan.{range}
-use Rattle.dictionary.specs.Labels.{labelsOf}
+use Rattle.dictionary.specs.Numbers.{numbersOf}
 use Rattle.dictionary.specs.Index.{Indexed}
 
 -- a row's spelling is the document's from its start on, so many bytes
@@ -30,4 +30,4 @@ pub record MayLabelRows (d w : List ℕ) (names : ℕ) (index label start width 
 abbrev pub LabelsRows : (d w : List ℕ) (names : ℕ) (index label start width : List ℕ) (rows : ℕ) (label' : List ℕ) → Type 0
 LabelsRows d w names index label start width rows label' =
     (known spellings : List (List ℕ)) → MayLabelRows d w names index label start width rows known spellings →
-    Filled (labelsOf known spellings) label label'
+    Filled (numbersOf known spellings) label label'

@@ -52,7 +52,7 @@ pub fn copy_rows(
     copy(sizes, size, rows);
 }
 
-// How many spellings are known after a label was found: a label that is not among them is new.
+// How many spellings are known after a number was found: a number that is not among them is new.
 fn known(count: usize, found: usize) -> usize
     requires { ⌜ count ≤ 65535 ⌝ }
     ensures { λ r. ⌜ r ≡ cond (ltb found count) count (count + 1) ⌝ }
@@ -78,7 +78,15 @@ pub fn label_rows(
     while row < rows {
         let from = number(start, row);
         let to = from + number(length, row);
-        let found = dictionary::index::label(dictionary, document, names, index, count, from, to);
+        let found = dictionary::index::number_of(
+            dictionary,
+            document,
+            names,
+            index,
+            count,
+            from,
+            to,
+        );
         label[row] = found as u32;
         count = known(count, found);
         row += 1;

@@ -14,7 +14,7 @@ use Rattle.pattern.specs.Rows.{GoodPattern}
 use Rattle.grammar.specs.Grammar.{Bytes, Content, Document}
 use Rattle.grammar.specs.Rows.{forest, shape}
 use Rattle.dictionary.specs.Names.{GoodDictionary, NamesOf}
-use Rattle.dictionary.specs.Labels.{labelsOf}
+use Rattle.dictionary.specs.Numbers.{numbersOf}
 use Rattle.dictionary.specs.Spelling.{spellingOf, bytesOf, IsPart, PartAnswered, standsAt, SpellingAnswered}
 use Rattle.document.specs.Reading.{spellingsOf, Read, Written, Spelt}
 use Rattle.expression.specs.Expression.{Expression}
@@ -33,7 +33,7 @@ pub record TreeRead : Type 0 where
       → GoodDictionary d names → Document w f t → Written names f l s b n l' s' b' n'
   pub one : {w : List ℕ} {f g : Content} {t u : Bytes} → Document w f t → Document w g u → f ≡ g
   -- the labels, which go by the rows, and the sizes, which go by the shape, are those of one tree: the content's, with a label for each spelling
-  pub one-tree : (names : List (List ℕ)) (f : Content) → (label : Bytes → ℕ) × (labelsOf names (spellingsOf f) ≡ labels (forest label f none)) × (sizes (shape f) ≡ sizes (forest label f none))
+  pub one-tree : (names : List (List ℕ)) (f : Content) → (label : Bytes → ℕ) × (numbersOf names (spellingsOf f) ≡ labels (forest label f none)) × (sizes (shape f) ≡ sizes (forest label f none))
   -- its tree is good: it is never refused as 11
   pub taken : (d w l s b n l' s' b' n' : List ℕ) (place rows : ℕ) → Read d w l s b n l' s' b' n' 0 place rows → GoodRows (take rows l') (take rows s')
   pub spelt : (d w l s b n l' s' b' n' : List ℕ) (place rows : ℕ) (names : List (List ℕ)) (f : Content) (t : Bytes) → Read d w l s b n l' s' b' n' 0 place rows

@@ -4,7 +4,7 @@ use Prim.Native.Nat.{_-_}
 use native.Mathlib.Omega.{arith}
 use lib.ListN.{length, take}
 use Rattle.dictionary.specs.Scan.{range, pieces}
-use Rattle.dictionary.specs.Index.{Labelled}
+use Rattle.dictionary.specs.Index.{Numbered}
 use Rattle.dictionary.proofs.Learning.{Learning, Turn, learning-begins, learning-ends, learning-next, may-learn, refused-long, refused-end, refused-empty, refused-many, refused-twice}
 use Rattle.dictionary.proofs.learn_names.Statement.{statement}
 use Rattle.dictionary.proofs.learn_names.Tie as tie
@@ -29,7 +29,7 @@ turn : (c : tie.After-name-end Inv-loop μ-loop) →
 turn c = record { learning = c .before .before .loop .inv; here = c .before .loop-test .taken; is-end = c .name-end .ensures .0; inside = c .name-end .ensures .1 }
 
 learnt : (c : tie.After-learn Inv-loop μ-loop) →
-    Labelled (c .before .before .before .before .before .before .before .before .before .before .before .args .dictionary .now) (c .before .before .before .before .before .before .before .before .before .before .before .args .dictionary .now) 0 (c .before .before .before .before .before .before .before .loop .index) (c .learn .last .1 .0) (take (c .before .before .before .before .before .before .before .loop .names) (pieces (c .before .before .before .before .before .before .before .before .before .before .before .args .dictionary .now)))
+    Numbered (c .before .before .before .before .before .before .before .before .before .before .before .args .dictionary .now) (c .before .before .before .before .before .before .before .before .before .before .before .args .dictionary .now) 0 (c .before .before .before .before .before .before .before .loop .index) (c .learn .last .1 .0) (take (c .before .before .before .before .before .before .before .loop .names) (pieces (c .before .before .before .before .before .before .before .before .before .before .before .args .dictionary .now)))
     (range (c .before .before .before .before .before .before .before .before .before .before .before .args .dictionary .now) (c .before .before .before .before .before .before .before .loop .start) (c .before .before .before .before .before .name-end .result)) (c .learn .result)
 learnt c = c .learn .ensures _ (may-learn (turn (c .before .before .before .before .before)) (omega arith))
 

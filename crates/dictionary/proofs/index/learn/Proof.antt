@@ -3,7 +3,7 @@ use Prim.Native.Nat.{_<_}
 use native.Mathlib.Omega.{arith}
 use Rattle.dictionary.specs.Scan.{range}
 use Rattle.dictionary.proofs.Buckets.{bucket-below}
-use Rattle.dictionary.proofs.Insert.{labelled-old, labelled-new}
+use Rattle.dictionary.proofs.Insert.{numbered-old, numbered-new}
 use borrow.Author.Needs.{needs}
 use Rattle.dictionary.proofs.index.learn.Statement.{statement}
 use Rattle.dictionary.proofs.index.learn.Tie as tie
@@ -18,7 +18,7 @@ same-length : tie.Need-same-length
 same-length c = search needs
 
 returns : tie.Need-returns
-returns c = λ known m. labelled-old m (c .before .seek-name .ensures known m) (c .if1 .taken)
+returns c = λ known m. numbered-old m (c .before .seek-name .ensures known m) (c .if1 .taken)
 
 insert-requires : tie.Need-insert-requires
 insert-requires c κs =
@@ -30,7 +30,7 @@ same-length-2 : tie.Need-same-length-2
 same-length-2 c = search needs
 
 returns-2 : tie.Need-returns-2
-returns-2 c = λ known m. labelled-new m (c .before .before .before .before .before .seek-name .ensures known m) (c .before .before .before .before .if1 .left) (c .before .before .before .before .before .before .before .bucket-of .ensures) (c .before .before .insert .ensures)
+returns-2 c = λ known m. numbered-new m (c .before .before .before .before .before .seek-name .ensures known m) (c .before .before .before .before .if1 .left) (c .before .before .before .before .before .before .before .bucket-of .ensures) (c .before .before .insert .ensures)
 
 pub learn-spec : {M : Type 1} → statement M
 learn-spec =

@@ -3,7 +3,7 @@ use mathlib.Core.List.{List}
 use Prim.Native.Nat.{ℕ, _-_, _<_}
 use native.Mathlib.Omega.{arith}
 use Rattle.dictionary.specs.Scan.{range}
-use Rattle.dictionary.specs.Index.{MayLabel}
+use Rattle.dictionary.specs.Index.{MayNumber}
 use Rattle.dictionary.proofs.Buckets.{bucket-below}
 use Rattle.dictionary.proofs.Chains.{Sought, seek-begins, seek-place, seek-falls, seek-found, seek-next, seek-ends}
 use borrow.Author.Needs.{needs}
@@ -12,7 +12,7 @@ use Rattle.dictionary.proofs.index.seek.Tie as tie
 
 abbrev Inv-loop : tie.InvT-loop
 Inv-loop dictionary document names index count bucket start end next₀ next =
-    (known : List (List ℕ)) → MayLabel dictionary document names index count start end known → Sought known (range document start end) next
+    (known : List (List ℕ)) → MayNumber dictionary document names index count start end known → Sought known (range document start end) next
 
 abbrev μ-loop : tie.MeasureT-loop
 μ-loop dictionary document names index count bucket start end next₀ next = next

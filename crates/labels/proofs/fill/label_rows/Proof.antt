@@ -1,6 +1,6 @@
 use Rattle.dictionary.specs.Scan.{range}
-use Rattle.dictionary.proofs.Labels.{knownAfter}
-use Rattle.dictionary.specs.Index.{MayLabel, Labelled}
+use Rattle.dictionary.proofs.Numbers.{knownAfter}
+use Rattle.dictionary.specs.Index.{MayNumber, Numbered}
 use Prim.Native.Nat.{ℕ, _+_, _-_, _≤_}
 use mathlib.Core.Path.{_≡_, ap}
 use mathlib.Core.List.{List}
@@ -40,20 +40,20 @@ end n = ap (λ (m : ℕ). n .before .number .result + m) (n .number2 .ensures)
 asked : (n : tie.After-number2 Inv-loop μ-loop) {known ws : List (List ℕ)} → Given (head n) known ws →
     let a = begun (head n) .args in
     let l = head n .loop in
-    MayLabel (a .dictionary .now) (a .document .now) (a .names) (l .index) (l .count) (n .before .number .result) (n .before .number .result + n .number2 .result)
+    MayNumber (a .dictionary .now) (a .document .now) (a .names) (l .index) (l .count) (n .before .number .result) (n .before .number .result + n .number2 .result)
     (knownAfter known (take (l .row) ws))
 asked n {known} {ws} m = may-label m (head n .loop .inv known ws m) (n .before .before .loop-test .taken) (n .before .number .ensures) (end n)
 
--- what `label` did, whatever is known
+-- what `number_of` did, whatever is known
 done : (c : tie.After-slice-known3 Inv-loop μ-loop) {known ws : List (List ℕ)} → Given (head (numbers c)) known ws →
     let n = numbers c in
     let a = begun (head n) .args in
     let l = head n .loop in
-    Labelled (a .dictionary .now) (a .document .now) (a .names) (l .index) (c .before .before .label .last .1 .1 .1 .0) (knownAfter known (take (l .row) ws))
-    (range (a .document .now) (n .before .number .result) (n .before .number .result + n .number2 .result)) (c .before .before .label .result)
-done c m = c .before .before .label .ensures _ (asked (numbers c) m)
+    Numbered (a .dictionary .now) (a .document .now) (a .names) (l .index) (c .before .before .number-of .last .1 .1 .1 .0) (knownAfter known (take (l .row) ws))
+    (range (a .document .now) (n .before .number .result) (n .before .number .result + n .number2 .result)) (c .before .before .number-of .result)
+done c m = c .before .before .number-of .ensures _ (asked (numbers c) m)
 
-few : (c : tie.After-slice-known3 Inv-loop μ-loop) → (c .before .before .label .result ≤ head (numbers c) .loop .count) × (head (numbers c) .loop .count ≤ 3071)
+few : (c : tie.After-slice-known3 Inv-loop μ-loop) → (c .before .before .number-of .result ≤ head (numbers c) .loop .count) × (head (numbers c) .loop .count ≤ 3071)
 few c =
     let n = numbers c in
     let m = begun (head n) .pre .2 in
@@ -76,8 +76,8 @@ add-to c =
     let m = begun (head c) .pre .2 in
     omega (arith, from-short m (head c .loop .inv _ _ m) (c .before .before .loop-test .taken) (c .before .number .ensures) (end c), c .before .number .ensures, c .number2 .ensures)
 
-label-requires : tie.Need-label-requires Inv-loop μ-loop
-label-requires c κs = (_, asked (c .before) (begun (head (c .before)) .pre .2))
+number-of-requires : tie.Need-number-of-requires Inv-loop μ-loop
+number-of-requires c κs = (_, asked (c .before) (begun (head (c .before)) .pre .2))
 
 cast-label : tie.Need-cast-label Inv-loop μ-loop
 cast-label c = omega (arith, few c .0, few c .1)
@@ -124,7 +124,7 @@ label-rows-spec =
     number-requires
     number-requires-2
     add-to
-    label-requires
+    number-of-requires
     cast-label
     mul-label
     slice-write-label

@@ -1,4 +1,5 @@
--- 01, "From document to tree": "A spelling in the dictionary has its place there, from 0, as label; another gets K, K+1, .. by first appearance in preorder."
+-- 01, "From document to tree": "A spelling in the dictionary has its place there, from 0, as label; another gets K, K+1, .. by first
+-- appearance in preorder." Here it is the spelling's number.
 use mathlib.Core.Bool.{Bool, true, false, cond, _&&_}
 use mathlib.Core.List.{List, [], _∷_, _++_}
 use Prim.Native.Nat.{ℕ, suc}
@@ -20,8 +21,8 @@ placeOf (n ∷ ns) w = cond (sameBytes n w) 0 (suc (placeOf ns w))
 abbrev pub learn : List (List ℕ) → List ℕ → List (List ℕ)
 learn known w = cond (ltb (placeOf known w) (length known)) known (known ++ (w ∷ []))
 
--- the labels of the rows whose spellings in preorder are given; at first the names are known.
--- Elements and texts alike: a label depends on the spelling alone.
-abbrev pub labelsOf : List (List ℕ) → List (List ℕ) → List ℕ
-labelsOf names [] = []
-labelsOf names (w ∷ ws) = placeOf names w ∷ labelsOf (learn names w) ws
+-- the numbers of the rows whose spellings in preorder are given; at first the names are known.
+-- Elements and texts alike: a number depends on the spelling alone.
+abbrev pub numbersOf : List (List ℕ) → List (List ℕ) → List ℕ
+numbersOf names [] = []
+numbersOf names (w ∷ ws) = placeOf names w ∷ numbersOf (learn names w) ws

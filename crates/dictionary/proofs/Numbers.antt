@@ -1,4 +1,4 @@
--- Equal spellings have equal labels and different spellings different ones; how the next label is found.
+-- Equal spellings have equal numbers and different spellings different ones; how the next number is found.
 use mathlib.Core.Path.{_≡_, refl, sym, ap, _∙_}
 use mathlib.Core.Bool.{Bool, true, false, cond, _&&_, true≢false}
 use mathlib.Core.List.{List, [], _∷_, _++_}
@@ -8,7 +8,7 @@ use lib.Dec.{eqb, ltb}
 use lib.ListN.{length, getD, take, length-append}
 use lib.Seq.{length-take-le, getD-take}
 use borrow.Author.Tests.{eqb-true, eq-eqb, ltb-true, ltb-false, lt-ltb, le-ltb}
-use Rattle.dictionary.specs.Labels.{sameBytes, placeOf, learn, labelsOf}
+use Rattle.dictionary.specs.Numbers.{sameBytes, placeOf, learn, numbersOf}
 
 -- what is known after all of these: the names of the dictionary, then each new spelling where it first appears
 abbrev pub knownAfter : List (List ℕ) → List (List ℕ) → List (List ℕ)
@@ -138,40 +138,40 @@ known-keeps ns (x ∷ ws) w h =
     known-keeps (learn ns x) ws w (omega (arith, learn-size ns x)) in
     (r .0 ∙ k, r .1)
 
--- THE LABEL OF A ROW is the place of its spelling among all that are known in the end
-pub label-place : (ns ws : List (List ℕ)) (r : ℕ) → r < length ws →
-    (getD (labelsOf ns ws) r 0 ≡ placeOf (knownAfter ns ws) (getD ws r [])) × (getD (labelsOf ns ws) r 0 < length (knownAfter ns ws))
-label-place ns [] r h = absurd (omega arith)
-label-place ns (w ∷ ws) zero h =
+-- THE NUMBER OF A ROW is the place of its spelling among all that are known in the end
+pub number-place : (ns ws : List (List ℕ)) (r : ℕ) → r < length ws →
+    (getD (numbersOf ns ws) r 0 ≡ placeOf (knownAfter ns ws) (getD ws r [])) × (getD (numbersOf ns ws) r 0 < length (knownAfter ns ws))
+number-place ns [] r h = absurd (omega arith)
+number-place ns (w ∷ ws) zero h =
     let k : (placeOf (learn ns w) w ≡ placeOf ns w) × (placeOf ns w < length (learn ns w)) = learn-finds ns w in
     let e : (placeOf (knownAfter (learn ns w) ws) w ≡ placeOf (learn ns w) w) × (placeOf (knownAfter (learn ns w) ws) w < length (knownAfter (learn ns w) ws)) =
     known-keeps (learn ns w) ws w (omega (arith, k)) in
     (sym (e .0 ∙ k .0), omega (arith, e, k))
-label-place ns (w ∷ ws) (suc r) h = label-place (learn ns w) ws r (omega arith)
+number-place ns (w ∷ ws) (suc r) h = number-place (learn ns w) ws r (omega arith)
 
-pub length-labels : (ns ws : List (List ℕ)) → length (labelsOf ns ws) ≡ length ws
-length-labels ns [] = refl
-length-labels ns (w ∷ ws) = ap suc (length-labels (learn ns w) ws)
+pub length-numbers : (ns ws : List (List ℕ)) → length (numbersOf ns ws) ≡ length ws
+length-numbers ns [] = refl
+length-numbers ns (w ∷ ws) = ap suc (length-numbers (learn ns w) ws)
 
-pub label-below : (ns ws : List (List ℕ)) (r : ℕ) → r < length ws → getD (labelsOf ns ws) r 0 < length ns + length ws
-label-below ns ws r h = omega (arith, known-size ns ws, label-place ns ws r h .1)
+pub number-below : (ns ws : List (List ℕ)) (r : ℕ) → r < length ws → getD (numbersOf ns ws) r 0 < length ns + length ws
+number-below ns ws r h = omega (arith, known-size ns ws, number-place ns ws r h .1)
 
-pub label-spelling : (ns ws : List (List ℕ)) (r : ℕ) → r < length ws → getD (knownAfter ns ws) (getD (labelsOf ns ws) r 0) [] ≡ getD ws r []
-label-spelling ns ws r h =
-    let p : (getD (labelsOf ns ws) r 0 ≡ placeOf (knownAfter ns ws) (getD ws r [])) × (getD (labelsOf ns ws) r 0 < length (knownAfter ns ws)) = label-place ns ws r h in
+pub number-spelling : (ns ws : List (List ℕ)) (r : ℕ) → r < length ws → getD (knownAfter ns ws) (getD (numbersOf ns ws) r 0) [] ≡ getD ws r []
+number-spelling ns ws r h =
+    let p : (getD (numbersOf ns ws) r 0 ≡ placeOf (knownAfter ns ws) (getD ws r [])) × (getD (numbersOf ns ws) r 0 < length (knownAfter ns ws)) = number-place ns ws r h in
     ap (λ (i : ℕ). getD (knownAfter ns ws) i []) (p .0) ∙ place-is (knownAfter ns ws) (getD ws r []) (omega (arith, p))
 
--- THE PROMISES: equal spellings, equal labels; and the other way round
+-- THE PROMISES: equal spellings, equal numbers; and the other way round
 module _ (ns ws : List (List ℕ)) (r s : ℕ) (in-r : r < length ws) (in-s : s < length ws) where
-  pub equal-labels : getD ws r [] ≡ getD ws s [] → getD (labelsOf ns ws) r 0 ≡ getD (labelsOf ns ws) s 0
-  equal-labels e = label-place ns ws r in-r .0 ∙ ap (placeOf (knownAfter ns ws)) e ∙ sym (label-place ns ws s in-s .0)
+  pub equal-numbers : getD ws r [] ≡ getD ws s [] → getD (numbersOf ns ws) r 0 ≡ getD (numbersOf ns ws) s 0
+  equal-numbers e = number-place ns ws r in-r .0 ∙ ap (placeOf (knownAfter ns ws)) e ∙ sym (number-place ns ws s in-s .0)
 
-  pub equal-spellings : getD (labelsOf ns ws) r 0 ≡ getD (labelsOf ns ws) s 0 → getD ws r [] ≡ getD ws s []
-  equal-spellings e = sym (label-spelling ns ws r in-r) ∙ ap (λ (i : ℕ). getD (knownAfter ns ws) i []) e ∙ label-spelling ns ws s in-s
+  pub equal-spellings : getD (numbersOf ns ws) r 0 ≡ getD (numbersOf ns ws) s 0 → getD ws r [] ≡ getD ws s []
+  equal-spellings e = sym (number-spelling ns ws r in-r) ∙ ap (λ (i : ℕ). getD (knownAfter ns ws) i []) e ∙ number-spelling ns ws s in-s
 
--- a spelling in the dictionary has its place there; another has a label of K or more
-pub label-name : (ns ws : List (List ℕ)) (r : ℕ) → r < length ws → placeOf ns (getD ws r []) < length ns → getD (labelsOf ns ws) r 0 ≡ placeOf ns (getD ws r [])
-label-name ns ws r h k = label-place ns ws r h .0 ∙ known-keeps ns ws (getD ws r []) k .0
+-- a spelling in the dictionary has its place there; another has a number of K or more
+pub number-name : (ns ws : List (List ℕ)) (r : ℕ) → r < length ws → placeOf ns (getD ws r []) < length ns → getD (numbersOf ns ws) r 0 ≡ placeOf ns (getD ws r [])
+number-name ns ws r h k = number-place ns ws r h .0 ∙ known-keeps ns ws (getD ws r []) k .0
 
 -- a name keeps its place while spellings are learnt
 learn-at : (ns : List (List ℕ)) (x : List ℕ) (i : ℕ) → i < length ns → getD (learn ns x) i [] ≡ getD ns i []
@@ -186,24 +186,24 @@ pub known-at : (ns ws : List (List ℕ)) (i : ℕ) → i < length ns → getD (k
 known-at ns [] i h = refl
 known-at ns (w ∷ ws) i h = known-at (learn ns w) ws i (omega (arith, learn-size ns w)) ∙ learn-at ns w i h
 
-pub label-new : (ns ws : List (List ℕ)) (r : ℕ) → r < length ws → ((i : ℕ) → i < length ns → getD ns i [] ≡ getD ws r [] → ⊥) → length ns ≤ getD (labelsOf ns ws) r 0
-label-new ns ws r h k = go (ltb (getD (labelsOf ns ws) r 0) (length ns)) refl
+pub number-new : (ns ws : List (List ℕ)) (r : ℕ) → r < length ws → ((i : ℕ) → i < length ns → getD ns i [] ≡ getD ws r [] → ⊥) → length ns ≤ getD (numbersOf ns ws) r 0
+number-new ns ws r h k = go (ltb (getD (numbersOf ns ws) r 0) (length ns)) refl
   where
-    go : (t : Bool) → ltb (getD (labelsOf ns ws) r 0) (length ns) ≡ t → length ns ≤ getD (labelsOf ns ws) r 0
+    go : (t : Bool) → ltb (getD (numbersOf ns ws) r 0) (length ns) ≡ t → length ns ≤ getD (numbersOf ns ws) r 0
     go true e =
-        let below : getD (labelsOf ns ws) r 0 < length ns = ltb-true _ _ e in
-        absurd (k (getD (labelsOf ns ws) r 0) below (sym (known-at ns ws _ below) ∙ label-spelling ns ws r h))
+        let below : getD (numbersOf ns ws) r 0 < length ns = ltb-true _ _ e in
+        absurd (k (getD (numbersOf ns ws) r 0) below (sym (known-at ns ws _ below) ∙ number-spelling ns ws r h))
     go false e = ltb-false _ _ e
 
--- ROW BY ROW, as the reader labels: what is known learns the next spelling, and a label is the place among what is known before it
+-- ROW BY ROW, as the reader goes: what is known learns the next spelling, and a number is the place among what is known before it
 pub known-next : (ns ws : List (List ℕ)) (w : List ℕ) → knownAfter ns (ws ++ (w ∷ [])) ≡ learn (knownAfter ns ws) w
 known-next ns [] w = refl
 known-next ns (x ∷ ws) w = known-next (learn ns x) ws w
 
-pub label-at : (ns ws : List (List ℕ)) (r : ℕ) → r < length ws → getD (labelsOf ns ws) r 0 ≡ placeOf (knownAfter ns (take r ws)) (getD ws r [])
-label-at ns [] r h = absurd (omega arith)
-label-at ns (w ∷ ws) zero h = refl
-label-at ns (w ∷ ws) (suc r) h = label-at (learn ns w) ws r (omega arith)
+pub number-at : (ns ws : List (List ℕ)) (r : ℕ) → r < length ws → getD (numbersOf ns ws) r 0 ≡ placeOf (knownAfter ns (take r ws)) (getD ws r [])
+number-at ns [] r h = absurd (omega arith)
+number-at ns (w ∷ ws) zero h = refl
+number-at ns (w ∷ ws) (suc r) h = number-at (learn ns w) ws r (omega arith)
 
 -- a spelling that is in neither is in nothing that is learnt of them
 learn-other : (ns : List (List ℕ)) (x w : List ℕ) → (x ≡ w → ⊥) → length ns ≤ placeOf ns w → length (learn ns x) ≤ placeOf (learn ns x) w
@@ -223,10 +223,10 @@ known-other ns [] w h k = omega (arith, place-le ns w)
 known-other ns (x ∷ ws) w h k = known-other (learn ns x) ws w (λ i p e. h (suc i) (omega arith) e) (learn-other ns x w (h 0 (omega arith)) k)
 
 -- a spelling that first appears at a row, and in no name, gets the next number: K and one for each new spelling before it
-pub label-first : (ns ws : List (List ℕ)) (r : ℕ) → r < length ws → ((i : ℕ) → i < length ns → getD ns i [] ≡ getD ws r [] → ⊥) →
-    ((i : ℕ) → i < r → getD ws i [] ≡ getD ws r [] → ⊥) → getD (labelsOf ns ws) r 0 ≡ length (knownAfter ns (take r ws))
-label-first ns ws r h new first =
+pub number-first : (ns ws : List (List ℕ)) (r : ℕ) → r < length ws → ((i : ℕ) → i < length ns → getD ns i [] ≡ getD ws r [] → ⊥) →
+    ((i : ℕ) → i < r → getD ws i [] ≡ getD ws r [] → ⊥) → getD (numbersOf ns ws) r 0 ≡ length (knownAfter ns (take r ws))
+number-first ns ws r h new first =
     let size : length (take r ws) ≡ r = length-take-le r ws (omega arith) in
     let none : placeOf ns (getD ws r []) ≡ length ns = place-none ns (getD ws r []) new in
-    label-at ns ws r h
+    number-at ns ws r h
     ∙ known-other ns (take r ws) (getD ws r []) (λ i p e. first i (omega arith) (sym (getD-take r ws i [] (omega arith)) ∙ e)) (omega arith)
