@@ -11,15 +11,16 @@ enum { ROWS = KHARGOVSUN_MAX_ROWS, PAGE = 10, WIDTH = 4, BUDGET = 100000 };
 static const uint8_t NAMES[] = "g\nf\nh\na\nb\n";
 static const khargovsun_bytes DICTIONARY = {NAMES, sizeof NAMES - 1};
 
-/* The query: any context over an f with any arguments, `context 0 over f(sequence 1)`, without constraints. */
+/* The query: any context over an f with any arguments, `context 0 over f(sequence 1)`, without constraints. f is the dictionary's name 1; the word f is
+ * not asked for. */
 static const uint32_t KIND[] = {KHARGOVSUN_KIND_CONTEXT, KHARGOVSUN_KIND_SYMBOL, KHARGOVSUN_KIND_SEQUENCE};
-static const uint32_t NAME[] = {0, 1, 1}, SIZE[] = {3, 2, 1}, FREE[] = {0, 0, 0, 0};
+static const uint32_t NAME[] = {0, KHARGOVSUN_ELEMENT(1), 1}, SIZE[] = {3, 2, 1}, FREE[] = {0, 0, 0, 0};
 
 static uint8_t input[KHARGOVSUN_MAX_DOCUMENT_BYTES + 1]; /* one byte more than is allowed, so that a longer document is refused and not cut */
 static uint32_t label[ROWS], size[ROWS], start[ROWS], length[ROWS];
 
 /* In rows that were read a row is spelt by the document from its start on, as many bytes as its length, also where the dictionary has
- * the name: proved, LookupIsRead in crates/document/specs/Promises.antt. So no call, and no check of the dictionary, is needed for it. */
+ * the name: proved, `looked-up` in crates/promises/specs/Answers.antt. So no call, and no check of the dictionary, is needed for it. */
 static void spell(uint32_t row) {
     printf(" %.*s", (int)length[row], (const char *)input + start[row]);
 }

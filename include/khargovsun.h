@@ -31,6 +31,16 @@
 #define KHARGOVSUN_MAX_EXPRESSION_ROWS 64
 #define KHARGOVSUN_LABELS 65536 /* labels and symbols are below this */
 
+/* ---- Labels ----
+ *
+ * Every spelling has a number: its place in the dictionary, from 0, or the next number behind the names by first appearance in the document. The label
+ * of a row, and so of a symbol in a pattern or an expression, is twice the number for an element and one more for a text. */
+
+#define KHARGOVSUN_ELEMENT(number) (2 * (number)) /* the label of the element whose spelling has this number */
+#define KHARGOVSUN_TEXT(number) (2 * (number) + 1)
+#define KHARGOVSUN_NUMBER(label) ((label) / 2)
+#define KHARGOVSUN_IS_TEXT(label) ((label) % 2)
+
 /* ---- Codes ---- */
 
 #define KHARGOVSUN_CODE_NONE 0 /* no refusal */
@@ -140,15 +150,15 @@ typedef struct {
     uint32_t source, start, length; /* length bytes from start of the dictionary or of the document */
 } khargovsun_part;
 
-/* Where a row's spelling stands: in the dictionary, without its byte 10, if the row's label is below the number of names; else the document
- * is to answer, by the row's start and length. Writes nothing. It has no code: a row beyond any of the three lists or, where the document
- * is to answer, a range outside the document gives the document's part of start 0 and length 0. A bad dictionary counts as one without
- * names.
+/* Where a row's spelling stands: in the dictionary, without its byte 10, if half the row's label, rounded down, is below the number of names,
+ * for an element and a text alike; else the document is to answer, by the row's start and length. Any label may be given. Writes nothing. It has
+ * no code: a row beyond any of the three lists or, where the document is to answer, a range outside the document gives the document's part
+ * of start 0 and length 0. A bad dictionary counts as one without names.
  *
  * Each call checks the whole dictionary, since nothing is kept: the time is linear in it. Measured in one run (Arm, -O3), names of 16 bytes
- * with their byte 10: 0.1 microseconds with 5 of them, 11 to 19 with 1,024 (the most names and bytes that there may be). For rows as khargovsun_read wrote them no call is
- * needed: whichever side answers, the bytes are those of the document from start[row] on, length[row] of them (proved: LookupIsRead in
- * crates/document/specs/Promises.antt). */
+ * with their byte 10: 0.1 microseconds with 5 of them, 11 to 19 with 1,024 (the most names and bytes that there may be). For rows as
+ * khargovsun_read wrote them no call is needed: whichever side answers, the bytes are those of the document from start[row] on, length[row] of
+ * them (proved: `looked-up` in crates/promises/specs/Answers.antt). */
 khargovsun_part khargovsun_spelling(const uint8_t *dictionary, size_t dictionary_length, const uint8_t *document, size_t document_length,
                                     const uint32_t *label, size_t label_length, const uint32_t *start, size_t start_length,
                                     const uint32_t *length, size_t length_length, size_t row);

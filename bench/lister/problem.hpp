@@ -1,4 +1,4 @@
-// A problem as the lister takes it, and terms to write one with. g, f, h, a, b are the symbols 0 to 4.
+// A problem as the lister takes it, and terms to write one with.
 #pragma once
 #include <cstdint>
 #include <vector>
@@ -7,7 +7,9 @@
 
 using Numbers = std::vector<uint32_t>;
 
-enum Symbol : uint32_t { G, F, H, A, B };
+// Labels by the dictionary g, f, h, a, b: the elements g, f, h and the texts a, b.
+enum Symbol : uint32_t { G = 0, F = 2, H = 4, A = 7, B = 9 };
+constexpr Symbol SYMBOLS[] = {G, F, H, A, B};
 
 // Rows of a pattern or of an expression; a tree is one of symbols only.
 struct Rows {

@@ -32,7 +32,7 @@ std::vector<Rows> mixed(size_t leaves) {
         random ^= random << 13;
         random ^= random >> 17;
         random ^= random << 5;
-        all.push_back(symbol(random % 5));
+        all.push_back(symbol(SYMBOLS[random % 5]));
     }
     return all;
 }
@@ -42,7 +42,7 @@ Rows chains() {
     std::vector<Rows> all;
     for (uint32_t k = 0; k < 33; k++) {
         Rows chain = symbol(B);
-        for (uint32_t row = 1; row < 60; row++) chain = symbol((row * (k + 1) + row / 5) % 5, {chain});
+        for (uint32_t row = 1; row < 60; row++) chain = symbol(SYMBOLS[(row * (k + 1) + row / 5) % 5], {chain});
         all.push_back(chain);
     }
     return symbol(G, all);

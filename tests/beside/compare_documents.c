@@ -56,7 +56,7 @@ static void make_lists(chance *chance, const bytes *document, reading *out) {
     out->start.n = draw(chance, 4);
     out->length.n = draw(chance, 4);
     for (size_t k = 0; k < 4; k++) {
-        out->label.at[k] = draw(chance, 8);
+        out->label.at[k] = one_in(chance, 4) ? (one_in(chance, 2) ? 65535u : 4294967295u) : draw(chance, 16);
         out->start.at[k] = one_in(chance, 4) ? 4294967295u - draw(chance, 2) : draw(chance, document->n + 2);
         out->length.at[k] = one_in(chance, 4) ? 4294967295u - draw(chance, 2) : draw(chance, document->n + 2);
     }
@@ -72,12 +72,21 @@ void compare_both(chance *chance, const bytes *dictionary, const bytes *document
     for (size_t row = 0; row < 4; row++) compare_spelling(dictionary, document, &made, row);
 }
 
+/* Has it an element and a text of one spelling? Their labels are apart by one. */
+static bool has_both(const reading *written) {
+    for (size_t row = 0; row < written->rows; row++)
+        for (size_t other = 0; other < row; other++)
+            if (written->label.at[row] != written->label.at[other] && written->label.at[row] / 2 == written->label.at[other] / 2) return true;
+    return false;
+}
+
 /* The writer knows what is to be read: nothing is decided from the document's bytes. */
 static void compare_read_back(const bytes *dictionary, const bytes *document, reading *written) {
     static const size_t ROOM[4] = {TREE_ROWS, TREE_ROWS, TREE_ROWS, TREE_ROWS};
     written->code = ACCEPTED;
     written->place = 0;
     put_labels(dictionary, document, written);
+    count(BOTH_SORTS, has_both(written));
     compare_check(dictionary, document, written);
     compare_read(dictionary, document, written, ROOM, READ_BACK);
 }

@@ -112,7 +112,7 @@ static void compare_dictionaries(chance *chance, bytes *dictionary, bytes *docum
 
 static void compare_examples(chance *chance, bytes *dictionary, bytes *document) {
     static const char *const EXAMPLES[] = {
-        "<g><f>a</f><f/>a</g>", "<g>", "<g></f>", "<g></gh>", "<g/><g/>", "<g>]]></g>", "", "<q/>",
+        "<g><f>a</f><f/>a</g>", "<g>", "<g></f>", "<g></gh>", "<g/><g/>", "<g>]]></g>", "", "<q/>", "<q>q</q>", "<g>q<q/></g>", "<g>z<z/>y</g>",
     };
     dictionary->n = 0;
     append(dictionary, "g\nf\nh\na\nb\n");

@@ -22,16 +22,17 @@ typedef struct {
     size_t place;  /* for code 3 */
     size_t rows;
     list label, size, start, length;
+    bool text[ENTRIES]; /* is the row a text? */
 } reading;
 
 /* ---- Deciding ---- */
 
-/* Is the document in the subset? Fills rows, size, start and length, or place, and the depth of the deepest row. */
+/* Is the document in the subset? Fills rows, size, start, length and text, or place, and the depth of the deepest row. */
 bool in_subset(const bytes *document, reading *out, size_t *deepest);
 
 bool good_dictionary(const bytes *dictionary);
 
-/* Labels by the dictionary, then by first appearance. */
+/* Numbers by the dictionary, then by first appearance; a label is twice the number, and one more for a text. */
 void put_labels(const bytes *dictionary, const bytes *document, reading *out);
 
 /* The whole of it: the lowest code of 1 to 5, or what is read. */
@@ -46,7 +47,8 @@ part decide_spelling(const bytes *dictionary, const bytes *document, const readi
 
 /* ---- Making ---- */
 
-/* Writes a tree as a document, with white space and spellings by chance. Fills rows, size, start and length as they are to be read. */
+/* Writes a tree as a document, with white space and spellings by chance. Fills rows, size, start, length and text as they are to be
+ * read. */
 void write_document(chance *chance, const tree *tree, bytes *out, reading *written);
 
 /* Some of the spellings of the writer, and others. */

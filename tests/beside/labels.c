@@ -1,4 +1,4 @@
-/* The dictionary, labels and spellings. */
+/* The dictionary, numbers, labels and spellings. */
 #include "documents.h"
 
 /* A name is compared as bytes with no end of its own. */
@@ -54,7 +54,7 @@ void put_labels(const bytes *dictionary, const bytes *document, reading *out) {
     for (size_t row = 0; row < out->rows; row++) {
         word own = spelling(document, out, row);
         if (!find_word(words, known, own, &found)) words[known++] = own;
-        out->label.at[row] = found;
+        out->label.at[row] = 2 * found + (out->text[row] ? 1 : 0);
     }
 }
 
@@ -77,8 +77,8 @@ part decide_spelling(const bytes *dictionary, const bytes *document, const readi
     static word names[BYTES];
     if (row >= lists->label.n || row >= lists->start.n || row >= lists->length.n) return EMPTY_PART;
     size_t known = good_dictionary(dictionary) ? find_names(dictionary, names) : 0;
-    uint32_t label = lists->label.at[row];
-    if (label < known) return (part){0, names[label].at - dictionary->at, names[label].n};
+    uint32_t number = lists->label.at[row] / 2;
+    if (number < known) return (part){0, names[number].at - dictionary->at, names[number].n};
     uint64_t to = (uint64_t)lists->start.at[row] + lists->length.at[row];
     if (to > document->n) return EMPTY_PART;
     return (part){1, lists->start.at[row], lists->length.at[row]};

@@ -44,12 +44,13 @@ static void skip_white(reader *r) {
     while (is_white(next(r))) r->at++;
 }
 
-static void put_row(reader *r, size_t start, size_t depth) {
+static void put_row(reader *r, size_t start, size_t depth, bool text) {
     reading *out = r->out;
     if (out->rows < ENTRIES) {
         out->start.at[out->rows] = start;
         out->length.at[out->rows] = r->at - start;
         out->size.at[out->rows] = 1;
+        out->text[out->rows] = text;
     }
     out->rows++;
     if (depth > r->deepest) r->deepest = depth;
@@ -70,7 +71,7 @@ static bool read_run(reader *r, size_t depth) {
         if (next(r) == '>' && r->at >= start + 2 && text[r->at - 1] == ']' && text[r->at - 2] == ']') return false;
         white = white && is_white(next(r));
     }
-    if (!white) put_row(r, start, depth);
+    if (!white) put_row(r, start, depth, true);
     return next(r) == '<';
 }
 
@@ -99,7 +100,7 @@ static bool read_element(reader *r, size_t depth) {
     size_t name = r->at, row = r->out->rows;
     if (!read_name(r)) return false;
     size_t length = r->at - name;
-    put_row(r, name, depth);
+    put_row(r, name, depth, false);
     skip_white(r);
     if (expect(r, '/')) return expect(r, '>');
     if (!expect(r, '>') || !read_content(r, depth, name, length)) return false;

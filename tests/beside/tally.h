@@ -58,6 +58,7 @@
     X(ENDING_0, "lists that end with 0", 5000)                                              \
     X(ENDING_1, "lists that end with 1", 2000)                                              \
     X(ENDING_2, "lists that end with 2", 6000)                                              \
+    X(BOTH_SORTS, "documents with an element and a text of one spelling", 200)              \
     X(CODE_1, "refusals 1", 500)                                                            \
     X(CODE_2, "refusals 2", 5)                                                              \
     X(CODE_3, "refusals 3", 5000)                                                           \

@@ -33,11 +33,12 @@ static void put_white_before(writer *w) {
     w->text_last = false;
 }
 
-static void put_spelling(writer *w, size_t row, const char *spelling) {
+static void put_spelling(writer *w, size_t row, const char *spelling, bool text) {
     w->written->start.at[row] = w->out->n;
     append(w->out, spelling);
     w->written->length.at[row] = w->out->n - w->written->start.at[row];
     w->written->size.at[row] = w->tree->size.at[row];
+    w->written->text[row] = text;
 }
 
 static void put_end(writer *w, const char *name) {
@@ -54,7 +55,7 @@ static void put_element(writer *w, size_t row, const char *name) {
     const list *size = &w->tree->size;
     put_white_before(w);
     append_byte(w->out, '<');
-    put_spelling(w, row, name);
+    put_spelling(w, row, name, false);
     put_white(w);
     if (size->at[row] == 1 && one_in(w->chance, 2)) {
         append(w->out, "/>");
@@ -70,7 +71,7 @@ static void put_term(writer *w, size_t row) {
     uint32_t label = w->tree->label.at[row];
     if (row > 0 && w->tree->size.at[row] == 1 && !w->text_last && one_in(w->chance, 2)) {
         bool other = one_in(w->chance, 2);
-        put_spelling(w, row, SPELLINGS[other ? draw(w->chance, ALL_SPELLINGS) : label % ELEMENT_SPELLINGS]);
+        put_spelling(w, row, SPELLINGS[other ? draw(w->chance, ALL_SPELLINGS) : label % ELEMENT_SPELLINGS], true);
         w->text_last = true;
     } else put_element(w, row, SPELLINGS[label % ELEMENT_SPELLINGS]);
 }

@@ -1,4 +1,4 @@
-/* The header's names, held to 01's numbers. tests/c/run has this file compiled as C99 and as C++ too, and the header with it. */
+/* The header's names, held to the numbers of 01 and 02. tests/c/run has this file compiled as C99 and as C++ too, and the header with it. */
 #include "compare.h"
 #include "khargovsun.h"
 
@@ -16,6 +16,15 @@ static const struct number {
     IS(MAX_VARIABLES, 16),
     IS(MAX_EXPRESSION_ROWS, 64),
     IS(LABELS, 65536),
+    IS(ELEMENT(0), 0),
+    IS(TEXT(0), 1),
+    IS(ELEMENT(1 + 2), 6),
+    IS(TEXT(1 + 2), 7),
+    IS(NUMBER(6), 3),
+    IS(NUMBER(6 + 1), 3),
+    IS(IS_TEXT(6), 0),
+    IS(IS_TEXT(6 + 1), 1),
+    IS(NUMBER(65535), 32767),
     IS(CODE_NONE, 0),
     IS(CODE_DICTIONARY, 1),
     IS(CODE_DOCUMENT_TOO_LONG, 2),

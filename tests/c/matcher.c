@@ -1,4 +1,4 @@
-/* khargovsun_list, khargovsun_test and khargovsun_instance, held to what 01 says. */
+/* khargovsun_list, khargovsun_test and khargovsun_instance, held to what 01 and 02 (#101) say. */
 #include <stdbool.h>
 #include "compare.h"
 #include "khargovsun.h"
@@ -19,25 +19,25 @@ typedef struct {
     list constraint;
 } problem;
 
-/* ---- The trees and patterns of 01's examples: g, f, h, a, b are 0 to 4 ---- */
+/* ---- The trees and patterns of 01's examples: the elements g, f, h are 0, 2, 4, the texts a, b 7, 9 ---- */
 
-#define T {LIST(0, 1, 3, 1, 3), LIST(5, 2, 1, 1, 1)}
-#define F_A_A {LIST(1, 3, 3), LIST(3, 1, 1)}
+#define T {LIST(0, 2, 7, 2, 7), LIST(5, 2, 1, 1, 1)}
+#define F_A_A {LIST(2, 7, 7), LIST(3, 1, 1)}
 #define NOTHING {NONE, NONE, NONE}
-#define Q {LIST(4, 0, 2), LIST(0, 1, 1), LIST(3, 2, 1)}
-#define F_S0_S1 {LIST(0, 2, 2), LIST(1, 0, 1), LIST(3, 1, 1)}
-#define A_OR_A {LIST(3, 0, 0), LIST(0, 3, 3), LIST(3, 1, 1)}
+#define Q {LIST(4, 0, 2), LIST(0, 2, 1), LIST(3, 2, 1)}
+#define F_S0_S1 {LIST(0, 2, 2), LIST(2, 0, 1), LIST(3, 1, 1)}
+#define A_OR_A {LIST(3, 0, 0), LIST(0, 7, 7), LIST(3, 1, 1)}
 #define FREE2 LIST(0, 0, 0, 0)
 
 #define Q_ON_T {T, Q, NOTHING, FREE2}
 #define S0_S1 {F_A_A, F_S0_S1, NOTHING, FREE2}
 #define S0_S1_CHOICE {F_A_A, F_S0_S1, A_OR_A, LIST(1, 0, 0, 0)}
-#define S0_S0 {F_A_A, {LIST(0, 2, 2), LIST(1, 0, 0), LIST(3, 1, 1)}, NOTHING, LIST(0, 0)}
-#define S0_FLAG {F_A_A, {LIST(0, 2), LIST(1, 0), LIST(2, 1)}, {LIST(4, 1), LIST(0, 0), LIST(2, 1)}, LIST(1, 1)}
-#define C0_C0_A {{LIST(1, 1, 3), LIST(3, 2, 1)}, {LIST(4, 4, 0), LIST(0, 0, 3), LIST(3, 2, 1)}, NOTHING, LIST(0, 0)}
-#define F_A_S0 {{LIST(1), LIST(1)}, {LIST(0, 0, 2), LIST(1, 3, 0), LIST(3, 1, 1)}, NOTHING, LIST(0, 0)}
-#define F0_X1 {{LIST(1, 3), LIST(2, 1)}, {LIST(3, 1), LIST(0, 1), LIST(2, 1)}, NOTHING, FREE2}
-#define A_ON_A {{LIST(3), LIST(1)}, {LIST(0), LIST(3), LIST(1)}, NOTHING, NONE}
+#define S0_S0 {F_A_A, {LIST(0, 2, 2), LIST(2, 0, 0), LIST(3, 1, 1)}, NOTHING, LIST(0, 0)}
+#define S0_FLAG {F_A_A, {LIST(0, 2), LIST(2, 0), LIST(2, 1)}, {LIST(4, 1), LIST(0, 0), LIST(2, 1)}, LIST(1, 1)}
+#define C0_C0_A {{LIST(2, 2, 7), LIST(3, 2, 1)}, {LIST(4, 4, 0), LIST(0, 0, 7), LIST(3, 2, 1)}, NOTHING, LIST(0, 0)}
+#define F_A_S0 {{LIST(2), LIST(1)}, {LIST(0, 0, 2), LIST(2, 7, 0), LIST(3, 1, 1)}, NOTHING, LIST(0, 0)}
+#define F0_X1 {{LIST(2, 7), LIST(2, 1)}, {LIST(3, 1), LIST(0, 1), LIST(2, 1)}, NOTHING, FREE2}
+#define A_ON_A {{LIST(7), LIST(1)}, {LIST(0), LIST(7), LIST(1)}, NOTHING, NONE}
 
 static const struct listing {
     const char *name;
@@ -59,6 +59,8 @@ static const struct listing {
     {"Q on T, no room", Q_ON_T, 8, 0, 1, 0, 4, NONE},
     {"f(s0, s1) on f(a, a)", S0_S1, 1000, ROOM, 0, 3, 9, LIST(1, 0, 1, 2, 1, 1, 2, 1, 1, 2, 3, 0)},
     {"s0 in the choice of a and a", S0_S1_CHOICE, 1000, ROOM, 0, 1, 5, LIST(1, 1, 2, 1)},
+    {"s0 in the choice of two elements a", {F_A_A, F_S0_S1, {LIST(3, 0, 0), LIST(0, 6, 6), LIST(3, 1, 1)}, LIST(1, 0, 0, 0)}, 1000, ROOM, 0, 0, 3, NONE},
+    {"Q on g(text f, f)", {{LIST(0, 3, 2), LIST(3, 1, 1)}, Q, NOTHING, FREE2}, 1000, ROOM, 0, 1, 4, LIST(0, 2, 3, 0)},
     {"f(s0, s0) on f(a, a)", S0_S0, 1000, ROOM, 0, 1, 3, LIST(1, 1)},
     {"s0 in repetition of empty, flag 1", S0_FLAG, 1000, ROOM, 0, 0, 3, NONE},
     {"context 0 over context 0 over a", C0_C0_A, 1000, ROOM, 0, 1, 3, LIST(0, 1)},
@@ -74,9 +76,9 @@ static const struct refusal {
     uint32_t code;
 } REFUSALS[] = {
     {"all lists empty", {{NONE, NONE}, NOTHING, NOTHING, NONE}, 11},
-    {"a root that ends early", {{LIST(0, 1, 3, 1, 3), LIST(4, 2, 1, 1, 1)}, Q, NOTHING, FREE2}, 11},
-    {"arguments past their row", {{LIST(0, 1, 3), LIST(3, 1, 2)}, Q, NOTHING, FREE2}, 11},
-    {"lists of unequal length", {{LIST(0, 1, 3), LIST(3, 1)}, Q, NOTHING, FREE2}, 11},
+    {"a root that ends early", {{LIST(0, 2, 7, 2, 7), LIST(4, 2, 1, 1, 1)}, Q, NOTHING, FREE2}, 11},
+    {"arguments past their row", {{LIST(0, 2, 7), LIST(3, 1, 2)}, Q, NOTHING, FREE2}, 11},
+    {"lists of unequal length", {{LIST(0, 2, 7), LIST(3, 1)}, Q, NOTHING, FREE2}, 11},
     {"label 65,536", {{LIST(65536), LIST(1)}, Q, NOTHING, FREE2}, 11},
     {"11 before all others", {{LIST(0), LIST(0)}, {LIST(5), LIST(0), LIST(1)}, {LIST(5), LIST(0), LIST(1)}, LIST(2)}, 11},
     {"no pattern", {T, NOTHING, NOTHING, NONE}, 12},
@@ -84,22 +86,22 @@ static const struct refusal {
     {"a sequence variable as root", {T, {LIST(2), LIST(0), LIST(1)}, NOTHING, LIST(0, 0)}, 12},
     {"a context over a sequence variable", {T, {LIST(4, 2), LIST(0, 1), LIST(2, 1)}, NOTHING, FREE2}, 12},
     {"a context without argument", {T, {LIST(4), LIST(0), LIST(1)}, NOTHING, LIST(0, 0)}, 12},
-    {"an individual with arguments", {T, {LIST(1, 0), LIST(0, 3), LIST(2, 1)}, NOTHING, LIST(0, 0)}, 12},
-    {"variable 1 before 0", {T, {LIST(0, 2), LIST(1, 1), LIST(2, 1)}, NOTHING, LIST(0, 0)}, 12},
-    {"a number of two kinds", {T, {LIST(0, 1, 2), LIST(1, 0, 0), LIST(3, 1, 1)}, NOTHING, LIST(0, 0)}, 12},
+    {"an individual with arguments", {T, {LIST(1, 0), LIST(0, 7), LIST(2, 1)}, NOTHING, LIST(0, 0)}, 12},
+    {"variable 1 before 0", {T, {LIST(0, 2), LIST(2, 1), LIST(2, 1)}, NOTHING, LIST(0, 0)}, 12},
+    {"a number of two kinds", {T, {LIST(0, 1, 2), LIST(2, 0, 0), LIST(3, 1, 1)}, NOTHING, LIST(0, 0)}, 12},
     {"12 before 13 and 14", {T, {LIST(1), LIST(1), LIST(1)}, {LIST(1), LIST(1), LIST(1)}, LIST(2)}, 12},
-    {"a symbol of two rows", {T, Q, {LIST(0, 0), LIST(3, 3), LIST(2, 1)}, FREE2}, 13},
+    {"a symbol of two rows", {T, Q, {LIST(0, 0), LIST(7, 7), LIST(2, 1)}, FREE2}, 13},
     {"a named empty word", {T, Q, {LIST(1), LIST(1), LIST(1)}, FREE2}, 13},
-    {"a choice of one", {T, Q, {LIST(3, 0), LIST(0, 3), LIST(2, 1)}, FREE2}, 13},
-    {"lists of an expression unequal", {T, Q, {LIST(0), LIST(3), NONE}, FREE2}, 13},
+    {"a choice of one", {T, Q, {LIST(3, 0), LIST(0, 7), LIST(2, 1)}, FREE2}, 13},
+    {"lists of an expression unequal", {T, Q, {LIST(0), LIST(7), NONE}, FREE2}, 13},
     {"13 before 14", {T, Q, {LIST(5), LIST(0), LIST(1)}, NONE}, 13},
     {"no constraint list", {T, Q, NOTHING, NONE}, 14},
     {"a list one too long", {T, Q, NOTHING, LIST(0, 0, 0, 0, 0)}, 14},
     {"a flag without constraint", {T, Q, NOTHING, LIST(0, 0, 0, 1)}, 14},
-    {"flag 2", {T, Q, {LIST(0), LIST(3), LIST(1)}, LIST(0, 0, 1, 2)}, 14},
-    {"a constraint beyond the table", {T, Q, {LIST(0), LIST(3), LIST(1)}, LIST(0, 0, 2, 0)}, 14},
+    {"flag 2", {T, Q, {LIST(0), LIST(7), LIST(1)}, LIST(0, 0, 1, 2)}, 14},
+    {"a constraint beyond the table", {T, Q, {LIST(0), LIST(7), LIST(1)}, LIST(0, 0, 2, 0)}, 14},
     {"a constraint on the inside of an expression", {F_A_A, F_S0_S1, A_OR_A, LIST(2, 0, 0, 0)}, 14},
-    {"a constraint on an individual variable", {T, {LIST(1), LIST(0), LIST(1)}, {LIST(0), LIST(3), LIST(1)}, LIST(1, 0)}, 14},
+    {"a constraint on an individual variable", {T, {LIST(1), LIST(0), LIST(1)}, {LIST(0), LIST(7), LIST(1)}, LIST(1, 0)}, 14},
 };
 
 static const struct testing {
@@ -148,13 +150,13 @@ static const struct making {
     uint32_t code, rows;
     list label, size;
 } MAKINGS[] = {
-    {"Q under its first record", T, Q, LIST(0, 1, 2, 1), 0, 5, LIST(0, 1, 3, 1, 3), LIST(5, 2, 1, 1, 1)},
-    {"Q under its second record", T, Q, LIST(0, 3, 4, 0), 0, 5, LIST(0, 1, 3, 1, 3), LIST(5, 2, 1, 1, 1)},
-    {"Q under a record of no matcher", T, Q, LIST(0, 4, 1, 2), 0, 8, LIST(0, 1, 3, 1, 1, 1, 3, 1), LIST(8, 2, 1, 1, 4, 2, 1, 1)},
-    {"Q under the bare hole", T, Q, LIST(0, 0, 5, 0), 0, 1, LIST(1), LIST(1)},
-    {"f(s0, s1) with one term twice", F_A_A, F_S0_S1, LIST(1, 1, 1, 2), 0, 4, LIST(1, 3, 3, 3), LIST(4, 1, 1, 1)},
-    {"function 0 over individual 1", T, {LIST(3, 1), LIST(0, 1), LIST(2, 1)}, LIST(0, 0, 1, 0), 0, 3, LIST(0, 1, 3), LIST(3, 2, 1)},
-    {"no variables", T, {LIST(0), LIST(3), LIST(1)}, NONE, 0, 1, LIST(3), LIST(1)},
+    {"Q under its first record", T, Q, LIST(0, 1, 2, 1), 0, 5, LIST(0, 2, 7, 2, 7), LIST(5, 2, 1, 1, 1)},
+    {"Q under its second record", T, Q, LIST(0, 3, 4, 0), 0, 5, LIST(0, 2, 7, 2, 7), LIST(5, 2, 1, 1, 1)},
+    {"Q under a record of no matcher", T, Q, LIST(0, 4, 1, 2), 0, 8, LIST(0, 2, 7, 2, 2, 2, 7, 2), LIST(8, 2, 1, 1, 4, 2, 1, 1)},
+    {"Q under the bare hole", T, Q, LIST(0, 0, 5, 0), 0, 1, LIST(2), LIST(1)},
+    {"f(s0, s1) with one term twice", F_A_A, F_S0_S1, LIST(1, 1, 1, 2), 0, 4, LIST(2, 7, 7, 7), LIST(4, 1, 1, 1)},
+    {"function 0 over individual 1", T, {LIST(3, 1), LIST(0, 1), LIST(2, 1)}, LIST(0, 0, 1, 0), 0, 3, LIST(0, 2, 7), LIST(3, 2, 1)},
+    {"no variables", T, {LIST(0), LIST(7), LIST(1)}, NONE, 0, 1, LIST(7), LIST(1)},
     {"all lists empty", {NONE, NONE}, NOTHING, NONE, 11, 0, NONE, NONE},
     {"a bad tree", CUT, Q, LIST(0, 1, 2, 1), 11, 0, NONE, NONE},
     {"11 before 12", CUT, NOTHING, NONE, 11, 0, NONE, NONE},
@@ -298,7 +300,7 @@ static void makings(void) {
 /* A tree of 2,048 rows: a root with 2,047 leaves. Its copy has as many rows, with one term more it is over the limit. */
 static void largest(void) {
     static uint32_t label[ROWS], size[ROWS];
-    for (size_t k = 0; k < ROWS; k++) label[k] = 3, size[k] = 1;
+    for (size_t k = 0; k < ROWS; k++) label[k] = 7, size[k] = 1;
     label[0] = 0, size[0] = ROWS;
     tree t = {{label, ROWS}, {size, ROWS}};
     rows3 copy = {LIST(0, 2), LIST(0, 0), LIST(2, 1)}, more = {LIST(0, 2, 0), LIST(0, 0, 3), LIST(3, 1, 1)};

@@ -1,4 +1,4 @@
-/* khargovsun_check, khargovsun_read and khargovsun_spelling, held to what 01 says. */
+/* khargovsun_check, khargovsun_read and khargovsun_spelling, held to what 01 and 02 (#101) say. */
 #include "compare.h"
 #include "khargovsun.h"
 
@@ -16,11 +16,13 @@ static const struct reading {
     uint32_t code, place, rows;
     list label, size, start, length;
 } READINGS[] = {
-    {"the tree T", NAMES, BYTES("<g><f>a</f><f/>a</g>"), 0, 0, 5, LIST(0, 1, 3, 1, 3), LIST(5, 2, 1, 1, 1), LIST(1, 4, 6, 12, 15), LIST(1, 1, 1, 1, 1)},
-    {"a name that is not in the dictionary", NAMES, BYTES("<q/>"), 0, 0, 1, LIST(5), LIST(1), LIST(1), LIST(1)},
-    {"new labels by first appearance", NAMES, BYTES("<q><g/>r<r/>q</q>"), 0, 0, 5, LIST(5, 0, 6, 6, 5), LIST(5, 1, 1, 1, 1), LIST(1, 4, 7, 9, 12), LIST(1, 1, 1, 1, 1)},
-    {"white space dropped and kept", NAMES, BYTES(" \n<g>\t<f> a </f>\n</g\t>\n"), 0, 0, 3, LIST(0, 1, 5), LIST(3, 2, 1), LIST(3, 7, 9), LIST(1, 1, 3)},
-    {"no dictionary", NONE, BYTES("<g>f</g>"), 0, 0, 2, LIST(0, 1), LIST(2, 1), LIST(1, 3), LIST(1, 1)},
+    {"the tree T", NAMES, BYTES("<g><f>a</f><f/>a</g>"), 0, 0, 5, LIST(0, 2, 7, 2, 7), LIST(5, 2, 1, 1, 1), LIST(1, 4, 6, 12, 15), LIST(1, 1, 1, 1, 1)},
+    {"a name that is not in the dictionary", NAMES, BYTES("<q/>"), 0, 0, 1, LIST(10), LIST(1), LIST(1), LIST(1)},
+    {"new numbers by first appearance", NAMES, BYTES("<q><g/>r<r/>q</q>"), 0, 0, 5, LIST(10, 0, 13, 12, 11), LIST(5, 1, 1, 1, 1), LIST(1, 4, 7, 9, 12), LIST(1, 1, 1, 1, 1)},
+    {"white space dropped and kept", NAMES, BYTES(" \n<g>\t<f> a </f>\n</g\t>\n"), 0, 0, 3, LIST(0, 2, 11), LIST(3, 2, 1), LIST(3, 7, 9), LIST(1, 1, 3)},
+    {"no dictionary", NONE, BYTES("<g>f</g>"), 0, 0, 2, LIST(0, 3), LIST(2, 1), LIST(1, 3), LIST(1, 1)},
+    {"a block and a word of one name", BYTES("score\n"), BYTES("<score>score</score>"), 0, 0, 2, LIST(0, 1), LIST(2, 1), LIST(1, 7), LIST(5, 5)},
+    {"a word and then a block", NAMES, BYTES("<g>q<q/></g>"), 0, 0, 3, LIST(0, 11, 10), LIST(3, 1, 1), LIST(1, 3, 5), LIST(1, 1, 1)},
     {"ends early", NAMES, BYTES("<g>"), 3, 3, 0, NONE, NONE, NONE, NONE},
     {"another end name", NAMES, BYTES("<g></f>"), 3, 5, 0, NONE, NONE, NONE, NONE},
     {"a longer end name", NAMES, BYTES("<g></gh>"), 3, 6, 0, NONE, NONE, NONE, NONE},
@@ -191,15 +193,18 @@ static const struct spelling {
     size_t row;
     uint32_t source, from, n;
 } SPELLINGS[] = {
-    {"a name without its byte 10", BYTES("g\nfield\nh\n"), BYTES("<q/>"), LIST(1), LIST(1), LIST(1), 0, 0, 2, 5},
-    {"a label below K, whatever the range", NAMES, BYTES("<q/>"), LIST(3), LIST(FAR), LIST(FAR), 0, 0, 6, 1},
-    {"the last name", NAMES, NONE, LIST(0, 4), LIST(0, 0), LIST(0, 0), 1, 0, 8, 1},
-    {"label K is of the document", NAMES, BYTES("<q/>"), LIST(5), LIST(1), LIST(1), 0, 1, 1, 1},
-    {"a range to the very end", NAMES, BYTES("<q/>"), LIST(5), LIST(1), LIST(3), 0, 1, 1, 3},
-    {"an empty range at the end", NAMES, BYTES("<q/>"), LIST(5), LIST(4), LIST(0), 0, 1, 4, 0},
-    {"a range beyond the end", NAMES, BYTES("<q/>"), LIST(5), LIST(1), LIST(4), 0, 1, 0, 0},
-    {"a start beyond the end", NAMES, BYTES("<q/>"), LIST(5), LIST(5), LIST(0), 0, 1, 0, 0},
-    {"a range whose end is over 32 bits", NAMES, BYTES("<q/>"), LIST(5), LIST(FAR), LIST(FAR), 0, 1, 0, 0},
+    {"a name without its byte 10", BYTES("g\nfield\nh\n"), BYTES("<q/>"), LIST(2), LIST(1), LIST(1), 0, 0, 2, 5},
+    {"a number below K, whatever the range", NAMES, BYTES("<q/>"), LIST(7), LIST(FAR), LIST(FAR), 0, 0, 6, 1},
+    {"the last name, of an element", NAMES, NONE, LIST(0, 8), LIST(0, 0), LIST(0, 0), 1, 0, 8, 1},
+    {"the last name, of a text: the last label below twice K", NAMES, BYTES("<q/>"), LIST(9), LIST(1), LIST(1), 0, 0, 8, 1},
+    {"label twice K is of the document", NAMES, BYTES("<q/>"), LIST(10), LIST(1), LIST(1), 0, 1, 1, 1},
+    {"label 65,535", NAMES, BYTES("<q/>"), LIST(65535), LIST(1), LIST(1), 0, 1, 1, 1},
+    {"the farthest label", NAMES, BYTES("<q/>"), LIST(FAR), LIST(1), LIST(1), 0, 1, 1, 1},
+    {"a range to the very end", NAMES, BYTES("<q/>"), LIST(10), LIST(1), LIST(3), 0, 1, 1, 3},
+    {"an empty range at the end", NAMES, BYTES("<q/>"), LIST(10), LIST(4), LIST(0), 0, 1, 4, 0},
+    {"a range beyond the end", NAMES, BYTES("<q/>"), LIST(10), LIST(1), LIST(4), 0, 1, 0, 0},
+    {"a start beyond the end", NAMES, BYTES("<q/>"), LIST(10), LIST(5), LIST(0), 0, 1, 0, 0},
+    {"a range whose end is over 32 bits", NAMES, BYTES("<q/>"), LIST(10), LIST(FAR), LIST(FAR), 0, 1, 0, 0},
     {"a bad dictionary has no names", BYTES("g\ng\n"), BYTES("<q/>"), LIST(0), LIST(1), LIST(1), 0, 1, 1, 1},
     {"a row beyond label", NAMES, BYTES("<g/>"), LIST(0), LIST(1, 1), LIST(1, 1), 1, 1, 0, 0},
     {"a row beyond start", NAMES, BYTES("<g/>"), LIST(0, 0), LIST(1), LIST(1, 1), 1, 1, 0, 0},

@@ -12,7 +12,7 @@ use lib.Seq.{take-at, drop-at, drop-cons}
 use borrow.Author.Tests.{ltb-true, leb-true, eq-eqb, ne-eqb, lt-ltb, le-ltb, le-leb, lt-leb}
 use Rattle.dictionary.specs.Names.{encoding, GoodDictionary, NamesOf, DictionaryChecked}
 use Rattle.dictionary.specs.Scan.{range, upto, pieces}
-use Rattle.dictionary.specs.Spelling.{PartOf, emptyPart, partOfDictionary, partOfDocument, spellingOf, bytesOf, IsPart, PartAnswered, standsAt, SpellingAnswered}
+use Rattle.dictionary.specs.Spelling.{PartOf, emptyPart, partOfDictionary, partOfDocument, half, spellingOf, bytesOf, IsPart, PartAnswered, standsAt, SpellingAnswered}
 use Rattle.dictionary.proofs.Pieces.{piece-length, within, encoding-append}
 use Rattle.dictionary.proofs.Names.{Begins, begins-next, begins-start, piece-is, good-pieces, names-unique, names-good, bad-end}
 use Rattle.dictionary.proofs.Decided.{named}
@@ -95,16 +95,16 @@ part-inside : (dictionary document labels starts lengths : List ℕ) (row : ℕ)
 unfolding spellingOf
 part-inside dictionary document labels starts lengths row names x =
     listed (ltb row (length labels) && ltb row (length starts) && ltb row (length lengths)) _
-    (named-or-not (ltb (getD labels row 0) (length names)) refl)
+    (named-or-not (ltb (half (getD labels row 0)) (length names)) refl)
   where
     document-part : (start count : ℕ) (t : Bool) → leb (start + count) (length document) ≡ t →
         Inside dictionary document (cond t (record { source = 1; start = start; length = count }) emptyPart)
     document-part start count true e = leb-true (start + count) (length document) e
     document-part start count false e = omega arith
 
-    named-or-not : (t : Bool) → ltb (getD labels row 0) (length names) ≡ t →
-        Inside dictionary document (cond t (partOfDictionary names (getD labels row 0)) (partOfDocument document (getD starts row 0) (getD lengths row 0)))
-    named-or-not true e = name-inside dictionary names x (getD labels row 0) (ltb-true (getD labels row 0) (length names) e)
+    named-or-not : (t : Bool) → ltb (half (getD labels row 0)) (length names) ≡ t →
+        Inside dictionary document (cond t (partOfDictionary names (half (getD labels row 0))) (partOfDocument document (getD starts row 0) (getD lengths row 0)))
+    named-or-not true e = name-inside dictionary names x (half (getD labels row 0)) (ltb-true (half (getD labels row 0)) (length names) e)
     named-or-not false e = document-part (getD starts row 0) (getD lengths row 0) (leb (getD starts row 0 + getD lengths row 0) (length document)) refl
 
     listed : (t : Bool) (p : PartOf) → Inside dictionary document p → Inside dictionary document (cond t p emptyPart)
@@ -141,7 +141,7 @@ module _ {dictionary document labels starts lengths : List ℕ} {row : ℕ} wher
   pub far-length : row < length labels → row < length starts → length lengths ≤ row → PartAnswered dictionary document labels starts lengths row 1 0 0
   far-length a b h = empty-answer (simp (lt-ltb row (length labels) a, lt-ltb row (length starts) b, le-ltb row (length lengths) h))
 
-  module _ (a : row < length labels) (b : row < length starts) (c : row < length lengths) {place : ℕ} (is-place : place ≡ getD labels row 0) {good : Bool} {k : ℕ}
+  module _ (a : row < length labels) (b : row < length starts) (c : row < length lengths) {place : ℕ} (is-place : place ≡ half (getD labels row 0)) {good : Bool} {k : ℕ}
       (checked : DictionaryChecked dictionary good k) {source start count : ℕ} where
     pub name-answer : place < k → ((names : List (List ℕ)) → GoodDictionary dictionary names → IsPart source start count (partOfDictionary names place)) →
         PartAnswered dictionary document labels starts lengths row source start count

@@ -1,5 +1,5 @@
 -- 01, "From document to tree": "A spelling in the dictionary has its place there, from 0, as label; another gets K, K+1, .. by first
--- appearance in preorder." Here it is the spelling's number.
+-- appearance in preorder." From 02, #101, on this is the spelling's number, of which the label is made (grammar/specs/Rows).
 use mathlib.Core.Bool.{Bool, true, false, cond, _&&_}
 use mathlib.Core.List.{List, [], _∷_, _++_}
 use Prim.Native.Nat.{ℕ, suc}

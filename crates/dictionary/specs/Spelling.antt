@@ -1,8 +1,10 @@
--- 01, "From document to tree": "The spelling lookup takes a row and answers a part of the dictionary for a label below K, else of the document by the row's start and length. A name comes without its byte 10. A row beyond any list, or a range outside the document where the document is to answer, gives an empty part of the document."
+-- 01, "From document to tree": "The spelling lookup takes a row and answers a part of the dictionary for a label below K, else of the document
+-- by the row's start and length. A name comes without its byte 10. A row beyond any list, or a range outside the document where the document
+-- is to answer, gives an empty part of the document." 02, #101: "spellings are found by half the label", rounded down.
 use mathlib.Core.Path.{_≡_}
 use mathlib.Core.Bool.{cond, _&&_}
 use mathlib.Core.List.{List, []}
-use Prim.Native.Nat.{ℕ, _+_}
+use Prim.Native.Nat.{ℕ, _+_, _/_}
 use lib.Dec.{eqb, leb, ltb}
 use lib.ListN.{length, getD, take, drop}
 use Rattle.dictionary.specs.Names.{encoding, NamesOf}
@@ -24,10 +26,14 @@ partOfDictionary names place = record { source = 0; start = length (encoding (ta
 abbrev pub partOfDocument : List ℕ → ℕ → ℕ → PartOf
 partOfDocument document start count = cond (leb (start + count) (length document)) (record { source = 1; start = start; length = count }) emptyPart
 
+-- the number of a label's spelling, whether an element's or a text's
+abbrev pub half : ℕ → ℕ
+half label = label / 2
+
 unfoldable pub spellingOf : List (List ℕ) → List ℕ → List ℕ → List ℕ → List ℕ → ℕ → PartOf
 spellingOf names document labels starts lengths row =
     cond (ltb row (length labels) && ltb row (length starts) && ltb row (length lengths))
-    (cond (ltb (getD labels row 0) (length names)) (partOfDictionary names (getD labels row 0))
+    (cond (ltb (half (getD labels row 0)) (length names)) (partOfDictionary names (half (getD labels row 0)))
     (partOfDocument document (getD starts row 0) (getD lengths row 0)))
     emptyPart
 

@@ -63,7 +63,8 @@ fn document_part(document: &[u8], start: u32, length: u32) -> Part
     }
 }
 
-// Where the row's spelling stands. An empty part of the document is the one at its start.
+// Where the row's spelling stands. Half the label is its number, whether the row is an element's or a text's. An empty part of the document
+// is the one at its start.
 pub fn part_of(
     dictionary: &[u8],
     document: &[u8],
@@ -83,7 +84,7 @@ pub fn part_of(
     if length.len() <= row {
         return EMPTY;
     }
-    let place = wide(label[row]);
+    let place = wide(label[row]) / 2;
     let checked = super::check(dictionary);
     let names = checked.names;
     if place < names {

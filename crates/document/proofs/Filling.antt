@@ -8,24 +8,26 @@ use lib.Seq.{ext-getD}
 use Rattle.meaning.specs.Forest.{Forest, none}
 use Rattle.tree.specs.Rows.{labels, sizes}
 use Rattle.grammar.specs.Grammar.{Bytes, _⊲_, Content, Document}
-use Rattle.grammar.specs.Rows.{forest, shape, #, Row, rowsOf, starts, lengths}
+use Rattle.grammar.specs.Rows.{ofElement, labelOf, labelEach, forest, shape, #, Row, rowsOf, starts, lengths}
+use Rattle.grammar.specs.Told.{Tells}
 use Rattle.grammar.proofs.Rows.{labels-are, Spelled, rows-spelled, all-at}
+use Rattle.grammar.proofs.Told.{Preceded, rows-told}
 use Rattle.meaning.specs.Calls.{Filled}
 use Rattle.labels.specs.Labelling.{Spells}
 use Rattle.rows.proofs.Large.{no-row}
 use Rattle.rows.proofs.Sizes.{sizes-tree}
 use Rattle.dictionary.specs.Numbers.{placeOf, numbersOf}
 use Rattle.dictionary.proofs.Numbers.{knownAfter, number-place, length-numbers}
-use Rattle.document.specs.Reading.{spellingsOf}
+use Rattle.document.specs.Reading.{spellingsOf, sortsOf, labelsOf}
 
 -- THE LABELS, in 01's words and as the tree's
--- a spelling's label: its place among the names of the dictionary and then the other spellings by first appearance
-abbrev pub labelOf : List (List ℕ) → Content → Bytes → ℕ
-labelOf names f s = placeOf (knownAfter names (spellingsOf f)) (s ⊲ [])
+-- a spelling's number: its place among the names of the dictionary and then the other spellings by first appearance
+abbrev pub numberOf : List (List ℕ) → Content → Bytes → ℕ
+numberOf names f s = placeOf (knownAfter names (spellingsOf f)) (s ⊲ [])
 
 -- the tree of a document
 abbrev pub treeOf : List (List ℕ) → Content → Forest
-treeOf names f = forest (labelOf names f) f none
+treeOf names f = forest (λ q s. labelOf q (numberOf names f s)) f none
 
 map-twice : (g : List ℕ → ℕ) (h : Row → List ℕ) (R : List Row) → map g (map h R) ≡ map (λ (x : Row). g (h x)) R
 map-twice g h [] = refl
@@ -36,16 +38,23 @@ getD-map-to g [] r h = absurd (omega arith)
 getD-map-to g (w ∷ ws) zero h = refl
 getD-map-to g (w ∷ ws) (suc r) h = getD-map-to g ws r (omega arith)
 
-labels-map : (ns ws : List (List ℕ)) → numbersOf ns ws ≡ map (placeOf (knownAfter ns ws)) ws
-labels-map ns ws =
+numbers-map : (ns ws : List (List ℕ)) → numbersOf ns ws ≡ map (placeOf (knownAfter ns ws)) ws
+numbers-map ns ws =
     ext-getD 0 (numbersOf ns ws) (map (placeOf (knownAfter ns ws)) ws) (length-numbers ns ws ∙ sym (length-map ws (placeOf (knownAfter ns ws))))
     (λ r h. let p : r < length ws = omega (arith, length-numbers ns ws) in number-place ns ws r p .0 ∙ sym (getD-map-to (placeOf (knownAfter ns ws)) ws r p))
 
--- the tree's labels are those by first appearance in preorder
-pub tree-labels : (names : List (List ℕ)) (f : Content) → labels (treeOf names f) ≡ numbersOf names (spellingsOf f)
+-- labels made row by row
+each-map : (g : Row → ℕ) (R : List Row) → labelEach (map (λ (x : Row). x .sort) R) (map g R) ≡ map (λ (x : Row). labelOf (x .sort) (g x)) R
+each-map g [] = refl
+each-map g (x ∷ R) = ap (λ (l : List ℕ). labelOf (x .sort) (g x) ∷ l) (each-map g R)
+
+-- the tree's labels are those of the rows, numbered by first appearance in preorder
+pub tree-labels : (names : List (List ℕ)) (f : Content) → labels (treeOf names f) ≡ labelsOf names f
 tree-labels names f =
-    labels-are (labelOf names f) f
-    ∙ sym (labels-map names (spellingsOf f) ∙ map-twice (placeOf (knownAfter names (spellingsOf f))) (λ (x : Row). x .spelling ⊲ []) (rowsOf f))
+    labels-are (λ q s. labelOf q (numberOf names f s)) f
+    ∙ sym
+    (ap (labelEach (sortsOf f)) (numbers-map names (spellingsOf f) ∙ map-twice (placeOf (knownAfter names (spellingsOf f))) (λ (x : Row). x .spelling ⊲ []) (rowsOf f))
+    ∙ each-map (λ (x : Row). numberOf names f (x .spelling)) (rowsOf f))
 
 -- A LIST THAT HAS A NUMBER FOR EACH ROW
 filled-at : (g : Row → ℕ) → g no-row ≡ 0 → (f : Content) (old new : List ℕ) → Filled (map g (rowsOf f)) old new → (r : ℕ) → r < length (rowsOf f) →
@@ -69,5 +78,18 @@ rows-spell {w} {f} {t} s s' l l' d es el r h =
       is = rw (a, b, n) (p .is ∙ sym c);
     }
 
+-- and the byte before it tells what the row is of
+pub rows-tell : {w : List ℕ} {f : Content} {t : Bytes} (s s' : List ℕ) → Document w f t → Filled (starts f) s s' → (r : ℕ) → r < length (rowsOf f) →
+    Tells w (getD s' r 0) (getD (sortsOf f) r ofElement)
+rows-tell {w} {f} {t} s s' d es r h =
+    let a : getD s' r 0 ≡ getD (rowsOf f) r no-row .start = filled-at (λ (y : Row). y .start) refl f s s' es r h in
+    let b : getD (sortsOf f) r ofElement ≡ getD (rowsOf f) r no-row .sort = sort-at (rowsOf f) r h in
+    rw (a, b) (all-at (Preceded w) (rowsOf f) no-row (rows-told d) r h)
+  where
+    sort-at : (R : List Row) (r : ℕ) → r < length R → getD (map (λ (x : Row). x .sort) R) r ofElement ≡ getD R r no-row .sort
+    sort-at [] r h = absurd (omega arith)
+    sort-at (x ∷ R) zero h = refl
+    sort-at (x ∷ R) (suc r) h = sort-at R r (omega arith)
+
 pub tree-sizes : (names : List (List ℕ)) (f : Content) → sizes (shape f) ≡ sizes (treeOf names f)
-tree-sizes names f = sym (sizes-tree (λ s. 0) f) ∙ sizes-tree (labelOf names f) f
+tree-sizes names f = sym (sizes-tree (λ q s. 0) f) ∙ sizes-tree (λ q s. labelOf q (numberOf names f s)) f

@@ -1,4 +1,5 @@
 pub mod Filling
+pub mod Labels
 pub mod Cases
 pub mod Answers
 pub mod Promises

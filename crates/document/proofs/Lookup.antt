@@ -12,24 +12,27 @@ use Rattle.grammar.specs.Grammar.{_⊲_, Content}
 use Rattle.grammar.specs.Rows.{#, Row, rowsOf, starts, lengths}
 use Rattle.dictionary.specs.Names.{GoodDictionary}
 use Rattle.dictionary.specs.Numbers.{numbersOf}
-use Rattle.dictionary.proofs.Numbers.{knownAfter, length-numbers, number-spelling, known-at}
-use Rattle.dictionary.specs.Spelling.{partOfDictionary, partOfDocument, spellingOf, bytesOf, SpellingAnswered}
+use Rattle.dictionary.proofs.Numbers.{knownAfter, number-spelling, known-at}
+use Rattle.dictionary.specs.Spelling.{partOfDictionary, partOfDocument, half, spellingOf, bytesOf, SpellingAnswered}
 use Rattle.dictionary.proofs.Parts.{name-bytes}
-use Rattle.document.specs.Reading.{spellingsOf, Spelt, Read}
+use Rattle.document.specs.Reading.{spellingsOf, labelsOf, Spelt, Read}
+use Rattle.document.proofs.Labels.{half-at, length-labels}
 use Rattle.document.proofs.Cases.{Cases, badDictionary, badDocument, noRoom, filled, cases}
 use Rattle.document.proofs.Promises.{spelt}
 
 module _ {d w label start width : List ℕ} {names : List (List ℕ)} {f : Content} {rows row : ℕ} (g : GoodDictionary d names) (s : Spelt w label start width rows names f)
     (l : row < rows) (in-label : row < length label) (in-start : row < length start) (in-width : row < length width) where
-  its-label : getD label row 0 ≡ getD (numbersOf names (spellingsOf f)) row 0
-  its-label = sym (getD-take rows label row 0 l) ∙ ap (λ (xs : List ℕ). getD xs row 0) (s .labelled)
+  its-number : half (getD label row 0) ≡ getD (numbersOf names (spellingsOf f)) row 0
+  its-number =
+      ap half (sym (getD-take rows label row 0 l) ∙ ap (λ (xs : List ℕ). getD xs row 0) (s .labelled))
+      ∙ half-at names f row (omega (arith, s .all))
 
   -- where the dictionary answers
-  by-name : getD label row 0 < length names → bytesOf d w (partOfDictionary names (getD label row 0)) ≡ getD (spellingsOf f) row []
+  by-name : half (getD label row 0) < length names → bytesOf d w (partOfDictionary names (half (getD label row 0))) ≡ getD (spellingsOf f) row []
   by-name p =
-      name-bytes d names g (getD label row 0) p w
-      ∙ sym (known-at names (spellingsOf f) (getD label row 0) p)
-      ∙ ap (λ (k : ℕ). getD (knownAfter names (spellingsOf f)) k []) its-label
+      name-bytes d names g (half (getD label row 0)) p w
+      ∙ sym (known-at names (spellingsOf f) (half (getD label row 0)) p)
+      ∙ ap (λ (k : ℕ). getD (knownAfter names (spellingsOf f)) k []) its-number
       ∙ number-spelling names (spellingsOf f) row (omega (arith, s .all))
 
   -- where the document does
@@ -40,11 +43,11 @@ module _ {d w label start width : List ℕ} {names : List (List ℕ)} {f : Conte
   unfolding spellingOf
   answered =
       rw (lt-ltb row (length label) in-label, lt-ltb row (length start) in-start, lt-ltb row (length width) in-width)
-      (either (ltb (getD label row 0) (length names)) refl)
+      (either (ltb (half (getD label row 0)) (length names)) refl)
     where
-      either : (t : Bool) → ltb (getD label row 0) (length names) ≡ t →
-          bytesOf d w (cond t (partOfDictionary names (getD label row 0)) (partOfDocument w (getD start row 0) (getD width row 0))) ≡ getD (spellingsOf f) row []
-      either true e = by-name (ltb-true (getD label row 0) (length names) e)
+      either : (t : Bool) → ltb (half (getD label row 0)) (length names) ≡ t →
+          bytesOf d w (cond t (partOfDictionary names (half (getD label row 0))) (partOfDocument w (getD start row 0) (getD width row 0))) ≡ getD (spellingsOf f) row []
+      either true e = by-name (ltb-true (half (getD label row 0)) (length names) e)
       either false e = by-document
 
   pub looked-up : {dAt wAt at : ℕ × ℕ} {bytes : List ℕ} → SpellingAnswered dAt wAt d w label start width row at bytes → bytes ≡ take (getD width row 0) (drop (getD start row 0) w)
@@ -71,7 +74,7 @@ lookup-is-read d w _ _ _ _ _ _ _ _ p n row dAt wAt at bytes r l x = go (cases r)
         let s = spelt g v y u in
         let k : length (rowsOf f) ≡ _ = sym (length-map (rowsOf f) (λ (x : Row). x .spelling ⊲ [])) ∙ s .all in
         looked-up g s l
-        (begun (numbersOf names (spellingsOf f)) label label' (u .label-is) (length-numbers names (spellingsOf f) ∙ s .all) l)
+        (begun (labelsOf names f) label label' (u .label-is) (length-labels names f ∙ s .all) l)
         (begun (starts f) start start' (u .start-is) (length-map (rowsOf f) (λ (x : Row). x .start) ∙ k) l)
         (begun (lengths f) width width' (u .width-is) (length-map (rowsOf f) (λ (x : Row). # (x .spelling)) ∙ k) l)
         x

@@ -9,19 +9,18 @@ use Rattle.meaning.specs.Forest.{none, Term, _◂_}
 use Rattle.tree.specs.Rows.{GoodRows, labels, sizes, depth}
 use Rattle.tree.proofs.Lists.{labels-rows, sizes-rows}
 use Rattle.grammar.specs.Grammar.{Bytes, _⊲_, Content, Document}
-use Rattle.grammar.specs.Rows.{shape, Row, rowsOf}
+use Rattle.grammar.specs.Rows.{labelOf, shape, Row, rowsOf}
 use Rattle.grammar.proofs.Unique.{one-reading}
 use Rattle.grammar.proofs.Trees.{one-term, depth-is, shape-depth}
 use Rattle.judge.specs.Verdict.{Verdict}
 use Rattle.judge.proofs.OneVerdict.{one-verdict}
 use Rattle.dictionary.specs.Scan.{range}
 use Rattle.dictionary.specs.Names.{GoodDictionary}
-use Rattle.dictionary.specs.Numbers.{numbersOf}
 use Rattle.dictionary.proofs.Names.{good-unique}
-use Rattle.dictionary.proofs.Numbers.{length-numbers, number-below}
-use Rattle.document.specs.Reading.{spellingsOf, Unchanged, Written, Spelt, shortest, Read, DocumentChecked}
+use Rattle.document.specs.Reading.{spellingsOf, labelsOf, Unchanged, Written, Spelt, shortest, Read, DocumentChecked}
 use Rattle.document.proofs.Cases.{Cases, badDictionary, badDocument, noRoom, filled, cases, CheckCases, bad, judged, check-cases}
-use Rattle.document.proofs.Filling.{labelOf, treeOf, tree-labels, tree-sizes, rows-spell}
+use Rattle.document.proofs.Labels.{length-labels, below-at}
+use Rattle.document.proofs.Filling.{numberOf, treeOf, tree-labels, tree-sizes, rows-spell}
 use Rattle.document.proofs.Answers.{whole}
 
 -- ONE ANSWER
@@ -122,11 +121,11 @@ module _ {d w label size start width label' size' start' width' : List ℕ} {nam
   spellings-n : length (spellingsOf f) ≡ n
   spellings-n = length-map (rowsOf f) (λ (x : Row). x .spelling ⊲ []) ∙ rows-n
 
-  labels-n : length (numbersOf names (spellingsOf f)) ≡ n
-  labels-n = length-numbers names (spellingsOf f) ∙ spellings-n
+  labels-n : length (labelsOf names f) ≡ n
+  labels-n = length-labels names f ∙ spellings-n
 
   pub first-labels : take n label' ≡ labels (treeOf names f)
-  first-labels = ap (take n) (u .label-is) ∙ take-at (numbersOf names (spellingsOf f)) _ n labels-n ∙ sym (tree-labels names f)
+  first-labels = ap (take n) (u .label-is) ∙ take-at (labelsOf names f) _ n labels-n ∙ sym (tree-labels names f)
 
   pub first-sizes : take n size' ≡ sizes (treeOf names f)
   first-sizes =
@@ -138,11 +137,11 @@ module _ {d w label size start width label' size' start' width' : List ℕ} {nam
   unfolding depth
   deep =
       let e : depth (shape f) ≤ 64 = rw same-f at (whole v refl .shallow) in
-      omega (arith, e, shape-depth f, depth-is (labelOf names f) f none)
+      omega (arith, e, shape-depth f, depth-is (λ q s. labelOf q (numberOf names f s)) f none)
 
   pub good-tree : GoodRows (take n label') (take n size')
   good-tree =
-      let o : (T : Term) × (treeOf names f ≡ (T ◂ none)) = one-term (labelOf names f) y in (
+      let o : (T : Term) × (treeOf names f ≡ (T ◂ none)) = one-term (λ q s. labelOf q (numberOf names f s)) y in (
         o .0,
         record {
           labelled = first-labels ∙ ap labels (o .1);
@@ -155,9 +154,9 @@ module _ {d w label size start width label' size' start' width' : List ℕ} {nam
     where
       small : (i : ℕ) → i < length (take n label') → getD (take n label') i 0 < 65536
       small i h =
-          let e : take n label' ≡ numbersOf names (spellingsOf f) = first-labels ∙ tree-labels names f in
+          let e : take n label' ≡ labelsOf names f = first-labels ∙ tree-labels names f in
           let p : i < length (spellingsOf f) = omega (arith, ap length e, labels-n, spellings-n) in
-          rw e (omega (arith, number-below names (spellingsOf f) i p, g .few, spellings-n, whole v refl .few))
+          rw e (omega (arith, below-at names f i p, g .few, spellings-n, whole v refl .few))
 
   pub spelt : Spelt w label' start' width' n names f
   spelt = record {

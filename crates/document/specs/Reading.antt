@@ -7,7 +7,7 @@ use mathlib.Core.Path.{_≡_}
 use lib.ListN.{length, getD, take, drop}
 use Rattle.meaning.specs.Forest.{rows}
 use Rattle.grammar.specs.Grammar.{Bytes, _⊲_, Content, Document, OutsideAt}
-use Rattle.grammar.specs.Rows.{shape, Row, rowsOf, starts, lengths}
+use Rattle.grammar.specs.Rows.{Sort, labelEach, shape, Row, rowsOf, starts, lengths}
 use Rattle.dictionary.specs.Numbers.{numbersOf}
 use Rattle.tree.specs.Rows.{sizes, depth}
 use Rattle.meaning.specs.Calls.{refuse, accept, Filled}
@@ -17,23 +17,31 @@ use Rattle.dictionary.specs.Names.{GoodDictionary}
 abbrev pub spellingsOf : Content → List (List ℕ)
 spellingsOf f = map (λ (x : Row). x .spelling ⊲ []) (rowsOf f)
 
+-- what they are of
+abbrev pub sortsOf : Content → List Sort
+sortsOf f = map (λ (x : Row). x .sort) (rowsOf f)
+
+-- and their labels, each made of what the row is of and its spelling's number
+abbrev pub labelsOf : List (List ℕ) → Content → List ℕ
+labelsOf names f = labelEach (sortsOf f) (numbersOf names (spellingsOf f))
+
 -- the four lists before and after; `width` is 01's length list, since `length` is that of a list
 abbrev pub Unchanged : (label size start width label' size' start' width' : List ℕ) → Type 0
 Unchanged label size start width label' size' start' width' = (label' ≡ label) × (size' ≡ size) × (start' ≡ start) × (width' ≡ width)
 
 pub record Written (names : List (List ℕ)) (f : Content) (label size start width label' size' start' width' : List ℕ) : Type 0 where
-  pub label-is : Filled (numbersOf names (spellingsOf f)) label label'
+  pub label-is : Filled (labelsOf names f) label label'
   pub size-is : Filled (sizes (shape f)) size size'
   pub start-is : Filled (starts f) start start'
   pub width-is : Filled (lengths f) width width'
 
 -- for a content f of the document and the dictionary's names: each row's spelling stands in the document at its start and length, and
--- the labels are those of the spellings, a name's place, and then by first appearance
+-- the labels are those of the rows
 pub record Spelt (w label start width : List ℕ) (rows : ℕ) (names : List (List ℕ)) (f : Content) : Type 0 where
   pub all : length (spellingsOf f) ≡ rows
   pub inside : (row : ℕ) → row < rows → getD start row 0 + getD width row 0 ≤ length w
   pub bytes : (row : ℕ) → row < rows → take (getD width row 0) (drop (getD start row 0) w) ≡ getD (spellingsOf f) row []
-  pub labelled : take rows label ≡ numbersOf names (spellingsOf f)
+  pub labelled : take rows label ≡ labelsOf names f
 
 -- the shortest of the four lists
 abbrev pub shortest : List ℕ → List ℕ → List ℕ → List ℕ → ℕ

@@ -6,3 +6,4 @@ pub mod Positions
 pub mod Rows
 pub mod Emitted
 pub mod Told
+pub mod Labels

@@ -14,25 +14,25 @@ use Rattle.grammar.proofs.Theory.{⊲-append}
 use Rattle.grammar.proofs.Positions.{len-⊲, len-print}
 
 -- THE LABELS
-module _ (label : Bytes → ℕ) where
-  labelled : List Row → List ℕ
-  labelled R = map (λ (x : Row). label (x .spelling)) R
+module _ (label : Sort → Bytes → ℕ) where
+  rowLabels : List Row → List ℕ
+  rowLabels R = map (λ (x : Row). label (x .sort) (x .spelling)) R
 
-  -- the rows R are those of the forest r, and then those labelled d
+  -- the rows R are those of the forest r, and then those with the labels d
   abbrev Labels : Forest → List ℕ → List Row → Type 0
-  Labels r d R = labels r ++ d ≡ labelled R
+  Labels r d R = labels r ++ d ≡ rowLabels R
 
   leaf-labels : (k a : ℕ) (t : Bytes) (r : Forest) (d : List ℕ) (R : List Row) → Labels r d R → Labels (leaf label t r) d (leafRow k a t R)
-  unfolding labels labelled
+  unfolding labels rowLabels
   leaf-labels k a t r d R h = go (inked t)
     where
-      go : (y : Bool) → labels (cond y (some (label t) none r) r) ++ d ≡ labelled (cond y (row ofText k a t ∷ R) R)
-      go true = ap (λ (l : List ℕ). label t ∷ l) h
+      go : (y : Bool) → labels (cond y (some (label ofText t) none r) r) ++ d ≡ rowLabels (cond y (row ofText k a t ∷ R) R)
+      go true = ap (λ (l : List ℕ). label ofText t ∷ l) h
       go false = h
 
-  term-labels : (us r : Forest) (d : List ℕ) (k a : ℕ) (n : Bytes) (R : List Row) → Labels us (labels r ++ d) R → Labels (some (label n) us r) d (row ofElement k a n ∷ R)
-  unfolding labels labelled
-  term-labels us r d k a n R h = ap (λ (l : List ℕ). label n ∷ l) (append-assoc (labels us) (labels r) d ∙ h)
+  term-labels : (us r : Forest) (d : List ℕ) (k a : ℕ) (n : Bytes) (R : List Row) → Labels us (labels r ++ d) R → Labels (some (label ofElement n) us r) d (row ofElement k a n ∷ R)
+  unfolding labels rowLabels
+  term-labels us r d k a n R h = ap (λ (l : List ℕ). label ofElement n ∷ l) (append-assoc (labels us) (labels r) d ∙ h)
 
   labels-on : (k a : ℕ) (f : Content) (r : Forest) (d : List ℕ) (R : List Row) → Labels r d R → Labels (forest label f r) d (rowsFrom k a f R)
   unfolding forest rowsFrom labels
@@ -45,9 +45,9 @@ module _ (label : Bytes → ℕ) where
       (labels-on (suc k) (a + width f + # t + 1 + # n + # g + 1) i (leaf label l none) (labels r ++ d) _
       (leaf-labels (suc k) (a + width f + # t + 1 + # n + # g + 1 + width i) l none (labels r ++ d) R h))))
 
-  -- the tree's labels are the labels of its rows' spellings
-  pub labels-are : (f : Content) → labels (forest label f none) ≡ map (λ (x : Row). label (x .spelling)) (rowsOf f)
-  unfolding labelled labels
+  -- the tree's labels are those of its rows, by what they are of and their spellings
+  pub labels-are : (f : Content) → labels (forest label f none) ≡ map (λ (x : Row). label (x .sort) (x .spelling)) (rowsOf f)
+  unfolding rowLabels labels
   labels-are f = sym (append-nil (labels (forest label f none))) ∙ labels-on 1 0 f none [] [] refl
 
 -- EACH SPELLING STANDS IN THE DOCUMENT

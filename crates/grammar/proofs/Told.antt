@@ -6,20 +6,15 @@ use Prim.Native.Nat.{ℕ, suc, _+_, _-_, _<_}
 use native.Mathlib.Omega.{arith}
 use lib.ListN.{length, getD}
 use lib.Seq.{getD-append-seam}
-use Rattle.grammar.specs.Grammar.{Bytes, ε, _▸_, _⊲_, less, greater, Content, nothing, emptyElement, element, print, Document}
+use Rattle.grammar.specs.Grammar.{Bytes, ε, _▸_, _⊲_, Content, nothing, emptyElement, element, print, Document}
 use Rattle.grammar.specs.Tokens.{Level, outer, inner, Run, WellFormed}
-use Rattle.grammar.specs.Rows.{inked, #, width, Sort, ofElement, ofText, Row, row, leafRow, rowsFrom, rowsOf}
+use Rattle.grammar.specs.Rows.{inked, #, width, ofElement, ofText, Row, row, leafRow, rowsFrom, rowsOf}
+use Rattle.grammar.specs.Told.{Tells}
 use Rattle.grammar.proofs.InWords.{root-formed}
 use Rattle.grammar.proofs.Rows.{All, Stands, behind-byte, behind-bytes, behind-content}
 
--- the byte before a row's spelling tells what the row is of: it is the < of an element's tag, or the > of the tag before a text
-abbrev pub before : Sort → ℕ
-before ofElement = less
-before ofText = greater
-
-pub record Preceded (w : List ℕ) (x : Row) : Type 0 where
-  pub some : 0 < x .start
-  pub is : getD w (x .start - 1) 0 ≡ before (x .sort)
+abbrev pub Preceded : List ℕ → Row → Type 0
+Preceded w x = Tells w (x .start) (x .sort)
 
 -- the byte before a is a >
 record Ended (w : List ℕ) (a : ℕ) : Type 0 where

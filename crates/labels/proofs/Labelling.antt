@@ -2,7 +2,7 @@
 use mathlib.Core.Path.{_≡_, refl, sym, ap, _∙_}
 use mathlib.Core.Bool.{Bool, true, false, cond}
 use mathlib.Core.List.{List, [], _∷_, _++_}
-use Prim.Native.Nat.{ℕ, _+_, _≤_, _<_}
+use Prim.Native.Nat.{ℕ, _+_, _-_, _*_, _≤_, _<_}
 use native.Mathlib.Omega.{arith}
 use native.Mathlib.Numerals.{add-one}
 use lib.Dec.{ltb}
@@ -14,6 +14,10 @@ use Rattle.dictionary.specs.Scan.{range}
 use Rattle.dictionary.specs.Numbers.{placeOf, learn, numbersOf}
 use Rattle.dictionary.proofs.Numbers.{knownAfter, place-le, known-next, number-at, length-numbers}
 use Rattle.dictionary.specs.Index.{Indexed, MayNumber, Numbered}
+use Rattle.grammar.specs.Grammar.{less}
+use Rattle.grammar.specs.Rows.{Sort, ofElement, ofText, labelOf, labelEach}
+use Rattle.grammar.specs.Told.{Tells}
+use Rattle.grammar.proofs.Labels.{label-each, length-each}
 use Rattle.labels.specs.Labelling.{MayLabelRows}
 
 known-more : (ns ws : List (List ℕ)) (r : ℕ) → r < length ws → knownAfter ns (take (r + 1) ws) ≡ learn (knownAfter ns (take r ws)) (getD ws r [])
@@ -26,19 +30,34 @@ learn-count ns v = go (ltb (placeOf ns v) (length ns))
     go true = refl
     go false = length-append ns (v ∷ [])
 
+-- A LABEL, by the byte before the spelling
+pub label-even : {w : List ℕ} {from : ℕ} (number : ℕ) (sort : Sort) → Tells w from sort → getD w (from - 1) 0 ≡ less → 2 * number ≡ labelOf sort number
+label-even number ofElement t e = refl
+label-even number ofText t e = absurd (omega (arith, t .is, e))
+
+pub label-odd : {w : List ℕ} {from : ℕ} (number : ℕ) (sort : Sort) → Tells w from sort → (getD w (from - 1) 0 ≡ less → ⊥) → 2 * number + 1 ≡ labelOf sort number
+label-odd number ofElement t e = absurd (e (t .is))
+label-odd number ofText t e = refl
+
 -- THE LOOP'S INVARIANT
-pub record LabelledTo (d w : List ℕ) (names : ℕ) (index₀ label₀ index label : List ℕ) (known ws : List (List ℕ)) (rows count row : ℕ) : Type 0 where
+pub record LabelledTo (d w : List ℕ) (names : ℕ) (index₀ label₀ index label : List ℕ) (known : List (List ℕ)) (sorts : List Sort) (ws : List (List ℕ)) (rows count row : ℕ) : Type 0 where
   pub indexed : Indexed d w names index (knownAfter known (take row ws))
   pub kept : length index ≡ length index₀
   pub counted : length (knownAfter known (take row ws)) ≡ count
   pub low : names ≤ count
   pub high : count ≤ names + row
   pub within : row ≤ rows
-  pub labelled : Upto (numbersOf known ws) label₀ row label
+  pub labelled : Upto (labelEach sorts (numbersOf known ws)) label₀ row label
 
-module _ {d w : List ℕ} {names : ℕ} {index₀ label₀ start width : List ℕ} {rows : ℕ} {known ws : List (List ℕ)}
-    (m : MayLabelRows d w names index₀ label₀ start width rows known ws) where
-  pub labels-begin : LabelledTo d w names index₀ label₀ index₀ label₀ known ws rows names 0
+module _ {d w : List ℕ} {names : ℕ} {index₀ label₀ start width : List ℕ} {rows : ℕ} {known : List (List ℕ)} {sorts : List Sort} {ws : List (List ℕ)}
+    (m : MayLabelRows d w names index₀ label₀ start width rows known sorts ws) where
+  numbers-rows : length (numbersOf known ws) ≡ rows
+  numbers-rows = length-numbers known ws ∙ m .all
+
+  labels-rows : length (labelEach sorts (numbersOf known ws)) ≡ rows
+  labels-rows = length-each sorts (numbersOf known ws) (m .sorted ∙ sym numbers-rows) ∙ numbers-rows
+
+  pub labels-begin : LabelledTo d w names index₀ label₀ index₀ label₀ known sorts ws rows names 0
   labels-begin = record {
     indexed = m .indexed;
     kept = refl;
@@ -49,9 +68,9 @@ module _ {d w : List ℕ} {names : ℕ} {index₀ label₀ start width : List �
     labelled = record { is = refl; long = refl };
   }
 
-  module _ {index label : List ℕ} {count row : ℕ} (k : LabelledTo d w names index₀ label₀ index label known ws rows count row) where
-    pub labels-end : rows ≤ row → Filled (numbersOf known ws) label₀ label
-    labels-end h = upto-all (k .labelled) (omega (arith, k .within, m .all, length-numbers known ws))
+  module _ {index label : List ℕ} {count row : ℕ} (k : LabelledTo d w names index₀ label₀ index label known sorts ws rows count row) where
+    pub labels-end : rows ≤ row → Filled (labelEach sorts (numbersOf known ws)) label₀ label
+    labels-end h = upto-all (k .labelled) (omega (arith, k .within, labels-rows))
 
     module _ (here : row < rows) {from to : ℕ} (is-from : from ≡ getD start row 0) (is-to : to ≡ from + getD width row 0) where
       to-is : to ≡ getD start row 0 + getD width row 0
@@ -75,6 +94,13 @@ module _ {d w : List ℕ} {names : ℕ} {index₀ label₀ start width : List �
         short = omega (arith, to-short);
       }
 
+      -- what the row is of
+      pub its-sort : Tells w from (getD sorts row ofElement)
+      its-sort = rw is-from (m .tells row here)
+
+      pub from-inside : from ≤ length w
+      from-inside = omega (arith, is-from, m .spells row here .inside)
+
       spelling : range w from to ≡ getD ws row []
       spelling = rw (to-is, is-from) (m .spells row here .is)
 
@@ -94,17 +120,18 @@ module _ {d w : List ℕ} {names : ℕ} {index₀ label₀ start width : List �
         in-ws : row < length ws
         in-ws = omega (arith, m .all)
 
-        pub labels-next : {count' : ℕ} → count' ≡ cond (ltb found count) count (count + 1) →
-            LabelledTo d w names index₀ label₀ index' (set label row found) known ws rows count' (row + 1)
-        labels-next {count'} e = record {
+        pub labels-next : {count' new : ℕ} → new ≡ labelOf (getD sorts row ofElement) found → count' ≡ cond (ltb found count) count (count + 1) →
+            LabelledTo d w names index₀ label₀ index' (set label row new) known sorts ws rows count' (row + 1)
+        labels-next {count'} {new} made e = record {
           indexed = rw (known-more known ws row in-ws) (rw spelling at (done .indexed));
           kept = done .kept ∙ k .kept;
           counted = ap length (known-more known ws row in-ws) ∙ learn-count (knownAfter known (take row ws)) (getD ws row []) ∙ rw (← place, k .counted) (sym e);
           low = bounds (ltb found count) e .0;
           high = bounds (ltb found count) e .1;
           within = omega arith;
-          labelled = upto-more (k .labelled) (omega (arith, here, m .room-label)) (omega (arith, length-numbers known ws, in-ws))
-              (number-at known ws row in-ws ∙ sym place) refl;
+          labelled = upto-more (k .labelled) (omega (arith, here, m .room-label)) (omega (arith, labels-rows))
+              (label-each sorts (numbersOf known ws) row (omega (arith, m .sorted)) (omega (arith, numbers-rows))
+              ∙ ap (labelOf (getD sorts row ofElement)) (number-at known ws row in-ws ∙ sym place) ∙ sym made) refl;
         }
           where
             bounds : (t : Bool) → count' ≡ cond t count (count + 1) → (names ≤ count') × (count' ≤ names + (row + 1))

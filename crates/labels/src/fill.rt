@@ -5,6 +5,8 @@ ghost use mathlib.Core.List.{List, _++_};
 ghost use Prim.Native.Nat.{ℕ, _+_, _≤_, _<_};
 ghost use lib.Dec.{ltb};
 ghost use lib.ListN.{length, getD, take, drop};
+ghost use Rattle.grammar.specs.Rows.{Sort, labelOf};
+ghost use Rattle.grammar.specs.Told.{Tells};
 ghost use Rattle.labels.specs.Lists.{Long, Copied};
 ghost use Rattle.labels.specs.Labelling.{MayLabelRows, LabelsRows};
 use meaning::wide;
@@ -60,6 +62,19 @@ fn known(count: usize, found: usize) -> usize
     if found < count { count } else { count + 1 }
 }
 
+// The label of a row whose spelling starts at `from` and has this number: twice the number for an element's, one more for a text's. The byte
+// before tells which it is, `<` or the `>` of another tag.
+fn label_of(document: &[u8], from: usize, number: usize) -> u32
+    requires { ⌜ ((sort : Sort) × Tells (now document) from sort) × (from ≤ length (now document)) × (number < 65536) ⌝ }
+    ensures { λ r. ⌜ ((sort : Sort) → Tells (now (document .entry)) from sort → r ≡ labelOf sort number) ⌝ }
+{
+    let twice = 2 * (number as u32);
+    if document[from - 1] == b'<' {
+        return twice;
+    }
+    twice + 1
+}
+
 pub fn label_rows(
     dictionary: &[u8],
     document: &[u8],
@@ -70,7 +85,7 @@ pub fn label_rows(
     length: &[u32],
     rows: usize,
 )
-    requires { ⌜ ((known spellings : List (List ℕ)) × MayLabelRows (now dictionary) (now document) names (now index) (now label) (now start) (now length) rows known spellings) ⌝ }
+    requires { ⌜ ((known : List (List ℕ)) × (sorts : List Sort) × (spellings : List (List ℕ)) × MayLabelRows (now dictionary) (now document) names (now index) (now label) (now start) (now length) rows known sorts spellings) ⌝ }
     ensures { λ _. ⌜ LabelsRows (now (dictionary .entry)) (now (document .entry)) names (now (index .entry)) (now (label .entry)) (now (start .entry)) (now (length .entry)) rows (now (label .exit)) ⌝ }
 {
     let mut count = names;
@@ -87,7 +102,7 @@ pub fn label_rows(
             from,
             to,
         );
-        label[row] = found as u32;
+        label[row] = label_of(document, from, found);
         count = known(count, found);
         row += 1;
     }

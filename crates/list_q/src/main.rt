@@ -53,7 +53,8 @@ fn print_records(out: &[u32], records: usize) {
 
 fn list_q(label: &[u32], size: &[u32]) {
     let kind = [4u32, 0, 2];
-    let name = [0u32, 1, 1];
+    // f is an element of number 1: label 2.
+    let name = [0u32, 2, 1];
     let pattern_size = [3u32, 2, 1];
     let no_expression = [0u32; 0];
     let constraint = [0u32; 4];

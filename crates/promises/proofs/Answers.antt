@@ -12,7 +12,8 @@ use Rattle.meaning.proofs.Means.{matcher-means}
 use Rattle.grammar.proofs.Unique.{one-reading}
 use Rattle.dictionary.specs.Spelling.{spellingOf, bytesOf, IsPart, standsAt}
 use Rattle.dictionary.proofs.Names.{names-unique}
-use Rattle.document.proofs.Filling.{labelOf, tree-labels, tree-sizes}
+use Rattle.document.proofs.Filling.{numberOf, tree-labels, tree-sizes}
+use Rattle.document.proofs.Labels.{spelled-row, same-half, same-label, even-at, small-at}
 use Rattle.document.proofs.Promises.{tree-is-good, spellings-inside}
 use Rattle.document.proofs.Lookup.{lookup-is-read}
 use Rattle.expression.specs.Expression.{Expression}
@@ -51,7 +52,13 @@ module _ {l : Lists} {list : List ℕ} {r : Tested} {T : Term} {P : Pattern} {Q 
 
 pub answers : Answers
 answers = record {
-  reader = record { tree = λ r e g y. r .written e _ _ _ g y; one = λ a c. one-reading a c .0; one-tree = λ names f. (labelOf names f, sym (tree-labels names f), tree-sizes names f); taken = tree-is-good; spelt = spellings-inside; looked-up = lookup-is-read };
+  reader = record { tree = λ r e g y. r .written e _ _ _ g y; one = λ a c. one-reading a c .0; one-tree = λ names f. (numberOf names f, sym (tree-labels names f), tree-sizes names f); taken = tree-is-good; spelt = spellings-inside; looked-up = lookup-is-read };
+  element-or-text = record {
+    half-tells = λ names f i j h k. same-half names f i j (spelled-row f i h) (spelled-row f j k);
+    whole-tells = λ names f i j h k. same-label names f i j (spelled-row f i h) (spelled-row f j k);
+    even-tells = λ names f i h. even-at names f i (spelled-row f i h);
+    small = λ d names f i g few h. small-at names f i (spelled-row f i h) (g .few) few;
+  };
   lookup = looks-up;
   test = λ l list r T P Q es cs s p. (λ h. s .yes-or-no (accepted r h) T P Q es cs p .0 h, λ m. s .yes-or-no (of-matcher s p m) T P Q es cs p .1 m);
   instance = λ l L S L' S' r U s i h a b. instance-made l L S r L' S' U i h a b s;

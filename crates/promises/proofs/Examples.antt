@@ -50,10 +50,10 @@ poses t p c = record { tree = t; rest = record { pattern = p; table = no-table; 
 
 -- g(f(a), f, a), and Q
 abbrev pub tree : Term
-tree = term 0 (some 1 (some 3 none none) (some 1 none (some 3 none none)))
+tree = term 0 (some 2 (some 7 none none) (some 2 none (some 7 none none)))
 
 abbrev pub query : Pattern
-query = context 0 (symbol 1 (sequence 1 nil))
+query = context 0 (symbol 2 (sequence 1 nil))
 
 pub query-on-tree : Poses queryOnTree tree query (aContext ∷ aSequence ∷ []) [] (free ∷ free ∷ [])
 unfolding labels sizes rows depth treeT treeF GoodT GoodF afterT afterF
@@ -66,17 +66,17 @@ query-on-tree =
 
 -- f(a, a)
 abbrev pub twoLeaves : Term
-twoLeaves = term 1 (some 3 none (some 3 none none))
+twoLeaves = term 2 (some 7 none (some 7 none none))
 
-two-leaves : GoodTree (1 ∷ 3 ∷ 3 ∷ []) (3 ∷ 1 ∷ 1 ∷ []) twoLeaves
+two-leaves : GoodTree (2 ∷ 7 ∷ 7 ∷ []) (3 ∷ 1 ∷ 1 ∷ []) twoLeaves
 unfolding labels sizes rows depth
 two-leaves = good-tree refl refl (omega arith) (omega arith) (one-label (omega arith) (one-label (omega arith) (one-label (omega arith) no-label)))
 
 -- f(s0, s1), f(s0, s0) and f(s0)
 abbrev pub both : Pattern
-both = symbol 1 (sequence 0 (sequence 1 nil))
+both = symbol 2 (sequence 0 (sequence 1 nil))
 
-good-both : GoodPattern (0 ∷ 2 ∷ 2 ∷ []) (1 ∷ 0 ∷ 1 ∷ []) (3 ∷ 1 ∷ 1 ∷ []) both (aSequence ∷ aSequence ∷ [])
+good-both : GoodPattern (0 ∷ 2 ∷ 2 ∷ []) (2 ∷ 0 ∷ 1 ∷ []) (3 ∷ 1 ∷ 1 ∷ []) both (aSequence ∷ aSequence ∷ [])
 unfolding labels sizes rows depth treeT treeF GoodT GoodF afterT afterF
 good-both = good-pattern refl refl refl (omega arith) (omega arith) (omega arith, (omega arith, (omega arith, tt))) (comes (omega arith) refl, (comes (omega arith) refl, tt)) refl (omega arith)
 
@@ -84,7 +84,7 @@ pub two-sequences : Poses twoSequences twoLeaves both (aSequence ∷ aSequence �
 two-sequences = poses two-leaves good-both (none-given (none-given all-given))
 
 abbrev pub letter : Expression
-letter = choice (E.symbol 3) (E.symbol 3)
+letter = choice (E.symbol 7) (E.symbol 7)
 
 pub in-choice : Poses inChoice twoLeaves both (aSequence ∷ aSequence ∷ []) (letter ∷ []) (bound letter 0 ∷ free ∷ [])
 in-choice =
@@ -93,13 +93,13 @@ in-choice =
       rest =
           record {
             pattern = good-both;
-            table = record { kinds = refl; names = refl; sizes = refl; most = omega arith; small = each-at 65536 (0 ∷ 3 ∷ 3 ∷ []) (omega arith, (omega arith, (omega arith, tt))) };
+            table = record { kinds = refl; names = refl; sizes = refl; most = omega arith; small = each-at 65536 (0 ∷ 7 ∷ 7 ∷ []) (omega arith, (omega arith, (omega arith, tt))) };
             constraints = one-given {flag = 0} tt (record { before = []; behind = []; among = refl; place = refl }) (omega arith) (none-given all-given);
           };
     }
 
 abbrev pub twice : Pattern
-twice = symbol 1 (sequence 0 (sequence 0 nil))
+twice = symbol 2 (sequence 0 (sequence 0 nil))
 
 pub same-sequence : Poses sameSequence twoLeaves twice (aSequence ∷ []) [] (free ∷ [])
 unfolding labels sizes rows depth treeT treeF GoodT GoodF afterT afterF
@@ -109,7 +109,7 @@ same-sequence =
     (none-given all-given)
 
 abbrev pub once : Pattern
-once = symbol 1 (sequence 0 nil)
+once = symbol 2 (sequence 0 nil)
 
 abbrev pub nothing : Expression
 nothing = repetition E.empty
@@ -129,10 +129,10 @@ in-repetition =
 
 -- f(f(a)), and context 0 over (context 0 over a)
 abbrev pub nested : Term
-nested = term 1 (some 1 (some 3 none none) none)
+nested = term 2 (some 2 (some 7 none none) none)
 
 abbrev pub twiceAround : Pattern
-twiceAround = context 0 (context 0 (symbol 3 nil))
+twiceAround = context 0 (context 0 (symbol 7 nil))
 
 pub same-context : Poses sameContext nested twiceAround (aContext ∷ []) [] (free ∷ [])
 unfolding labels sizes rows depth treeT treeF GoodT GoodF afterT afterF
@@ -143,10 +143,10 @@ same-context =
 
 -- f, and f(a, s0)
 abbrev pub leaf : Term
-leaf = term 1 none
+leaf = term 2 none
 
 abbrev pub behind : Pattern
-behind = symbol 1 (cons (symbol 3 nil) (sequence 0 nil))
+behind = symbol 2 (cons (symbol 7 nil) (sequence 0 nil))
 
 pub no-term-left : Poses noTermLeft leaf behind (aSequence ∷ []) [] (free ∷ [])
 unfolding labels sizes rows depth treeT treeF GoodT GoodF afterT afterF
@@ -157,7 +157,7 @@ no-term-left =
 
 -- f(a), and function 0 over individual 1
 abbrev pub applied : Term
-applied = term 1 (some 3 none none)
+applied = term 2 (some 7 none none)
 
 abbrev pub anyApplied : Pattern
 anyApplied = function 0 (cons (individual 1) nil)
@@ -171,9 +171,9 @@ function-over-individual =
 
 -- a
 abbrev pub letterA : Term
-letterA = term 3 none
+letterA = term 7 none
 
-pub is-ground : Poses ground letterA (symbol 3 nil) [] [] []
+pub is-ground : Poses ground letterA (symbol 7 nil) [] [] []
 unfolding labels sizes rows depth treeT treeF GoodT GoodF afterT afterF
 is-ground =
     poses (good-tree refl refl (omega arith) (omega arith) (one-label (omega arith) no-label))

@@ -54,9 +54,9 @@ module _ (D : Demands) where
   -- and the test says yes to a on a
   pub yes-to-ground : (r : Tested) → TestSettled ground [] r → r ≡ Yes
   unfolding apply firstsT
-  yes-to-ground r s = go r (D .answers .test ground [] r letterA (symbol 3 nil) [] [] [] s is-ground .1 is-record)
+  yes-to-ground r s = go r (D .answers .test ground [] r letterA (symbol 7 nil) [] [] [] s is-ground .1 is-record)
     where
-      is-record : IsRecord (Allowed []) [] (symbol 3 nil) letterA []
+      is-record : IsRecord (Allowed []) [] (symbol 7 nil) letterA []
       is-record = record { matcher = []; solves = record { right = refl; equal = refl; allowed = λ x v e. absurd (omega (arith, look-old [] x v e)) }; its = refl }
 
       go : (r : Tested) → yesOf r ≡ true → r ≡ Yes

@@ -1,4 +1,5 @@
--- 01, "Examples": "Those marked P are proved, all in a single table under one statement." The statement is `TableHolds`.
+-- 01, "Examples": "Those marked P are proved, all in a single table under one statement." The statement is `TableHolds`. The labels are those
+-- of 02, #101: the elements g, f, h have 0, 2, 4, the texts a, b 7, 9.
 use Prim.Native.Nat.{ℕ, zero, suc, _≤_, _/_}
 use mathlib.Core.Path.{_≡_}
 use mathlib.Core.Logic.{_↔_}
@@ -42,41 +43,41 @@ row l b n e r t = record { lists = l; budget = b; lent = n; ending = e; records 
 
 -- Q, context 0 over f(sequence 1), on T, g(f(a), f, a)
 abbrev pub queryOnTree : Lists
-queryOnTree = lists (0 ∷ 1 ∷ 3 ∷ 1 ∷ 3 ∷ []) (5 ∷ 2 ∷ 1 ∷ 1 ∷ 1 ∷ []) (4 ∷ 0 ∷ 2 ∷ []) (0 ∷ 1 ∷ 1 ∷ []) (3 ∷ 2 ∷ 1 ∷ []) [] [] [] (0 ∷ 0 ∷ 0 ∷ 0 ∷ [])
+queryOnTree = lists (0 ∷ 2 ∷ 7 ∷ 2 ∷ 7 ∷ []) (5 ∷ 2 ∷ 1 ∷ 1 ∷ 1 ∷ []) (4 ∷ 0 ∷ 2 ∷ []) (0 ∷ 2 ∷ 1 ∷ []) (3 ∷ 2 ∷ 1 ∷ []) [] [] [] (0 ∷ 0 ∷ 0 ∷ 0 ∷ [])
 
 -- f(s0, s1) on f(a, a)
 abbrev pub twoSequences : Lists
-twoSequences = lists (1 ∷ 3 ∷ 3 ∷ []) (3 ∷ 1 ∷ 1 ∷ []) (0 ∷ 2 ∷ 2 ∷ []) (1 ∷ 0 ∷ 1 ∷ []) (3 ∷ 1 ∷ 1 ∷ []) [] [] [] (0 ∷ 0 ∷ 0 ∷ 0 ∷ [])
+twoSequences = lists (2 ∷ 7 ∷ 7 ∷ []) (3 ∷ 1 ∷ 1 ∷ []) (0 ∷ 2 ∷ 2 ∷ []) (2 ∷ 0 ∷ 1 ∷ []) (3 ∷ 1 ∷ 1 ∷ []) [] [] [] (0 ∷ 0 ∷ 0 ∷ 0 ∷ [])
 
 -- the same, s0 in the choice of a and a
 abbrev pub inChoice : Lists
 inChoice =
-    lists (1 ∷ 3 ∷ 3 ∷ []) (3 ∷ 1 ∷ 1 ∷ []) (0 ∷ 2 ∷ 2 ∷ []) (1 ∷ 0 ∷ 1 ∷ []) (3 ∷ 1 ∷ 1 ∷ []) (3 ∷ 0 ∷ 0 ∷ []) (0 ∷ 3 ∷ 3 ∷ []) (3 ∷ 1 ∷ 1 ∷ [])
+    lists (2 ∷ 7 ∷ 7 ∷ []) (3 ∷ 1 ∷ 1 ∷ []) (0 ∷ 2 ∷ 2 ∷ []) (2 ∷ 0 ∷ 1 ∷ []) (3 ∷ 1 ∷ 1 ∷ []) (3 ∷ 0 ∷ 0 ∷ []) (0 ∷ 7 ∷ 7 ∷ []) (3 ∷ 1 ∷ 1 ∷ [])
     (1 ∷ 0 ∷ 0 ∷ 0 ∷ [])
 
 -- f(s0, s0) on f(a, a)
 abbrev pub sameSequence : Lists
-sameSequence = lists (1 ∷ 3 ∷ 3 ∷ []) (3 ∷ 1 ∷ 1 ∷ []) (0 ∷ 2 ∷ 2 ∷ []) (1 ∷ 0 ∷ 0 ∷ []) (3 ∷ 1 ∷ 1 ∷ []) [] [] [] (0 ∷ 0 ∷ [])
+sameSequence = lists (2 ∷ 7 ∷ 7 ∷ []) (3 ∷ 1 ∷ 1 ∷ []) (0 ∷ 2 ∷ 2 ∷ []) (2 ∷ 0 ∷ 0 ∷ []) (3 ∷ 1 ∷ 1 ∷ []) [] [] [] (0 ∷ 0 ∷ [])
 
 -- f(s0) on f(a, a), s0 in repetition of empty, flag 1
 abbrev pub inRepetition : Lists
-inRepetition = lists (1 ∷ 3 ∷ 3 ∷ []) (3 ∷ 1 ∷ 1 ∷ []) (0 ∷ 2 ∷ []) (1 ∷ 0 ∷ []) (2 ∷ 1 ∷ []) (4 ∷ 1 ∷ []) (0 ∷ 0 ∷ []) (2 ∷ 1 ∷ []) (1 ∷ 1 ∷ [])
+inRepetition = lists (2 ∷ 7 ∷ 7 ∷ []) (3 ∷ 1 ∷ 1 ∷ []) (0 ∷ 2 ∷ []) (2 ∷ 0 ∷ []) (2 ∷ 1 ∷ []) (4 ∷ 1 ∷ []) (0 ∷ 0 ∷ []) (2 ∷ 1 ∷ []) (1 ∷ 1 ∷ [])
 
 -- context 0 over (context 0 over a) on f(f(a))
 abbrev pub sameContext : Lists
-sameContext = lists (1 ∷ 1 ∷ 3 ∷ []) (3 ∷ 2 ∷ 1 ∷ []) (4 ∷ 4 ∷ 0 ∷ []) (0 ∷ 0 ∷ 3 ∷ []) (3 ∷ 2 ∷ 1 ∷ []) [] [] [] (0 ∷ 0 ∷ [])
+sameContext = lists (2 ∷ 2 ∷ 7 ∷ []) (3 ∷ 2 ∷ 1 ∷ []) (4 ∷ 4 ∷ 0 ∷ []) (0 ∷ 0 ∷ 7 ∷ []) (3 ∷ 2 ∷ 1 ∷ []) [] [] [] (0 ∷ 0 ∷ [])
 
 -- f(a, s0) on f
 abbrev pub noTermLeft : Lists
-noTermLeft = lists (1 ∷ []) (1 ∷ []) (0 ∷ 0 ∷ 2 ∷ []) (1 ∷ 3 ∷ 0 ∷ []) (3 ∷ 1 ∷ 1 ∷ []) [] [] [] (0 ∷ 0 ∷ [])
+noTermLeft = lists (2 ∷ []) (1 ∷ []) (0 ∷ 0 ∷ 2 ∷ []) (2 ∷ 7 ∷ 0 ∷ []) (3 ∷ 1 ∷ 1 ∷ []) [] [] [] (0 ∷ 0 ∷ [])
 
 -- function 0 over individual 1 on f(a)
 abbrev pub functionOverIndividual : Lists
-functionOverIndividual = lists (1 ∷ 3 ∷ []) (2 ∷ 1 ∷ []) (3 ∷ 1 ∷ []) (0 ∷ 1 ∷ []) (2 ∷ 1 ∷ []) [] [] [] (0 ∷ 0 ∷ 0 ∷ 0 ∷ [])
+functionOverIndividual = lists (2 ∷ 7 ∷ []) (2 ∷ 1 ∷ []) (3 ∷ 1 ∷ []) (0 ∷ 1 ∷ []) (2 ∷ 1 ∷ []) [] [] [] (0 ∷ 0 ∷ 0 ∷ 0 ∷ [])
 
 -- a on a
 abbrev pub ground : Lists
-ground = lists (3 ∷ []) (1 ∷ []) (0 ∷ []) (3 ∷ []) (1 ∷ []) [] [] [] []
+ground = lists (7 ∷ []) (1 ∷ []) (0 ∷ []) (7 ∷ []) (1 ∷ []) [] [] [] []
 
 -- the examples, in 01's order
 abbrev pub table : List Row

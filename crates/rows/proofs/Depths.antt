@@ -126,4 +126,4 @@ on-depths k a (element f t n g i l u) R h =
 
 pub sizes-from-depths : (f : Content) → sizes (shape f) ≡ sizesOf (depths (rowsOf f))
 unfolding deeper sizesOf
-sizes-from-depths f = sym (sizes-tree (λ s. 0) f) ∙ sym (on-depths 1 0 f [] refl ∙ append-nil (sizesOn [] f))
+sizes-from-depths f = sym (sizes-tree (λ q s. 0) f) ∙ sym (on-depths 1 0 f [] refl ∙ append-nil (sizesOn [] f))

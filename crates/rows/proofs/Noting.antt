@@ -384,7 +384,7 @@ module _ {w S L Z H : List ℕ} {i x depth n : ℕ} (k : Noting w S L Z H i x de
           few = omega (arith, few, run .outside d);
           starts-are = rw (rows-same F) at starts;
           lengths-are = rw (rows-same F) at lengths;
-          sizes-are = rw (sizes-tree (λ s. 0) F) at sizes;
+          sizes-are = rw (sizes-tree (λ q s. 0) F) at sizes;
         }
         go (p ∷ o) z s starts lengths sizes D = absurd (omega (arith, d, z))
 

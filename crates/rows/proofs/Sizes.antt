@@ -8,7 +8,7 @@ use lib.ListN.{length, length-append}
 use Rattle.meaning.specs.Forest.{Forest, none, some, rows}
 use Rattle.tree.specs.Rows.{sizes}
 use Rattle.grammar.specs.Grammar.{Bytes, Content, nothing, emptyElement, element}
-use Rattle.grammar.specs.Rows.{inked, leaf, forest}
+use Rattle.grammar.specs.Rows.{Sort, ofElement, ofText, inked, leaf, forest}
 use Rattle.grammar.specs.Machine.{Open}
 use Rattle.grammar.proofs.Trees.{leafRows, contentRows, leaf-rows, rows-are}
 use Rattle.judge.proofs.Judging.{rowsO}
@@ -94,20 +94,20 @@ own-size A x f t =
     ∙ leaf-pre A (x ∷ sizesOn [] f) t ∙ ap (λ (y : List ℕ). A ++ y) (leaf-pre (x ∷ []) (sizesOn [] f) t)
 
 -- THEY ARE THE TREE'S
-leaf-sizes : (label : Bytes → ℕ) (S : List ℕ) (t : Bytes) (r : Forest) → leafSizes S t ++ sizes r ≡ S ++ sizes (leaf label t r)
+leaf-sizes : (label : Sort → Bytes → ℕ) (S : List ℕ) (t : Bytes) (r : Forest) → leafSizes S t ++ sizes r ≡ S ++ sizes (leaf label t r)
 unfolding leafSizes sizes rows
 leaf-sizes label S t r = go (inked t)
   where
-    go : (y : Bool) → cond y (S ++ (1 ∷ [])) S ++ sizes r ≡ S ++ sizes (cond y (some (label t) none r) r)
+    go : (y : Bool) → cond y (S ++ (1 ∷ [])) S ++ sizes r ≡ S ++ sizes (cond y (some (label ofText t) none r) r)
     go true = append-assoc S (1 ∷ []) (sizes r)
     go false = refl
 
-sizes-pre-tree : (label : Bytes → ℕ) (S : List ℕ) (f : Content) (r : Forest) → sizesOn S f ++ sizes r ≡ S ++ sizes (forest label f r)
+sizes-pre-tree : (label : Sort → Bytes → ℕ) (S : List ℕ) (f : Content) (r : Forest) → sizesOn S f ++ sizes r ≡ S ++ sizes (forest label f r)
 unfolding sizesOn forest sizes rows
 sizes-pre-tree label S nothing r = refl
 sizes-pre-tree label S (emptyElement f t n g) r =
     append-assoc (leafSizes (sizesOn S f) t) (1 ∷ []) (sizes r)
-    ∙ leaf-sizes label (sizesOn S f) t (some (label n) none r) ∙ sizes-pre-tree label S f (leaf label t (some (label n) none r))
+    ∙ leaf-sizes label (sizesOn S f) t (some (label ofElement n) none r) ∙ sizes-pre-tree label S f (leaf label t (some (label ofElement n) none r))
 sizes-pre-tree label S (element f t n g i l h) r =
     let k : ℕ = suc (contentRows i + leafRows l) in
     let X : List ℕ = leafSizes (sizesOn S f) t in
@@ -118,8 +118,8 @@ sizes-pre-tree label S (element f t n g i l h) r =
     ap (λ (x : List ℕ). x ++ sizes r) inside
     ∙ append-assoc (X ++ (k ∷ [])) (sizes us) (sizes r) ∙ append-assoc X (k ∷ []) (sizes us ++ sizes r)
     ∙ ap (λ (m : ℕ). X ++ (m ∷ (sizes us ++ sizes r))) count
-    ∙ leaf-sizes label (sizesOn S f) t (some (label n) us r) ∙ sizes-pre-tree label S f (leaf label t (some (label n) us r))
+    ∙ leaf-sizes label (sizesOn S f) t (some (label ofElement n) us r) ∙ sizes-pre-tree label S f (leaf label t (some (label ofElement n) us r))
 
-pub sizes-tree : (label : Bytes → ℕ) (f : Content) → sizesOn [] f ≡ sizes (forest label f none)
+pub sizes-tree : (label : Sort → Bytes → ℕ) (f : Content) → sizesOn [] f ≡ sizes (forest label f none)
 unfolding sizes
 sizes-tree label f = sym (append-nil (sizesOn [] f)) ∙ sizes-pre-tree label [] f none

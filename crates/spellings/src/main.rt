@@ -3,10 +3,10 @@ use libc::STDOUT_FILENO;
 
 const DOCUMENT: [u8; 14] = *b"<g>a<query/>  ";
 
-// Row 0 has the label of a name, row 1 too, with a range outside the document, row 2 has the first label behind the names and
-// a range of five bytes, row 3 one that reaches the document's end, row 4 one that goes a byte beyond it, row 5 one that starts beyond
-// it. Rows 6, 7 and 8 are beyond one list, two and all of them.
-const LABEL: [u32; 8] = [0, 4, 5, 6, 5, 7, 3, 3];
+// Row 0 has the label of a name as an element, row 1 the last label of a name, as a text, with a range outside the document, row 2 has the
+// first label behind the names and a range of five bytes, row 3 the largest label and a range that reaches the document's end, row 4 one that
+// goes a byte beyond it, row 5 one that starts beyond it. Rows 6, 7 and 8 are beyond one list, two and all of them.
+const LABEL: [u32; 8] = [0, 9, 10, 65535, 11, 14, 7, 7];
 
 const START: [u32; 7] = [1, 99, 5, 9, 9, 4294967295, 3];
 

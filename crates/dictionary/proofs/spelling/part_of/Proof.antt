@@ -1,5 +1,7 @@
 -- `part_of` meets its contract: a row beyond a list, a name, or a part of the document.
+use mathlib.Core.Path.{ap}
 use native.Mathlib.Omega.{arith}
+use Rattle.dictionary.specs.Spelling.{half}
 use Rattle.dictionary.proofs.Parts.{checked-names, far-label, far-start, far-length, name-answer, document-answer}
 use borrow.Author.Needs.{needs}
 use Rattle.dictionary.proofs.spelling.part_of.Statement.{statement}
@@ -27,10 +29,10 @@ check-requires : tie.Need-check-requires
 check-requires c κs = search needs
 
 name-part-requires : tie.Need-name-part-requires
-name-part-requires c κs = checked-names (c .before .check .ensures) (c .before .before .wide .result) (omega arith)
+name-part-requires c κs = checked-names (c .before .check .ensures) (half (c .before .before .wide .result)) (omega arith)
 
 returns-4 : tie.Need-returns-4
-returns-4 c = name-answer (c .before .before .before .before .before .before .before .if1 .left) (c .before .before .before .before .before .before .if2 .left) (c .before .before .before .before .before .if3 .left) (c .before .before .before .wide .ensures .0) (c .before .before .check .ensures) (omega arith) (c .name-part .ensures)
+returns-4 c = name-answer (c .before .before .before .before .before .before .before .if1 .left) (c .before .before .before .before .before .before .if2 .left) (c .before .before .before .before .before .if3 .left) (ap half (c .before .before .before .wide .ensures .0)) (c .before .before .check .ensures) (omega arith) (c .name-part .ensures)
 
 mul-document-part : tie.Need-mul-document-part
 mul-document-part c = search needs
@@ -48,7 +50,7 @@ document-part-requires : tie.Need-document-part-requires
 document-part-requires c κs = search needs
 
 returns-5 : tie.Need-returns-5
-returns-5 c = document-answer (c .before .before .before .before .before .before .before .before .before .if1 .left) (c .before .before .before .before .before .before .before .before .if2 .left) (c .before .before .before .before .before .before .before .if3 .left) (c .before .before .before .before .before .wide .ensures .0) (c .before .before .before .before .check .ensures) (omega arith) (c .document-part .ensures)
+returns-5 c = document-answer (c .before .before .before .before .before .before .before .before .before .if1 .left) (c .before .before .before .before .before .before .before .before .if2 .left) (c .before .before .before .before .before .before .before .if3 .left) (ap half (c .before .before .before .before .before .wide .ensures .0)) (c .before .before .before .before .check .ensures) (omega arith) (c .document-part .ensures)
 
 pub part-of-spec : {M : Type 1} → statement M
 part-of-spec =

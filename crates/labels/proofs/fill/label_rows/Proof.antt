@@ -6,13 +6,14 @@ use mathlib.Core.Path.{_≡_, ap}
 use mathlib.Core.List.{List}
 use native.Mathlib.Omega.{arith}
 use lib.ListN.{take, getD}
+use Rattle.grammar.specs.Rows.{Sort}
 use Rattle.labels.specs.Labelling.{MayLabelRows}
-use Rattle.labels.proofs.Labelling.{LabelledTo, labels-begin, labels-end, from-short, may-label, found-few, count-few, label-room, labels-next}
+use Rattle.labels.proofs.Labelling.{LabelledTo, labels-begin, labels-end, from-short, from-inside, may-label, its-sort, found-few, count-few, label-room, labels-next}
 use Rattle.labels.proofs.fill.label_rows.Statement.{statement}
 use Rattle.labels.proofs.fill.label_rows.Tie as tie
 
 abbrev Inv-loop : tie.InvT-loop
-Inv-loop dictionary document names index₀ label₀ start width rows count₀ row₀ index label count row = (known spellings : List (List ℕ)) → MayLabelRows dictionary document names index₀ label₀ start width rows known spellings → LabelledTo dictionary document names index₀ label₀ index label known spellings rows count row
+Inv-loop dictionary document names index₀ label₀ start width rows count₀ row₀ index label count row = (known : List (List ℕ)) (sorts : List Sort) (spellings : List (List ℕ)) → MayLabelRows dictionary document names index₀ label₀ start width rows known sorts spellings → LabelledTo dictionary document names index₀ label₀ index label known sorts spellings rows count row
 
 abbrev μ-loop : tie.MeasureT-loop
 μ-loop dictionary document names index₀ label₀ start width rows count₀ row₀ index label count row = rows - row
@@ -30,22 +31,22 @@ numbers c = c .before .before .before .before
 
 -- WHAT IS KNOWN THERE
 -- what was given
-abbrev Given : tie.At-loop Inv-loop μ-loop → List (List ℕ) → List (List ℕ) → Type 0
+abbrev Given : tie.At-loop Inv-loop μ-loop → List (List ℕ) → List Sort → List (List ℕ) → Type 0
 Given h = let a = begun h .args in MayLabelRows (a .dictionary .now) (a .document .now) (a .names) (a .index .now) (a .label .now) (a .start .now) (a .length .now) (a .rows)
 
 -- the row's spelling ends where its start and length say
 end : (n : tie.After-number2 Inv-loop μ-loop) → n .before .number .result + n .number2 .result ≡ n .before .number .result + getD (begun (head n) .args .length .now) (head n .loop .row) 0
 end n = ap (λ (m : ℕ). n .before .number .result + m) (n .number2 .ensures)
 
-asked : (n : tie.After-number2 Inv-loop μ-loop) {known ws : List (List ℕ)} → Given (head n) known ws →
+asked : (n : tie.After-number2 Inv-loop μ-loop) {known : List (List ℕ)} {sorts : List Sort} {ws : List (List ℕ)} → Given (head n) known sorts ws →
     let a = begun (head n) .args in
     let l = head n .loop in
     MayNumber (a .dictionary .now) (a .document .now) (a .names) (l .index) (l .count) (n .before .number .result) (n .before .number .result + n .number2 .result)
     (knownAfter known (take (l .row) ws))
-asked n {known} {ws} m = may-label m (head n .loop .inv known ws m) (n .before .before .loop-test .taken) (n .before .number .ensures) (end n)
+asked n {known} {sorts} {ws} m = may-label m (head n .loop .inv known sorts ws m) (n .before .before .loop-test .taken) (n .before .number .ensures) (end n)
 
 -- what `number_of` did, whatever is known
-done : (c : tie.After-slice-known3 Inv-loop μ-loop) {known ws : List (List ℕ)} → Given (head (numbers c)) known ws →
+done : (c : tie.After-slice-known3 Inv-loop μ-loop) {known : List (List ℕ)} {sorts : List Sort} {ws : List (List ℕ)} → Given (head (numbers c)) known sorts ws →
     let n = numbers c in
     let a = begun (head n) .args in
     let l = head n .loop in
@@ -56,63 +57,75 @@ done c m = c .before .before .number-of .ensures _ (asked (numbers c) m)
 few : (c : tie.After-slice-known3 Inv-loop μ-loop) → (c .before .before .number-of .result ≤ head (numbers c) .loop .count) × (head (numbers c) .loop .count ≤ 3071)
 few c =
     let n = numbers c in
-    let m = begun (head n) .pre .2 in
-    let k = head n .loop .inv _ _ m in
+    let m = begun (head n) .pre .3 in
+    let k = head n .loop .inv _ _ _ m in
     let here = n .before .before .loop-test .taken in
     (found-few m k here (n .before .number .ensures) (end n) (done c m), count-few m k here (n .before .number .ensures) (end n) (done c m))
 
 -- THE NEEDS
 loop-holds : tie.Need-loop-holds Inv-loop μ-loop
-loop-holds c = λ n w m. labels-begin m
+loop-holds c = λ known sorts ws m. labels-begin m
 
 number-requires : tie.Need-number-requires Inv-loop μ-loop
-number-requires c κs = omega (arith, begun (c .before) .pre .2 .room-start)
+number-requires c κs = omega (arith, begun (c .before) .pre .3 .room-start)
 
 number-requires-2 : tie.Need-number-requires-2 Inv-loop μ-loop
-number-requires-2 c κs = omega (arith, begun (c .before .before) .pre .2 .room-width)
+number-requires-2 c κs = omega (arith, begun (c .before .before) .pre .3 .room-width)
 
 add-to : tie.Need-add-to Inv-loop μ-loop
 add-to c =
-    let m = begun (head c) .pre .2 in
-    omega (arith, from-short m (head c .loop .inv _ _ m) (c .before .before .loop-test .taken) (c .before .number .ensures) (end c), c .before .number .ensures, c .number2 .ensures)
+    let m = begun (head c) .pre .3 in
+    omega (arith, from-short m (head c .loop .inv _ _ _ m) (c .before .before .loop-test .taken) (c .before .number .ensures) (end c), c .before .number .ensures, c .number2 .ensures)
 
 number-of-requires : tie.Need-number-of-requires Inv-loop μ-loop
-number-of-requires c κs = (_, asked (c .before) (begun (head (c .before)) .pre .2))
+number-of-requires c κs = (_, asked (c .before) (begun (head (c .before)) .pre .3))
 
-cast-label : tie.Need-cast-label Inv-loop μ-loop
-cast-label c = omega (arith, few c .0, few c .1)
+label-of-requires : tie.Need-label-of-requires Inv-loop μ-loop
+label-of-requires c κs =
+    let n = numbers c in
+    let m = begun (head n) .pre .3 in
+    let k = head n .loop .inv _ _ _ m in
+    let here = n .before .before .loop-test .taken in (
+      (_, its-sort m k here (n .before .number .ensures) (end n)),
+      from-inside m k here (n .before .number .ensures) (end n),
+      omega (arith, few c .0, few c .1),
+    )
 
 mul-label : tie.Need-mul-label Inv-loop μ-loop
-mul-label c = omega (arith, begun (head (numbers c)) .pre .2 .few-rows)
+mul-label c = omega (arith, begun (head (numbers (c .before))) .pre .3 .few-rows)
 
 slice-write-label : tie.Need-slice-write-label Inv-loop μ-loop
 slice-write-label c =
-    let n = numbers c in
-    let m = begun (head n) .pre .2 in
-    label-room m (head n .loop .inv _ _ m) (n .before .before .loop-test .taken) (n .before .number .ensures) (end n) (done c m)
+    let n = numbers (c .before) in
+    let m = begun (head n) .pre .3 in
+    label-room m (head n .loop .inv _ _ _ m) (n .before .before .loop-test .taken) (n .before .number .ensures) (end n) (done (c .before) m)
 
 known-requires : tie.Need-known-requires Inv-loop μ-loop
-known-requires c κs = omega (arith, few c .1)
+known-requires c κs = omega (arith, few (c .before) .1)
 
 add-row : tie.Need-add-row Inv-loop μ-loop
-add-row c = omega (arith, begun (head (numbers (c .before))) .pre .2 .few-rows)
+add-row c = omega (arith, begun (head (numbers (c .before .before))) .pre .3 .few-rows)
 
 loop-less : tie.Need-loop-less Inv-loop μ-loop
-loop-less c = omega (arith, numbers (c .before) .before .before .loop-test .taken)
+loop-less c = omega (arith, numbers (c .before .before) .before .before .loop-test .taken)
 
 loop-again : tie.Need-loop-again Inv-loop μ-loop
 loop-again c =
-    let n = numbers (c .before) in
-    λ known ws m. labels-next m (head n .loop .inv known ws m) (n .before .before .loop-test .taken) (n .before .number .ensures) (end n) (done (c .before) m) (c .known .ensures)
+    let n = numbers (c .before .before) in
+    λ known sorts ws m.
+    let k = head n .loop .inv known sorts ws m in
+    let here = n .before .before .loop-test .taken in
+    labels-next m k here (n .before .number .ensures) (end n) (done (c .before .before) m)
+    (c .before .label-of .ensures _ (its-sort m k here (n .before .number .ensures) (end n))) (c .known .ensures)
 
 same-length : tie.Need-same-length Inv-loop μ-loop
-same-length c = c .before .loop .inv _ _ (begun (c .before) .pre .2) .kept
+same-length c = c .before .loop .inv _ _ _ (begun (c .before) .pre .3) .kept
 
 same-length-2 : tie.Need-same-length-2 Inv-loop μ-loop
-same-length-2 c = c .before .loop .inv _ _ (begun (c .before) .pre .2) .labelled .long
+same-length-2 c = c .before .loop .inv _ _ _ (begun (c .before) .pre .3) .labelled .long
 
 returns : tie.Need-returns Inv-loop μ-loop
-returns c = λ n w m. labels-end m (c .before .loop .inv n w m) (c .loop-test .left)
+returns c = λ known sorts ws m. labels-end m (c .before .loop .inv known sorts ws m) (c .loop-test .left)
 
 pub label-rows-spec : {M : Type 1} → statement M
 label-rows-spec =
@@ -125,7 +138,7 @@ label-rows-spec =
     number-requires-2
     add-to
     number-of-requires
-    cast-label
+    label-of-requires
     mul-label
     slice-write-label
     known-requires
