@@ -31,13 +31,13 @@ learn-count ns v = go (ltb (placeOf ns v) (length ns))
     go false = length-append ns (v ∷ [])
 
 -- A LABEL, by the byte before the spelling
-pub label-even : {w : List ℕ} {from : ℕ} (number : ℕ) (sort : Sort) → Tells w from sort → getD w (from - 1) 0 ≡ less → 2 * number ≡ labelOf sort number
-label-even number ofElement t e = refl
-label-even number ofText t e = absurd (omega (arith, t .is, e))
+pub told-element : {w : List ℕ} {from : ℕ} (number : ℕ) (sort : Sort) → Tells w from sort → getD w (from - 1) 0 ≡ less → 2 * number ≡ labelOf sort number
+told-element number ofElement t e = refl
+told-element number ofText t e = absurd (omega (arith, t .is, e))
 
-pub label-odd : {w : List ℕ} {from : ℕ} (number : ℕ) (sort : Sort) → Tells w from sort → (getD w (from - 1) 0 ≡ less → ⊥) → 2 * number + 1 ≡ labelOf sort number
-label-odd number ofElement t e = absurd (e (t .is))
-label-odd number ofText t e = refl
+pub told-text : {w : List ℕ} {from : ℕ} (number : ℕ) (sort : Sort) → Tells w from sort → (getD w (from - 1) 0 ≡ less → ⊥) → 2 * number + 1 ≡ labelOf sort number
+told-text number ofElement t e = absurd (e (t .is))
+told-text number ofText t e = refl
 
 -- THE LOOP'S INVARIANT
 pub record LabelledTo (d w : List ℕ) (names : ℕ) (index₀ label₀ index label : List ℕ) (known : List (List ℕ)) (sorts : List Sort) (ws : List (List ℕ)) (rows count row : ℕ) : Type 0 where
@@ -82,8 +82,8 @@ module _ {d w : List ℕ} {names : ℕ} {index₀ label₀ start width : List �
       pub from-short : getD start row 0 + getD width row 0 ≤ 32768
       from-short = omega (arith, m .spells row here .inside, m .short)
 
-      pub may-label : MayNumber d w names index count from to (knownAfter known (take row ws))
-      may-label = record {
+      pub may-number : MayNumber d w names index count from to (knownAfter known (take row ws))
+      may-number = record {
         indexed = k .indexed;
         counted = k .counted;
         named = k .low;

@@ -8,7 +8,7 @@ use native.Mathlib.Omega.{arith}
 use lib.ListN.{take, getD}
 use Rattle.grammar.specs.Rows.{Sort}
 use Rattle.labels.specs.Labelling.{MayLabelRows}
-use Rattle.labels.proofs.Labelling.{LabelledTo, labels-begin, labels-end, from-short, from-inside, may-label, its-sort, found-few, count-few, label-room, labels-next}
+use Rattle.labels.proofs.Labelling.{LabelledTo, labels-begin, labels-end, from-short, from-inside, may-number, its-sort, found-few, count-few, label-room, labels-next}
 use Rattle.labels.proofs.fill.label_rows.Statement.{statement}
 use Rattle.labels.proofs.fill.label_rows.Tie as tie
 
@@ -43,7 +43,7 @@ asked : (n : tie.After-number2 Inv-loop μ-loop) {known : List (List ℕ)} {sort
     let l = head n .loop in
     MayNumber (a .dictionary .now) (a .document .now) (a .names) (l .index) (l .count) (n .before .number .result) (n .before .number .result + n .number2 .result)
     (knownAfter known (take (l .row) ws))
-asked n {known} {sorts} {ws} m = may-label m (head n .loop .inv known sorts ws m) (n .before .before .loop-test .taken) (n .before .number .ensures) (end n)
+asked n {known} {sorts} {ws} m = may-number m (head n .loop .inv known sorts ws m) (n .before .before .loop-test .taken) (n .before .number .ensures) (end n)
 
 -- what `number_of` did, whatever is known
 done : (c : tie.After-slice-known3 Inv-loop μ-loop) {known : List (List ℕ)} {sorts : List Sort} {ws : List (List ℕ)} → Given (head (numbers c)) known sorts ws →
