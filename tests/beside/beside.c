@@ -11,6 +11,15 @@ static const group GROUPS[] = {
     {"chain", 3000, DEEP, SEQUENCE, 6, 12, 5, 4, 6, false},
 };
 
+/* Problems by which a wrong program was seen that chance may miss. */
+static const problem KNOWN[] = {
+    /* Q on g(f(a), f(b, b)), s1 in the choice of a and b b: a reading that began at another row must not be taken up. */
+    {.tree = {.label = {6, {0, 2, 7, 2, 9, 9}}, .size = {6, {6, 2, 1, 3, 1, 1}}},
+     .pattern = {.kind = {3, {CONTEXT, SYMBOL, SEQUENCE}}, .name = {3, {0, 2, 1}}, .size = {3, {3, 2, 1}}},
+     .expression = {.kind = {5, {CHOICE, LETTER, CONCATENATION, LETTER, LETTER}}, .name = {5, {0, 7, 0, 9, 9}}, .size = {5, {5, 1, 3, 1, 1}}},
+     .constraint = {4, {0, 0, 1, 0}}},
+};
+
 enum {
     SEED = 2026,
     DAMAGES = 6, /* of each problem */
@@ -54,25 +63,38 @@ static void compare_damages(chance *chance, const problem *whole) {
     }
 }
 
-static void compare_problem(chance *chance, const group *group, uint32_t number) {
-    static problem problem;
+static void compare_problem(chance *chance, const char *name, uint32_t number, const problem *problem, bool all_candidates) {
     static listing all;
-    make_problem(chance, group, &problem);
-    set_case(group->name, number, &problem);
-    list_all(&problem, &all);
+    set_case(name, number, problem);
+    list_all(problem, &all);
     if (all.too_long) return;
-    count_features(&problem, all.records, all.tries, constraint_excludes(&problem, &all));
-    if (group->all_candidates) compare_candidates(chance, &problem, &all);
-    compare_listed(chance, &problem, &all);
-    compare_lists(chance, &problem, &all);
-    compare_damages(chance, &problem);
-    if (group->all_candidates) compare_documents(chance, &problem.tree, number);
+    count_features(problem, all.records, all.tries, constraint_excludes(problem, &all));
+    if (all_candidates) compare_candidates(chance, problem, &all);
+    compare_listed(chance, problem, &all);
+    compare_lists(chance, problem, &all);
+    compare_damages(chance, problem);
+    if (all_candidates) compare_documents(chance, &problem->tree, number);
+}
+
+/* Each problem has a chance of its own, so that what is drawn for one, or no longer is, changes no other. */
+static chance chance_of(size_t group, uint32_t number) {
+    return (chance){SEED + 1000003 * group + number};
+}
+
+static void compare_group(size_t group, const struct group *of) {
+    static problem problem;
+    for (uint32_t number = 0; number < of->problems; number++) {
+        chance chance = chance_of(group, number);
+        make_problem(&chance, of, &problem);
+        compare_problem(&chance, of->name, number, &problem, of->all_candidates);
+    }
 }
 
 int main(void) {
-    chance chance = {SEED};
-    for (size_t g = 0; g < sizeof GROUPS / sizeof *GROUPS; g++)
-        for (uint32_t number = 0; number < GROUPS[g].problems; number++) compare_problem(&chance, &GROUPS[g], number);
+    enum { MADE = sizeof GROUPS / sizeof *GROUPS, SEEN = sizeof KNOWN / sizeof *KNOWN };
+    chance chance = chance_of(MADE, 0);
+    for (size_t g = 0; g < MADE; g++) compare_group(g, &GROUPS[g]);
+    for (uint32_t number = 0; number < SEEN; number++) compare_problem(&chance, "known problem", number, &KNOWN[number], true);
     compare_limits(&chance);
     compare_document_limits(&chance);
     return report();

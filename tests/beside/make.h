@@ -22,7 +22,7 @@ bool one_in(chance *chance, uint32_t many);
 
 enum shape { MIXED, WIDE, DEEP };
 
-typedef struct {
+typedef struct group {
     const char *name;
     uint32_t problems;
     enum shape shape;
