@@ -10,7 +10,7 @@ use borrow.Author.Tests.{ltb-true, ltb-false}
 use Rattle.tree.specs.Rows.{depth}
 use Rattle.tree.proofs.Lists.{sizes-rows}
 use Rattle.grammar.specs.Grammar.{Bytes, _⊲_, Content, Document, OutsideAt}
-use Rattle.grammar.specs.Rows.{Sort, shape, #, Row, rowsOf, starts, lengths}
+use Rattle.grammar.specs.Rows.{Sort, shape, #, Row, rowsOf}
 use Rattle.grammar.proofs.Trees.{shape-rows}
 use Rattle.judge.specs.Verdict.{Verdict, long as long-document, outside, deep, many, read}
 use Rattle.dictionary.specs.Names.{GoodDictionary, DictionaryChecked}
@@ -18,10 +18,9 @@ use Rattle.dictionary.specs.Index.{Indexed, NamesLearnt}
 use Rattle.document.specs.Reading.{Unchanged, shortest, Read, DocumentChecked, spellingsOf, sortsOf}
 use Rattle.document.proofs.Cases.{badDictionary, badDocument, noRoom, filled, told, bad, judged, check-told}
 use Rattle.document.specs.Learnt.{MayRead}
-use Rattle.meaning.specs.Calls.{Filled}
 use Rattle.labels.specs.Lists.{Copied}
 use Rattle.labels.specs.Labelling.{MayLabelRows, LabelsRows}
-use Rattle.labels.proofs.Copies.{copied, copied-long}
+use Rattle.labels.proofs.Copies.{copied}
 use Rattle.rows.specs.Notes.{RowsNoted, TooLarge}
 use Rattle.rows.proofs.Large.{rows-count}
 use Rattle.document.proofs.Filling.{rows-spell, rows-tell}
@@ -133,41 +132,33 @@ module _ {d w clear index : List ℕ} (label size start width : List ℕ) {k : �
   long : (g : Row → ℕ) → length (map g (rowsOf (noted .f))) ≡ n
   long g = length-map (rowsOf (noted .f)) g ∙ rows-n
 
+  labelling : MayLabelRows d w k index label S L n names (sortsOf (noted .f)) (spellingsOf (noted .f))
+  labelling = record {
+    indexed = subst (λ (x : ℕ). Indexed d w x index names) (sym names-are) (may .learnt .indexed names good-names w);
+    counted = sym names-are;
+    few-names = omega (arith, names-are, good-names .few);
+    large = omega (arith, may .learnt .kept, may .large);
+    short = may .short;
+    few-rows = noted .few;
+    room-label = room .0;
+    all = length-map (rowsOf (noted .f)) (λ (x : Row). x .spelling ⊲ []) ∙ rows-n;
+    spells = λ r h. rows-spell (noted .document) (noted .starts-are) (noted .lengths-are) r (omega (arith, rows-n));
+    sorted = length-map (rowsOf (noted .f)) (λ (x : Row). x .sort) ∙ rows-n;
+    tells = λ r h. rows-tell (noted .document) (noted .starts-are) r (omega (arith, rows-n));
+  }
+
+  pub may-label-rows : (ns : List (List ℕ)) × (sorts : List Sort) × (ws : List (List ℕ)) × MayLabelRows d w k index label S L n ns sorts ws
+  may-label-rows = (names, sortsOf (noted .f), spellingsOf (noted .f), labelling)
+
   module _ {start' width' size' : List ℕ} (copies : Copied n S L Z start width size start' width' size') where
-    start-is : Filled (starts (noted .f)) start start'
-    start-is = copied start (noted .starts-are) (long (λ (x : Row). x .start)) (copies .start-copy)
-
-    width-is : Filled (lengths (noted .f)) width width'
-    width-is = copied width (noted .lengths-are) (long (λ (x : Row). # (x .spelling))) (copies .width-copy)
-
-    labelling : MayLabelRows d w k index label start' width' n names (sortsOf (noted .f)) (spellingsOf (noted .f))
-    labelling = record {
-      indexed = subst (λ (x : ℕ). Indexed d w x index names) (sym names-are) (may .learnt .indexed names good-names w);
-      counted = sym names-are;
-      few-names = omega (arith, names-are, good-names .few);
-      large = omega (arith, may .learnt .kept, may .large);
-      short = may .short;
-      few-rows = noted .few;
-      room-label = room .0;
-      room-start = omega (arith, copied-long (starts (noted .f)) start start-is (long (λ (x : Row). x .start)) (room .2), room .2);
-      room-width = omega (arith, copied-long (lengths (noted .f)) width width-is (long (λ (x : Row). # (x .spelling))) (room .3), room .3);
-      all = length-map (rowsOf (noted .f)) (λ (x : Row). x .spelling ⊲ []) ∙ rows-n;
-      spells = λ r h. rows-spell start start' width width' (noted .document) start-is width-is r (omega (arith, rows-n));
-      sorted = length-map (rowsOf (noted .f)) (λ (x : Row). x .sort) ∙ rows-n;
-      tells = λ r h. rows-tell start start' (noted .document) start-is r (omega (arith, rows-n));
-    }
-
-    pub may-label-rows : (ns : List (List ℕ)) × (sorts : List Sort) × (ws : List (List ℕ)) × MayLabelRows d w k index label start' width' n ns sorts ws
-    may-label-rows = (names, sortsOf (noted .f), spellingsOf (noted .f), labelling)
-
-    pub answers-read : {label' : List ℕ} {c p m : ℕ} → LabelsRows d w k index label start' width' n label' →
+    pub answers-read : {label' : List ℕ} {c p m : ℕ} → LabelsRows d w k index label S L n label' →
         (c ≡ 0) × (p ≡ 0) × (m ≡ n) → Read d w label size start width label' size' start' width' c p m
     answers-read h e =
         rw (e .0, e .1, e .2) (told (filled good-names (noted-verdict (may .short) noted) (omega (arith, room)) (noted .document) (record {
           label-is = h names (sortsOf (noted .f)) (spellingsOf (noted .f)) labelling;
           size-is = copied size (noted .sizes-are) (sizes-rows (shape (noted .f)) ∙ noted .rows-are) (copies .size-copy);
-          start-is = start-is;
-          width-is = width-is;
+          start-is = copied start (noted .starts-are) (long (λ (x : Row). x .start)) (copies .start-copy);
+          width-is = copied width (noted .lengths-are) (long (λ (x : Row). # (x .spelling))) (copies .width-copy);
         })))
 
 -- where they are not

@@ -13,6 +13,7 @@ use Rattle.grammar.specs.Told.{Tells}
 use Rattle.grammar.proofs.Rows.{labels-are, Spelled, rows-spelled, all-at}
 use Rattle.grammar.proofs.Told.{Preceded, rows-told}
 use Rattle.meaning.specs.Calls.{Filled}
+use Rattle.labels.specs.Lists.{Holds}
 use Rattle.labels.specs.Labelling.{Spells}
 use Rattle.rows.proofs.Large.{no-row}
 use Rattle.rows.proofs.Sizes.{sizes-tree}
@@ -57,20 +58,24 @@ tree-labels names f =
     ∙ each-map (λ (x : Row). numberOf names f (x .spelling)) (rowsOf f))
 
 -- A LIST THAT HAS A NUMBER FOR EACH ROW
-filled-at : (g : Row → ℕ) → g no-row ≡ 0 → (f : Content) (old new : List ℕ) → Filled (map g (rowsOf f)) old new → (r : ℕ) → r < length (rowsOf f) →
-    getD new r 0 ≡ g (getD (rowsOf f) r no-row)
-filled-at g z f old new e r h =
-    ap (λ (l : List ℕ). getD l r 0) e ∙ List·getD-append (map g (rowsOf f)) (drop (length (map g (rowsOf f))) old) 0 r (omega (arith, length-map (rowsOf f) g))
+held-at : (g : Row → ℕ) → g no-row ≡ 0 → (f : Content) (l : List ℕ) → Holds (map g (rowsOf f)) l → (r : ℕ) → r < length (rowsOf f) →
+    getD l r 0 ≡ g (getD (rowsOf f) r no-row)
+held-at g z f l e r h =
+    ap (λ (m : List ℕ). getD m r 0) (e .is) ∙ List·getD-append (map g (rowsOf f)) (e .rest) 0 r (omega (arith, length-map (rowsOf f) g))
     ∙ ap (getD (map g (rowsOf f)) r) (sym z) ∙ List·getD-map g (rowsOf f) r no-row
 
+-- a lent list that is filled has them first
+pub filled-holds : {xs : List ℕ} (old : List ℕ) {new : List ℕ} → Filled xs old new → Holds xs new
+filled-holds {xs} old e = record { rest = drop (length xs) old; is = e }
+
 -- each spelling stands in the document, where the row's start and length say
-pub rows-spell : {w : List ℕ} {f : Content} {t : Bytes} (s s' l l' : List ℕ) → Document w f t → Filled (starts f) s s' → Filled (lengths f) l l' →
-    (r : ℕ) → r < length (rowsOf f) → Spells w s' l' (getD (spellingsOf f) r []) r
-rows-spell {w} {f} {t} s s' l l' d es el r h =
+pub rows-spell : {w s l : List ℕ} {f : Content} {t : Bytes} → Document w f t → Holds (starts f) s → Holds (lengths f) l →
+    (r : ℕ) → r < length (rowsOf f) → Spells w s l (getD (spellingsOf f) r []) r
+rows-spell {w} {s} {l} {f} {t} d es el r h =
     let x : Row = getD (rowsOf f) r no-row in
     let p : Spelled w x = all-at (Spelled w) (rowsOf f) no-row (rows-spelled d) r h in
-    let a : getD s' r 0 ≡ x .start = filled-at (λ (y : Row). y .start) refl f s s' es r h in
-    let b : getD l' r 0 ≡ # (x .spelling) = filled-at (λ (y : Row). # (y .spelling)) refl f l l' el r h in
+    let a : getD s r 0 ≡ x .start = held-at (λ (y : Row). y .start) refl f s es r h in
+    let b : getD l r 0 ≡ # (x .spelling) = held-at (λ (y : Row). # (y .spelling)) refl f l el r h in
     let c : getD (spellingsOf f) r [] ≡ x .spelling ⊲ [] = List·getD-map (λ (y : Row). y .spelling ⊲ []) (rowsOf f) r no-row in
     let n : x .start + # (x .spelling) - x .start ≡ # (x .spelling) = omega arith in
     record {
@@ -79,10 +84,10 @@ rows-spell {w} {f} {t} s s' l l' d es el r h =
     }
 
 -- and the byte before it tells what the row is of
-pub rows-tell : {w : List ℕ} {f : Content} {t : Bytes} (s s' : List ℕ) → Document w f t → Filled (starts f) s s' → (r : ℕ) → r < length (rowsOf f) →
-    Tells w (getD s' r 0) (getD (sortsOf f) r ofElement)
-rows-tell {w} {f} {t} s s' d es r h =
-    let a : getD s' r 0 ≡ getD (rowsOf f) r no-row .start = filled-at (λ (y : Row). y .start) refl f s s' es r h in
+pub rows-tell : {w s : List ℕ} {f : Content} {t : Bytes} → Document w f t → Holds (starts f) s → (r : ℕ) → r < length (rowsOf f) →
+    Tells w (getD s r 0) (getD (sortsOf f) r ofElement)
+rows-tell {w} {s} {f} {t} d es r h =
+    let a : getD s r 0 ≡ getD (rowsOf f) r no-row .start = held-at (λ (y : Row). y .start) refl f s es r h in
     let b : getD (sortsOf f) r ofElement ≡ getD (rowsOf f) r no-row .sort = sort-at (rowsOf f) r h in
     rw (a, b) (all-at (Preceded w) (rowsOf f) no-row (rows-told d) r h)
   where

@@ -17,10 +17,11 @@ use Rattle.judge.proofs.OneVerdict.{one-verdict}
 use Rattle.dictionary.specs.Scan.{range}
 use Rattle.dictionary.specs.Names.{GoodDictionary}
 use Rattle.dictionary.proofs.Names.{good-unique}
+use Rattle.labels.specs.Labelling.{Spells}
 use Rattle.document.specs.Reading.{spellingsOf, labelsOf, Unchanged, Written, Spelt, shortest, Read, DocumentChecked}
 use Rattle.document.proofs.Cases.{Cases, badDictionary, badDocument, noRoom, filled, cases, CheckCases, bad, judged, check-cases}
 use Rattle.document.proofs.Labels.{length-labels, below-at}
-use Rattle.document.proofs.Filling.{numberOf, treeOf, tree-labels, tree-sizes, rows-spell}
+use Rattle.document.proofs.Filling.{numberOf, treeOf, tree-labels, tree-sizes, filled-holds, rows-spell}
 use Rattle.document.proofs.Answers.{whole}
 
 -- ONE ANSWER
@@ -161,11 +162,14 @@ module _ {d w label size start width label' size' start' width' : List ℕ} {nam
   pub spelt : Spelt w label' start' width' n names f
   spelt = record {
     all = spellings-n;
-    inside = λ r h. rows-spell start start' width width' y (u .start-is) (u .width-is) r (omega (arith, rows-n)) .inside;
-    bytes = λ r h. bytes-of r (rows-spell start start' width width' y (u .start-is) (u .width-is) r (omega (arith, rows-n)) .is);
+    inside = λ r h. spells r h .inside;
+    bytes = λ r h. bytes-of r (spells r h .is);
     labelled = first-labels ∙ tree-labels names f;
   }
     where
+      spells : (r : ℕ) → r < n → Spells w start' width' (getD (spellingsOf f) r []) r
+      spells r h = rows-spell y (filled-holds start (u .start-is)) (filled-holds width (u .width-is)) r (omega (arith, rows-n))
+
       bytes-of : (r : ℕ) → range w (getD start' r 0) (getD start' r 0 + getD width' r 0) ≡ getD (spellingsOf f) r [] →
           take (getD width' r 0) (drop (getD start' r 0) w) ≡ getD (spellingsOf f) r []
       bytes-of r e =

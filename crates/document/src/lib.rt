@@ -93,8 +93,8 @@ fn read_rows(
                 names,
                 index,
                 label,
-                start,
-                length,
+                &starts,
+                &lengths,
                 rows,
             );
             accepted(rows)

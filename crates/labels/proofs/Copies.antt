@@ -1,9 +1,8 @@
 -- Lists that are copied into lent ones.
 use mathlib.Core.Path.{_≡_, refl, ap, _∙_}
 use mathlib.Core.List.{List, _++_}
-use Prim.Native.Nat.{ℕ, _≤_}
-use native.Mathlib.Omega.{arith}
-use lib.ListN.{length, take, drop, length-append, length-drop}
+use Prim.Native.Nat.{ℕ}
+use lib.ListN.{length, take, drop}
 use lib.Seq.{take-at}
 use Rattle.meaning.specs.Calls.{Filled}
 use Rattle.labels.specs.Lists.{Holds}
@@ -16,7 +15,3 @@ copied-so {xs} {before} n h e = h .is ∙ ap (λ (m : ℕ). take m xs ++ drop m 
 pub copied : {xs l after : List ℕ} (before : List ℕ) {n : ℕ} → Holds xs l → length xs ≡ n → after ≡ take n l ++ drop n before → Filled xs before after
 copied {xs} {l} {after} before {n} h e q =
     q ∙ rw (ap (take n) (h .is) ∙ take-at xs (h .rest) n e, e) refl
-
--- .. which keeps its length
-pub copied-long : (xs before : List ℕ) {after : List ℕ} {n : ℕ} → Filled xs before after → length xs ≡ n → n ≤ length before → length after ≡ length before
-copied-long xs before {after} e h l = ap length e ∙ length-append xs (drop (length xs) before) ∙ omega (arith, length-drop (length xs) before, h)

@@ -15,7 +15,7 @@ pub record Spells (w start width spelling : List ℕ) (row : ℕ) : Type 0 where
   pub inside : getD start row 0 + getD width row 0 ≤ length w
   pub is : range w (getD start row 0) (getD start row 0 + getD width row 0) ≡ spelling
 
--- what `label_rows` may be given: the index knows the names, and the rows are of these sorts and have these spellings
+-- what `label_rows` may be given: the index knows the names, and the rows that are noted are of these sorts and have these spellings
 pub record MayLabelRows (d w : List ℕ) (names : ℕ) (index label start width : List ℕ) (rows : ℕ) (known : List (List ℕ)) (sorts : List Sort) (spellings : List (List ℕ)) : Type 0 where
   pub indexed : Indexed d w names index known
   pub counted : length known ≡ names
@@ -24,8 +24,6 @@ pub record MayLabelRows (d w : List ℕ) (names : ℕ) (index label start width 
   pub short : length w ≤ 32768
   pub few-rows : rows ≤ 2048
   pub room-label : rows ≤ length label
-  pub room-start : rows ≤ length start
-  pub room-width : rows ≤ length width
   pub all : length spellings ≡ rows
   pub spells : (row : ℕ) → row < rows → Spells w start width (getD spellings row []) row
   pub sorted : length sorts ≡ rows

@@ -4,19 +4,12 @@ ghost use mathlib.Core.Bool.{cond};
 ghost use mathlib.Core.List.{List, _++_};
 ghost use Prim.Native.Nat.{ℕ, _+_, _≤_, _<_};
 ghost use lib.Dec.{ltb};
-ghost use lib.ListN.{length, getD, take, drop};
+ghost use lib.ListN.{length, take, drop};
 ghost use Rattle.grammar.specs.Rows.{Sort, labelOf};
 ghost use Rattle.grammar.specs.Told.{Tells};
 ghost use Rattle.labels.specs.Lists.{Long, Copied};
 ghost use Rattle.labels.specs.Labelling.{MayLabelRows, LabelsRows};
-use meaning::wide;
-
-fn number(list: &[u32], i: usize) -> usize
-    requires { ⌜ i < length (now list) ⌝ }
-    ensures { λ r. ⌜ r ≡ getD (now (list .entry)) i 0 ⌝ }
-{
-    wide(list[i])
-}
+use super::note::number;
 
 fn widened(x: u16) -> u32
     ensures { λ r. ⌜ r ≡ x ⌝ }
@@ -75,24 +68,26 @@ fn label_of(document: &[u8], from: usize, number: usize) -> u32
     twice + 1
 }
 
+// The labels of the rows that are noted. Their starts and lengths are read from the lists of our own, not the lent ones, which have the same
+// numbers: two places fewer to keep in mind in the loop.
 pub fn label_rows(
     dictionary: &[u8],
     document: &[u8],
     names: usize,
     index: &mut [u16],
     label: &mut [u32],
-    start: &[u32],
-    length: &[u32],
+    starts: &[u16; 2052],
+    lengths: &[u16; 2052],
     rows: usize,
 )
-    requires { ⌜ ((known : List (List ℕ)) × (sorts : List Sort) × (spellings : List (List ℕ)) × MayLabelRows (now dictionary) (now document) names (now index) (now label) (now start) (now length) rows known sorts spellings) ⌝ }
-    ensures { λ _. ⌜ LabelsRows (now (dictionary .entry)) (now (document .entry)) names (now (index .entry)) (now (label .entry)) (now (start .entry)) (now (length .entry)) rows (now (label .exit)) ⌝ }
+    requires { ⌜ ((known : List (List ℕ)) × (sorts : List Sort) × (spellings : List (List ℕ)) × MayLabelRows (now dictionary) (now document) names (now index) (now label) (now starts) (now lengths) rows known sorts spellings) ⌝ }
+    ensures { λ _. ⌜ LabelsRows (now (dictionary .entry)) (now (document .entry)) names (now (index .entry)) (now (label .entry)) (now (starts .entry)) (now (lengths .entry)) rows (now (label .exit)) ⌝ }
 {
     let mut count = names;
     let mut row: usize = 0;
     while row < rows {
-        let from = number(start, row);
-        let to = from + number(length, row);
+        let from = number(starts, row);
+        let to = from + number(lengths, row);
         let found = dictionary::index::number_of(
             dictionary,
             document,

@@ -26,7 +26,7 @@ fitting c = c .before .before .before .before .before .before .before
 abbrev rows-told : tie.Else1 → tie.After-known-told2
 rows-told e = e .before .before
 
-abbrev copies : tie.After-label-rows-arg4 → tie.After-copy-rows
+abbrev copies : tie.After-lengths3 → tie.After-copy-rows
 copies c = c .before .before .before .before .before .before .before .before .before .before
 
 -- WHAT IS KNOWN THERE
@@ -82,10 +82,10 @@ copy-rows-requires c κs =
 
 label-rows-requires : tie.Need-label-rows-requires
 label-rows-requires c κs =
-    let k = copies c in
-    let e = fitting k in
+    let e = fitting (copies c) in
     let t = rows-told e in
-    may-label-rows _ (begun (notes t) .args .size .now) _ _ (may (notes t)) (rows-noted t) (e .before .fits2 .ensures .0 (not-false _ (e .if1 .left))) (k .copy-rows .ensures)
+    let a = begun (notes t) .args in
+    may-label-rows (a .label .now) (a .size .now) (a .start .now) (a .length .now) (may (notes t)) (rows-noted t) (e .before .fits2 .ensures .0 (not-false _ (e .if1 .left)))
 
 accepted-requires : tie.Need-accepted-requires
 accepted-requires c κs =

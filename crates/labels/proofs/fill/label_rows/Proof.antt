@@ -23,7 +23,7 @@ abbrev head : tie.After-number2 Inv-loop μ-loop → tie.At-loop Inv-loop μ-loo
 head n = n .before .before .before
 
 abbrev begun : tie.At-loop Inv-loop μ-loop → tie.Start Inv-loop μ-loop
-begun h = h .before .before .before .before .before .before .before
+begun h = h .before .before .before .before .before
 
 -- .. and from where the label is stored to the numbers
 abbrev numbers : tie.After-slice-known3 Inv-loop μ-loop → tie.After-number2 Inv-loop μ-loop
@@ -32,18 +32,18 @@ numbers c = c .before .before .before .before
 -- WHAT IS KNOWN THERE
 -- what was given
 abbrev Given : tie.At-loop Inv-loop μ-loop → List (List ℕ) → List Sort → List (List ℕ) → Type 0
-Given h = let a = begun h .args in MayLabelRows (a .dictionary .now) (a .document .now) (a .names) (a .index .now) (a .label .now) (a .start .now) (a .length .now) (a .rows)
+Given h = let a = begun h .args in MayLabelRows (a .dictionary .now) (a .document .now) (a .names) (a .index .now) (a .label .now) (a .starts .now) (a .lengths .now) (a .rows)
 
 -- the row's spelling ends where its start and length say
-end : (n : tie.After-number2 Inv-loop μ-loop) → n .before .number .result + n .number2 .result ≡ n .before .number .result + getD (begun (head n) .args .length .now) (head n .loop .row) 0
-end n = ap (λ (m : ℕ). n .before .number .result + m) (n .number2 .ensures)
+end : (n : tie.After-number2 Inv-loop μ-loop) → n .before .number .result + n .number2 .result ≡ n .before .number .result + getD (begun (head n) .args .lengths .now) (head n .loop .row) 0
+end n = ap (λ (m : ℕ). n .before .number .result + m) (n .number2 .ensures .0)
 
 asked : (n : tie.After-number2 Inv-loop μ-loop) {known : List (List ℕ)} {sorts : List Sort} {ws : List (List ℕ)} → Given (head n) known sorts ws →
     let a = begun (head n) .args in
     let l = head n .loop in
     MayNumber (a .dictionary .now) (a .document .now) (a .names) (l .index) (l .count) (n .before .number .result) (n .before .number .result + n .number2 .result)
     (knownAfter known (take (l .row) ws))
-asked n {known} {sorts} {ws} m = may-number m (head n .loop .inv known sorts ws m) (n .before .before .loop-test .taken) (n .before .number .ensures) (end n)
+asked n {known} {sorts} {ws} m = may-number m (head n .loop .inv known sorts ws m) (n .before .before .loop-test .taken) (n .before .number .ensures .0) (end n)
 
 -- what `number_of` did, whatever is known
 done : (c : tie.After-slice-known3 Inv-loop μ-loop) {known : List (List ℕ)} {sorts : List Sort} {ws : List (List ℕ)} → Given (head (numbers c)) known sorts ws →
@@ -60,22 +60,22 @@ few c =
     let m = begun (head n) .pre .3 in
     let k = head n .loop .inv _ _ _ m in
     let here = n .before .before .loop-test .taken in
-    (found-few m k here (n .before .number .ensures) (end n) (done c m), count-few m k here (n .before .number .ensures) (end n) (done c m))
+    (found-few m k here (n .before .number .ensures .0) (end n) (done c m), count-few m k here (n .before .number .ensures .0) (end n) (done c m))
 
 -- THE NEEDS
 loop-holds : tie.Need-loop-holds Inv-loop μ-loop
 loop-holds c = λ known sorts ws m. labels-begin m
 
 number-requires : tie.Need-number-requires Inv-loop μ-loop
-number-requires c κs = omega (arith, begun (c .before) .pre .3 .room-start)
+number-requires c κs = omega (arith, begun (c .before) .pre .3 .few-rows)
 
 number-requires-2 : tie.Need-number-requires-2 Inv-loop μ-loop
-number-requires-2 c κs = omega (arith, begun (c .before .before) .pre .3 .room-width)
+number-requires-2 c κs = omega (arith, begun (c .before .before) .pre .3 .few-rows, c .before .loop-test .taken)
 
 add-to : tie.Need-add-to Inv-loop μ-loop
 add-to c =
     let m = begun (head c) .pre .3 in
-    omega (arith, from-short m (head c .loop .inv _ _ _ m) (c .before .before .loop-test .taken) (c .before .number .ensures) (end c), c .before .number .ensures, c .number2 .ensures)
+    omega (arith, from-short m (head c .loop .inv _ _ _ m) (c .before .before .loop-test .taken) (c .before .number .ensures .0) (end c), c .before .number .ensures .0, c .number2 .ensures .0)
 
 number-of-requires : tie.Need-number-of-requires Inv-loop μ-loop
 number-of-requires c κs = (_, asked (c .before) (begun (head (c .before)) .pre .3))
@@ -86,8 +86,8 @@ label-of-requires c κs =
     let m = begun (head n) .pre .3 in
     let k = head n .loop .inv _ _ _ m in
     let here = n .before .before .loop-test .taken in (
-      (_, its-sort m k here (n .before .number .ensures) (end n)),
-      from-inside m k here (n .before .number .ensures) (end n),
+      (_, its-sort m k here (n .before .number .ensures .0) (end n)),
+      from-inside m k here (n .before .number .ensures .0) (end n),
       omega (arith, few c .0, few c .1),
     )
 
@@ -98,7 +98,7 @@ slice-write-label : tie.Need-slice-write-label Inv-loop μ-loop
 slice-write-label c =
     let n = numbers (c .before) in
     let m = begun (head n) .pre .3 in
-    label-room m (head n .loop .inv _ _ _ m) (n .before .before .loop-test .taken) (n .before .number .ensures) (end n) (done (c .before) m)
+    label-room m (head n .loop .inv _ _ _ m) (n .before .before .loop-test .taken) (n .before .number .ensures .0) (end n) (done (c .before) m)
 
 known-requires : tie.Need-known-requires Inv-loop μ-loop
 known-requires c κs = omega (arith, few (c .before) .1)
@@ -115,8 +115,8 @@ loop-again c =
     λ known sorts ws m.
     let k = head n .loop .inv known sorts ws m in
     let here = n .before .before .loop-test .taken in
-    labels-next m k here (n .before .number .ensures) (end n) (done (c .before .before) m)
-    (c .before .label-of .ensures _ (its-sort m k here (n .before .number .ensures) (end n))) (c .known .ensures)
+    labels-next m k here (n .before .number .ensures .0) (end n) (done (c .before .before) m)
+    (c .before .label-of .ensures _ (its-sort m k here (n .before .number .ensures .0) (end n))) (c .known .ensures)
 
 same-length : tie.Need-same-length Inv-loop μ-loop
 same-length c = c .before .loop .inv _ _ _ (begun (c .before) .pre .3) .kept
