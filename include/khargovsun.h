@@ -9,8 +9,8 @@
  * Every function is re-entrant: nothing is allocated, nothing is kept between calls, and the archive has no data that can be written. Threads
  * and signal handlers may call at the same time, as long as none writes a list that another call reads or writes.
  *
- * Stack, the most that was measured, in bytes (bench/stack/README.md: painted, on the deepest inputs; Arm, -O3): check 40,960; read
- * 57,488 (35,792 where the document is read); list 57,632; test 30,480; instance 28,656; spelling 10,416. Give a thread 128 kB.
+ * Stack, the most that was measured, in bytes (bench/stack/README.md: painted, on the deepest inputs; -O3, the larger of x86-64 and Arm): check
+ * 40,960; read 57,496 (35,792 where the document is read); list 66,888; test 39,688; instance 30,696; spelling 10,456. Give a thread 128 kB.
  *
  * In a refusal the lowest code that applies is given, every other number is 0 (but the place of code 3), and nothing is written. */
 #ifndef KHARGOVSUN_H
