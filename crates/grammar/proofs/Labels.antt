@@ -1,6 +1,5 @@
 -- Labels, made of sort and number: half the label is the number, an even label is an element's.
 use mathlib.Core.Path.{_≡_, refl, ap}
-use mathlib.Core.Bool.{Bool, true, false, true≢false}
 use mathlib.Core.Logic.{_↔_}
 use mathlib.Core.List.{List, [], _∷_}
 use Prim.Native.Nat.{ℕ, zero, suc, _*_, _/_, _%_, _<_}
@@ -14,20 +13,13 @@ half-label ofText n = omega arith
 
 pub label-even : (s : Sort) (n : ℕ) → (labelOf s n % 2 ≡ 0) ↔ (s ≡ ofElement)
 label-even ofElement n = (λ h. refl, λ h. omega arith)
-label-even ofText n = (λ h. absurd (omega (arith, h)), λ h. absurd (apart h))
-  where
-    apart : ofText ≡ ofElement → ⊥
-    apart h = true≢false (ap is-text h)
-      where
-        is-text : Sort → Bool
-        is-text ofText = true
-        is-text ofElement = false
+label-even ofText n = (λ h. absurd (omega (arith, h)), λ h. absurd (omega (arith, ap (λ q. labelOf q n) h)))
 
 pub label-below : (s : Sort) (n m : ℕ) → n < m → labelOf s n < 2 * m
 label-below ofElement n m h = omega arith
 label-below ofText n m h = omega arith
 
--- equal labels are of equal sorts and numbers
+-- equal labels are of equal sorts
 pub label-sort : (s t : Sort) (n m : ℕ) → labelOf s n ≡ labelOf t m → s ≡ t
 label-sort ofElement ofElement n m e = refl
 label-sort ofElement ofText n m e = absurd (omega (arith, e))

@@ -6,11 +6,12 @@ use Prim.Native.Nat.{ℕ, suc, _+_, _-_, _<_}
 use native.Mathlib.Omega.{arith}
 use lib.ListN.{length, getD}
 use lib.Seq.{getD-append-seam}
-use Rattle.grammar.specs.Grammar.{Bytes, ε, _▸_, _⊲_, Content, nothing, emptyElement, element, print, Document}
+use Rattle.grammar.specs.Grammar.{Bytes, _⊲_, Content, nothing, emptyElement, element, print, Document}
 use Rattle.grammar.specs.Tokens.{Level, outer, inner, Run, WellFormed}
 use Rattle.grammar.specs.Rows.{inked, #, width, ofElement, ofText, Row, row, leafRow, rowsFrom, rowsOf}
 use Rattle.grammar.specs.Told.{Tells}
 use Rattle.grammar.proofs.InWords.{root-formed}
+use Rattle.grammar.proofs.Trees.{white-run}
 use Rattle.grammar.proofs.Rows.{All, Stands, behind-byte, behind-bytes, behind-content}
 
 abbrev pub Preceded : List ℕ → Row → Type 0
@@ -30,15 +31,10 @@ one-back w a c b e h = let z : c - 1 ≡ a = omega (arith, e) in rw z h
 ended-at : {w : List ℕ} {a c : ℕ} (v : List ℕ) → Stands w a (62 ∷ v) → c ≡ a + 1 → Ended w c
 ended-at {w} {a} {c} v h e = record { some = omega (arith, e); is = one-back w a c 62 e (byte-there 62 v h) }
 
--- white space makes no row
-outer-blank : (t : Bytes) → Run outer t → inked t ≡ false
-outer-blank ε h = refl
-outer-blank (t ▸ b) h = rw (h .1) (outer-blank t (h .0))
-
 module _ (w : List ℕ) where
   -- a run's row, where the run stands behind a > or is outside
   leaf-told : (l : Level) (k a : ℕ) (t : Bytes) (R : List Row) → Run l t → (l ≡ inner → Ended w a) → All (Preceded w) R → All (Preceded w) (leafRow k a t R)
-  leaf-told outer k a t R r e h = rw (outer-blank t r) h
+  leaf-told outer k a t R r e h = rw (white-run t r) h
   leaf-told inner k a t R r e h = go (inked t)
     where
       go : (y : Bool) → All (Preceded w) (cond y (row ofText k a t ∷ R) R)

@@ -101,7 +101,8 @@ unfolding depth
 shape-depth f = depth-is (λ q s. 0) f none ∙ omega arith
 
 -- A DOCUMENT'S TREE IS ONE TERM
-white-run : (t : Bytes) → Run outer t → inked t ≡ false
+-- white space makes no row
+pub white-run : (t : Bytes) → Run outer t → inked t ≡ false
 white-run ε h = refl
 white-run (t ▸ b) h = simp (h .1) (white-run t (h .0))
 
