@@ -3,6 +3,8 @@ ghost use mathlib.Core.Path.{_≡_};
 ghost use Rattle.catalogue.proofs.Back.{fitting};
 ghost use Rattle.lister.specs.Begun.{BeginPre, BeginPost};
 ghost use Rattle.lister.specs.Listed.{Settled};
+use meaning::codes::NO_MATCHER;
+use meaning::codes::RECORD;
 use meaning::endings::ALL;
 use meaning::endings::ROOM;
 use search::Found;
@@ -14,6 +16,17 @@ pub struct Listed {
     pub ending: u32,
     pub records: usize,
     pub tries: u32,
+}
+
+fn refused(code: u32) -> Listed
+    ensures { λ r. ⌜ (r .code ≡ code) × (r .ending ≡ 0) × (r .records ≡ 0) × (r .tries ≡ 0) ⌝ }
+{
+    Listed {
+        code,
+        ending: 0,
+        records: 0,
+        tries: 0,
+    }
 }
 
 // How many records of a width fit into a list; where they have no numbers, the only one there can be.
@@ -138,5 +151,112 @@ pub fn list(
         ending: found.ending,
         records: found.records,
         tries: found.tries,
+    }
+}
+
+// What the search comes to from a record on, if it is that of a matcher.
+enum After {
+    NoMatcher,
+    Found(Found),
+}
+
+// The search from the levels that stand at a record.
+fn go_on(
+    label: &[u32],
+    size: &[u32],
+    pattern: &[u32; 1536],
+    tables: &[u64; 320],
+    list: &[u32],
+    limits: Limits,
+    out: &mut [u32],
+) -> After {
+    let mut record = [0u32; 32];
+    let mut at = [0usize; 256];
+    let mut levels = [0usize; 1536];
+    match page::reach(
+        label,
+        size,
+        pattern,
+        tables,
+        list,
+        &mut record,
+        &mut at,
+        &mut levels,
+    ) {
+        page::Reached::Nowhere => After::NoMatcher,
+        page::Reached::At(depth) => After::Found(search::go(
+            label,
+            size,
+            pattern,
+            tables,
+            limits,
+            &mut record,
+            &mut at,
+            &mut levels,
+            depth,
+            out,
+        )),
+    }
+}
+
+// Lists the matchers that come strictly after a record, as many as room and budget allow: the next page.
+pub fn list_after(
+    label: &[u32],
+    size: &[u32],
+    kind: &[u32],
+    name: &[u32],
+    pattern_size: &[u32],
+    expression_kind: &[u32],
+    expression_name: &[u32],
+    expression_size: &[u32],
+    constraint: &[u32],
+    record: &[u32],
+    budget: u32,
+    out: &mut [u32],
+) -> Listed {
+    let p = problem::check(
+        label,
+        size,
+        kind,
+        name,
+        pattern_size,
+        expression_kind,
+        expression_name,
+        expression_size,
+        constraint,
+    );
+    let code = p.code;
+    if code != 0 {
+        return refused(code);
+    }
+    let kinds = p.kinds;
+    let variables = p.variables;
+    if !record::fits(size, &kinds, variables, record) {
+        return refused(RECORD);
+    }
+    let mut tables = [0u64; 320];
+    letters::tables_of(
+        expression_kind,
+        expression_name,
+        expression_size,
+        &mut tables,
+    );
+    let mut packed = [0u32; 1536];
+    walk::pack(kind, name, pattern_size, constraint, &mut packed);
+    let width = variables + variables;
+    let room = room_for(out.len(), width);
+    let limits = Limits {
+        budget,
+        room,
+        width,
+    };
+    match go_on(label, size, &packed, &tables, record, limits, out) {
+        After::NoMatcher => refused(NO_MATCHER),
+        After::Found(found) => Listed {
+            code: 0,
+            ending: found.ending,
+            records: found.records,
+            tries: found.tries,
+        },
     }
 }
