@@ -12,3 +12,4 @@ pub mod Whole
 pub mod Facts
 pub mod Stays
 pub mod Different
+pub mod Later

@@ -12,7 +12,7 @@ use Rattle.meaning.specs.Reached.{Begins}
 use Rattle.meaning.specs.Order.{_⊏_, Mem, Ascending}
 use Rattle.catalogue.specs.Answer.{Result, upto, place}
 use Rattle.catalogue.proofs.Events.{Outcome, need, done, Event, tried, matched, events, Within, Leads, Some, sound, complete, short}
-use Rattle.catalogue.proofs.Ascent.{_≪_, ascending}
+use Rattle.catalogue.proofs.Ascent.{_≪_}
 
 abbrev pub stop : ℕ → Result
 stop n = record { records = []; ending = n; tries = 0 }
@@ -114,17 +114,17 @@ run-tag (tried v ∷ es) t (suc c) n b room hn hb =
 run-tag (matched v x ∷ es) t c n b zero hn hb = rw (le-leb t b (omega arith), lt-ltb 0 (suc (reached b (tag t es))) (omega arith)) (ap (λ k. record { records = []; ending = 1; tries = k }) (omega arith))
 run-tag (matched v x ∷ es) t c n b (suc room) hn hb = ap (one-match x) (run-tag es t c n b room hn hb) ∙ sym (answer-cons x t (tag t es) n b room (omega arith))
 
-upto-less : (v w : List ℕ) → v ⊏ w → upto v w ≡ true
+pub upto-less : (v w : List ℕ) → v ⊏ w → upto v w ≡ true
 upto-less v [] h = absurd h
 upto-less [] (y ∷ w) h = refl
 upto-less (x ∷ v) (y ∷ w) (inl h) = rw (lt-ltb x y h)
 upto-less (x ∷ v) (y ∷ w) (inr h) = rw (le-ltb x y (omega (arith, h .0)), eq-eqb x y (h .0), upto-less v w (h .1))
 
-upto-refl : (v : List ℕ) → upto v v ≡ true
+pub upto-refl : (v : List ℕ) → upto v v ≡ true
 upto-refl [] = refl
 upto-refl (x ∷ v) = rw (le-ltb x x (omega arith), eq-eqb x x refl, upto-refl v)
 
-upto-more : (v w : List ℕ) → v ⊏ w → upto w v ≡ false
+pub upto-more : (v w : List ℕ) → v ⊏ w → upto w v ≡ false
 upto-more v [] h = absurd h
 upto-more [] (y ∷ w) h = refl
 upto-more (x ∷ v) (y ∷ w) (inl h) = rw (le-ltb y x (omega arith), ne-eqb y x (λ e. omega arith))
@@ -172,7 +172,7 @@ of-matches (tried u ∷ es) s (inr m) = of-matches es s m
 of-matches (matched u r ∷ es) s (inl e) = inl (matched-inj s u r e)
 of-matches (matched u r ∷ es) s (inr m) = inr (of-matches es s m)
 
-upto-before : (v w r : List ℕ) → tried v ≪ matched w r → upto v w ≡ true
+pub upto-before : (v w r : List ℕ) → tried v ≪ matched w r → upto v w ≡ true
 upto-before v w r (inl h) = upto-less v w h
 upto-before v w r (inr h) = rw h (upto-refl w)
 
@@ -187,7 +187,7 @@ tag-placed (matched v x ∷ es) t W a h =
     let k : tag t es ≡ placed W (matches-of es) = tag-placed es t W (a .1) (λ w r m. h w r (inr m)) in
     λ i. record { values = x; tries = e i } ∷ k i
 
-run-answer : (es : List Event) (budget room : ℕ) → Ascending _≪_ es → run es budget room ≡ answer (placed (tries-of es) (matches-of es)) (length (tries-of es)) budget room
+pub run-answer : (es : List Event) (budget room : ℕ) → Ascending _≪_ es → run es budget room ≡ answer (placed (tries-of es) (matches-of es)) (length (tries-of es)) budget room
 run-answer es budget room a =
     ap (λ k. record { records = run es budget room .records; ending = run es budget room .ending; tries = k }) (omega arith)
     ∙ run-tag es 0 budget (length (tries-of es)) budget room (omega arith) (omega arith)
@@ -203,27 +203,17 @@ IsMatch walk s = Leads walk [] (s .choices) × (walk (s .choices) ≡ done (s .v
 abbrev pub _before_ : Match → Match → Type 0
 _before_ a b = a .choices ⊏ b .choices
 
-pub record Answer (walk : List ℕ → Outcome) (budget room : ℕ) (r : Result) : Type 0 where
-  -- all tries and all matches, each once, in order
-  pub tries : List (List ℕ)
-  pub matches : List Match
-  pub tries-order : Ascending _⊏_ tries
-  pub tries-all : (v : List ℕ) → Mem v tries ↔ IsTry walk v
-  pub matches-order : Ascending _before_ matches
-  pub matches-all : (s : Match) → Mem s matches ↔ IsMatch walk s
-  pub result : r ≡ answer (placed tries matches) (length tries) budget room
-
-tries-ascending : (es : List Event) → Ascending _≪_ es → Ascending _⊏_ (tries-of es)
+pub tries-ascending : (es : List Event) → Ascending _≪_ es → Ascending _⊏_ (tries-of es)
 tries-ascending [] a = tt
 tries-ascending (tried v ∷ es) a = (λ u m. a .0 (tried u) (in-tries es u m), tries-ascending es (a .1))
 tries-ascending (matched v r ∷ es) a = tries-ascending es (a .1)
 
-matches-ascending : (es : List Event) → Ascending _≪_ es → Ascending _before_ (matches-of es)
+pub matches-ascending : (es : List Event) → Ascending _≪_ es → Ascending _before_ (matches-of es)
 matches-ascending [] a = tt
 matches-ascending (tried v ∷ es) a = matches-ascending es (a .1)
 matches-ascending (matched v r ∷ es) a = (λ s m. a .0 (event-of s) (in-matches es s m), matches-ascending es (a .1))
 
--- what the events give is the answer
+-- the events are all tries and all matches
 module _ (walk : List ℕ → Outcome) (bound : ℕ) (stops : (v : List ℕ) (x : ℕ) → bound ≤ length v → Within x (walk v) → ⊥) where
   is-try : (v : List ℕ) → Mem (tried v) (events walk bound []) → IsTry walk v
   is-try v m = let f = sound walk bound [] (tried v) m in (rw (f .at) (f .kind), rw (f .at) (f .leads))
@@ -234,18 +224,15 @@ module _ (walk : List ℕ → Outcome) (bound : ℕ) (stops : (v : List ℕ) (x 
   fits : (v : List ℕ) → Leads walk [] v → length v ≤ bound
   fits v l = omega (arith, short walk bound stops [] v zero-le l)
 
-  pub answers : (budget room : ℕ) → Answer walk budget room (run (events walk bound []) budget room)
-  answers budget room =
+  pub all-tried : (v : List ℕ) → Mem v (tries-of (events walk bound [])) ↔ IsTry walk v
+  all-tried v =
       let es = events walk bound [] in
-      record {
-        tries = tries-of es;
-        matches = matches-of es;
-        tries-order = tries-ascending es (ascending walk bound []);
-        tries-all = λ v. (λ m. is-try v (in-tries es v m), λ h. of-tries es v (complete walk bound [] v (tried v) (fits v (h .1)) (h .1) refl (h .0)));
-        matches-order = matches-ascending es (ascending walk bound []);
-        matches-all = λ s. (λ m. is-match s (in-matches es s m), λ h. of-matches es s (complete walk bound [] (s .choices) (event-of s) (fits (s .choices) (h .0)) (h .0) refl (h .1)));
-        result = run-answer es budget room (ascending walk bound []);
-      }
+      (λ m. is-try v (in-tries es v m), λ h. of-tries es v (complete walk bound [] v (tried v) (fits v (h .1)) (h .1) refl (h .0)))
+
+  pub all-matched : (s : Match) → Mem s (matches-of (events walk bound [])) ↔ IsMatch walk s
+  all-matched s =
+      let es = events walk bound [] in
+      (λ m. is-match s (in-matches es s m), λ h. of-matches es s (complete walk bound [] (s .choices) (event-of s) (fits (s .choices) (h .0)) (h .0) refl (h .1)))
 
 -- more budget or more room only lengthens the list
 pub more : (es : List Event) (b c r q : ℕ) → b ≤ c → r ≤ q → Begins (run es b r .records) (run es c q .records)
