@@ -1,6 +1,6 @@
 -- The first walk, before any choice, and what the search begins with.
-use Prim.Native.Nat.{ℕ, suc, _+_, _-_, _*_, _<_, _≤_}
-use mathlib.Core.Path.{_≡_, refl, ap, _∙_, sym, subst}
+use Prim.Native.Nat.{ℕ, _+_, _*_, _<_, _≤_}
+use mathlib.Core.Path.{_≡_, ap, _∙_}
 use mathlib.Core.List.{List, []}
 use lib.ListN.{length, take, set, replicate, length-set, length-replicate}
 use lib.Seq.{paste}
@@ -8,32 +8,30 @@ use native.Mathlib.Omega.{arith}
 use Rattle.meaning.specs.Forest.{Term, size}
 use Rattle.meaning.specs.Pattern.{Pattern, Kind}
 use Rattle.meaning.specs.Record.{Entry, numbers}
-use Rattle.meaning.proofs.Walk.{need, ok, over, walkT, walk}
-use Rattle.meaning.proofs.Next.{Any, any?, first-free}
-use Rattle.meaning.proofs.Tame.{count, tame-need}
+use Rattle.meaning.proofs.Walk.{ok, walk}
+use Rattle.meaning.proofs.Tame.{count}
 use Rattle.expression.specs.Expression.{Expression}
 use Rattle.constraint.specs.Obeys.{Constraint, Allowed}
 use Rattle.constraint.proofs.Allowed.{allowed?}
-use Rattle.variable.proofs.States.{count-bound}
-use Rattle.walk.specs.Cycle.{stop-at, Needs}
-use Rattle.walk.specs.Onward.{Problem}
+use Rattle.walk.specs.Above.{Marks}
+use Rattle.walk.specs.Cycle.{stop-at}
 use Rattle.walk.specs.Onward as onward
 use Rattle.walk.specs.Taken.{Answers}
 use Rattle.walk.specs.declared.Out.{Out}
 use Rattle.walk.specs.declared.Out.the-variants as answer
-use Rattle.walk.proofs.Marks.{marks-kept}
-use Rattle.walk.proofs.Views.{need-agree}
-use Rattle.walk.proofs.Answered.{answers, failed, matched}
-use Rattle.choice.specs.Stops.{StopAt, AtStop, LeastPost, ValuesPost}
-use Rattle.choice.proofs.Stops.{many-range, at-room}
+use Rattle.walk.proofs.Answered.{failed, matched}
+use Rattle.choice.specs.Stops.{many, StopAt, AtStop, LeastPost, ValuesPost}
+use Rattle.choice.proofs.Stops.{at-room}
+use Rattle.catalogue.proofs.Events as events
 use Rattle.catalogue.proofs.Fill.{fill}
-use Rattle.catalogue.proofs.Levels.{Levels, levels-need}
+use Rattle.catalogue.proofs.Levels.{Levels}
 use Rattle.catalogue.proofs.Loop.{Fixed, first-fail, first-need, first-full, first-done, first-room, first-deep}
 use Rattle.catalogue.proofs.Whole.{walked, outcome}
 use Rattle.search.specs.Search.{GoAsked, GoPre, GoPost}
 use Rattle.search.specs.declared.Found.{Found}
-use Rattle.levels.proofs.Going.{is-fixed, individuals, functions}
-use Rattle.levels.proofs.Pauses.{pauses-first}
+use Rattle.levels.proofs.Going.{is-fixed, Asks, asks-stop, asks-values, asks-level}
+use Rattle.levels.proofs.First.{first-asked, first-marks, first-long, first-answered, first-asks}
+use Rattle.levels.proofs.Pauses.{pauses-none}
 use Rattle.levels.specs.Columns.{places, variables, starts, rows, nexts, lefts, Entered}
 use Rattle.levels.proofs.Columns.{first-level}
 use Rattle.lister.specs.Begun.{BeginAsked, BeginPre, BeginPost}
@@ -49,26 +47,12 @@ pub record Begun (L S M tables : List ℕ)
   pub walked : onward.BeginPost L S M R A o R′ A′
 
 module _ {L S M tables : List ℕ} {room width : ℕ} {before : List ℕ} where
-  module _ {T : Term} {P : Pattern} {Q : List Kind} {es : List Expression} {cs : List Constraint}
-      (a : BeginAsked L S M tables room width before T P Q es cs) where
-    fixed : Fixed (walked (Allowed cs) (allowed? cs) (a .search .pattern .numbered) T) (count Q) (size T) width room before
-    fixed = is-fixed (a .search) (a .wide) (a .fits)
+  fixed : {T : Term} {P : Pattern} {Q : List Kind} {es : List Expression} {cs : List Constraint} (a : BeginAsked L S M tables room width before T P Q es cs)
+      → Fixed (walked (Allowed cs) (allowed? cs) (a .search .pattern .numbered) T) (count Q) (size T) width room before
+  fixed a = is-fixed (a .search) (a .wide) (a .fits)
 
-    problem : {R A : List ℕ} → length R ≡ 32 → length A ≡ 256 → Problem L S M R A T P Q
-    problem h l =
-        record {
-          K = a .search .K;
-          N = a .search .N;
-          Z = a .search .Z;
-          tree = a .search .allowing .tree;
-          pattern = a .search .pattern;
-          packed = a .search .packed;
-          room = omega (arith, a .search .allowing .few);
-          marks = record { few = a .search .pattern .few; long = l };
-        }
-
-  pub first-asked : {R A : List ℕ} → BeginPre L S M tables room width before → length R ≡ 32 → length A ≡ 256 → onward.BeginPre L S M R A
-  first-asked p h l = let s = p .some in record { some = (s .0, s .1, s .2, problem (s .5) h l) }
+  pub walk-asked : {R A : List ℕ} → BeginPre L S M tables room width before → length R ≡ 32 → length A ≡ 256 → onward.BeginPre L S M R A
+  walk-asked p h l = let s = p .some in record { some = (s .0, s .1, s .2, first-asked (s .5 .search) h l) }
 
   module _ {R′ A′ : List ℕ} {o : Out} (b : Begun L S M tables room width before R′ A′ o) where
     abbrev Asked : Term → Pattern → List Kind → List Expression → List Constraint → Type 0
@@ -79,12 +63,10 @@ module _ {L S M tables : List ℕ} {room width : ℕ} {before : List ℕ} where
 
     answered : {T : Term} {P : Pattern} {Q : List Kind} {es : List Expression} {cs : List Constraint} (a : Asked T P Q es cs)
         → Answers R′ o (walk (Allowed cs) (allowed? cs) P T [])
-    answered {T} {P} {Q} {es} {cs} a =
-        rw (first-free (Allowed cs) (allowed? cs) Q (individuals (a .search)) (functions (a .search)) (a .search .pattern .numbered) T)
-        (answers (b .walked .is T P Q (problem a (b .long) (b .rows-long)) .0))
+    answered a = first-answered (a .search) (b .long) (b .rows-long) (b .walked)
 
     walked-long : length R′ ≡ 32
-    walked-long = let s = b .pre .some in b .walked .is (s .0) (s .1) (s .2) (problem (s .5) (b .long) (b .rows-long)) .1 .long ∙ b .long
+    walked-long = first-long (b .pre .some .5 .search) (b .long) (b .rows-long) (b .walked)
 
     pub begun-fail : {budget : ℕ} → o ≡ answer.Fail → Post budget (record { ending = 0; records = 0; tries = 0 }) before
     begun-fail {budget} e = record { all = λ T P Q es cs a. first-fail (fixed a) budget (ap outcome (failed (rw e at (answered a)))) }
@@ -106,76 +88,63 @@ module _ {L S M tables : List ℕ} {room width : ℕ} {before : List ℕ} where
       begun-done {budget} f = record { all = λ T P Q es cs a. let d = said a in first-done (fixed a) budget (numbers (d .0)) R′ (ap outcome (d .1)) (d .2) f }
 
     module _ {p x s : ℕ} (e : o ≡ answer.Need (stop-at p x s)) where
-      needs : {T : Term} {P : Pattern} {Q : List Kind} {es : List Expression} {cs : List Constraint} (a : Asked T P Q es cs)
-          → (lo : ℕ) × (hi : ℕ) × Needs L S R′ A′ (a .search .K) (a .search .N) (a .search .Z) Q [] (walkT Any any? P T 0 []) p x s lo hi
-      unfolding problem
-      needs {T} {P} {Q} a = let n = need-agree (rw e at (b .walked .is T P Q (problem a (b .long) (b .rows-long)) .0)) in (n .1, n .2, n .3)
+      -- no choice is made, and no level stands yet
+      abbrev none : List ℕ
+      none = replicate 256 0
 
-      needed : {T : Term} {P : Pattern} {Q : List Kind} {es : List Expression} {cs : List Constraint} (a : Asked T P Q es cs)
-          → walk (Allowed cs) (allowed? cs) P T [] ≡ need (needs a .2 .bound) s (needs a .0) (needs a .1)
-      needed {T} {Q = Q} {cs = cs} a =
-          first-free (Allowed cs) (allowed? cs) Q (individuals (a .search)) (functions (a .search)) (a .search .pattern .numbered) T ∙ ap over (needs a .2 .asks)
+      asks : {T : Term} {P : Pattern} {Q : List Kind} {es : List Expression} {cs : List Constraint} (a : Asked T P Q es cs) → Asks (a .search) R′ A′ none none 0 p x s
+      asks a = first-asks (a .search) (b .long) (b .rows-long) (b .walked) none none p x s e
+
+      marks : {T : Term} {P : Pattern} {Q : List Kind} {es : List Expression} {cs : List Constraint} (a : Asked T P Q es cs) → Marks (a .search .K) A′
+      marks a = first-marks (a .search) (b .long) (b .rows-long) (b .walked)
 
       -- where the walk stopped
       stops : {T : Term} {P : Pattern} {Q : List Kind} {es : List Expression} {cs : List Constraint} (a : Asked T P Q es cs)
-          → StopAt L S M A′ p s (a .search .K) (a .search .N) (a .search .Z) Q x (needs a .2 .stop) (needs a .2 .frames)
-      stops {T} {P} {Q} a =
-          record {
-            packed = a .search .packed;
-            marks = marks-kept (b .walked .is T P Q (problem a (b .long) (b .rows-long)) .2) (record { few = a .search .pattern .few; long = b .rows-long });
-            stands = needs a .2 .stands;
-          }
+          → StopAt L S M A′ p s (a .search .K) (a .search .N) (a .search .Z) Q x (asks a .needs .stop) (asks a .needs .frames)
+      stops a = asks-stop (a .search) (asks a) (marks a)
 
       pub at-stop : AtStop S M A′ p s
-      at-stop = let h = b .pre .some in let a = h .5 in record { some = (L, a .search .K, a .search .N, a .search .Z, h .2, x, needs a .2 .stop, needs a .2 .frames, stops a) }
+      at-stop = let h = b .pre .some in let a = h .5 in record { some = (L, a .search .K, a .search .N, a .search .Z, h .2, x, asks a .needs .stop, asks a .needs .frames, stops a) }
 
       pub need-room : 6 * p + 5 < length M
       need-room = at-room (stops (b .pre .some .5)) .1
 
       -- the levels' lists with the first level in them
       abbrev level : ℕ → List ℕ
-      level k = set (replicate 256 0) 0 k
+      level k = set none 0 k
 
       module _ {lo n : ℕ} (low : LeastPost M p s lo) (values : ValuesPost S M A′ p s n) where
-        -- they are the values that the walk asked for
-        values-are : {T : Term} {P : Pattern} {Q : List Kind} {es : List Expression} {cs : List Constraint} (a : Asked T P Q es cs) → (needs a .0 ≡ lo) × (suc (needs a .1) - lo ≡ n)
-        values-are a =
-            let w = needs a .2 in
-            let l = low .is L S A′ (a .search .K) (a .search .N) (a .search .Z) _ x (w .stop) (w .frames) (stops a) in
-            let m = values .is L (a .search .K) (a .search .N) (a .search .Z) _ x (w .stop) (w .frames) (stops a) in
-            (sym (w .low) ∙ sym l, omega (arith, l, m, many-range (w .stop) s, w .high))
+        its-many : {T : Term} {P : Pattern} {Q : List Kind} {es : List Expression} {cs : List Constraint} (a : Asked T P Q es cs) → n ≡ many (asks a .needs .stop)
+        its-many a = let w = asks a .needs in values .is L (a .search .K) (a .search .N) (a .search .Z) _ x (w .stop) (w .frames) (stops a)
 
-        -- and the walk that asked for them
-        asks : {T : Term} {P : Pattern} {Q : List Kind} {es : List Expression} {cs : List Constraint} (a : Asked T P Q es cs)
-            → (hi : ℕ) × (suc hi - lo ≡ n) × (lo ≤ hi) × (walk (Allowed cs) (allowed? cs) P T [] ≡ need (needs a .2 .bound) s lo hi)
-            × Needs L S R′ A′ (a .search .K) (a .search .N) (a .search .Z) Q [] (walkT Any any? P T 0 []) p x s lo hi
-        asks {T} {P} {Q} {es} {cs} a =
-            let v = values-are a in
-            let m = tame-need (Allowed cs) (allowed? cs) T _ (a .search .pattern .numbered) (needed a) in
-            (needs a .1, v .1, omega (arith, m .1, v .0), rw (v .0) at (needed a), subst (λ (i : ℕ). Needs L S R′ A′ (a .search .K) (a .search .N) (a .search .Z) Q [] (walkT Any any? P T 0 []) p x s i (needs a .1)) (v .0) (needs a .2))
+        -- the values are those that the walk asks for
+        asked-first : {T : Term} {P : Pattern} {Q : List Kind} {es : List Expression} {cs : List Constraint} (a : Asked T P Q es cs)
+            → outcome (walk (Allowed cs) (allowed? cs) P T []) ≡ events.need lo n
+        asked-first a =
+            let v = asks-values (a .search) (asks a) (marks a) low (its-many a) in
+            rw (v .0, v .1) at (ap outcome (asks a .asked))
 
         asked : {T : Term} {P : Pattern} {Q : List Kind} {es : List Expression} {cs : List Constraint} (a : Asked T P Q es cs)
-            → GoAsked L S M tables room width R′ A′ (level p) (level x) (level s) (level s) (level lo) (level n) 1 before T P Q es cs (replicate 256 0)
+            → GoAsked L S M tables room width R′ A′ (level p) (level x) (level s) (level s) (level lo) (level n) 1 before T P Q es cs none
         asked {T} {P} {Q} {es} {cs} a =
-            let d = asks a in
-            let none : List ℕ = replicate 256 0 in
             let long : length {A = ℕ} (replicate 256 0) ≡ 256 = length-replicate {A = ℕ} 256 0 in
             let z : Levels (Allowed cs) (allowed? cs) (a .search .pattern .numbered) T none none none none none 0 =
             record { long = omega arith; each = λ k l. absurd (omega arith) } in
-            let m = levels-need (Allowed cs) (allowed? cs) (a .search .pattern .numbered) T z (omega arith) (omega arith) (omega arith) (omega arith) (omega arith)
-            (d .3) (d .2) in
+            let m =
+            asks-level (a .search) (asks a) (marks a) low (its-many a) z (pauses-none {vals = none} {places = none} {X = none} {St = none} {U = none} {Nx = none} {F = none} (marks a))
+            (omega arith) (omega arith) (omega arith) (omega arith) (omega arith) (omega arith) (omega arith) in
             record {
               search = a .search;
               wide = a .wide;
               fits = a .fits;
-              vals-long = length-replicate {A = ℕ} 256 0;
-              deep = omega (arith, first-deep (fixed a) lo (suc (d .0) - lo) (ap outcome (d .3)));
-              levels = rw (d .1, count-bound (needs a .2 .state)) at m;
-              pauses = pauses-first (replicate 256 0) (level p) (level x) (level s) (level s) (level lo) (level n) (stops a .marks) (d .2) (d .4) refl refl refl refl refl (sym (d .1));
+              vals-long = long;
+              deep = omega (arith, first-deep (fixed a) lo n (asked-first a));
+              levels = m .0;
+              pauses = m .1;
             }
 
         level-long : (k : ℕ) → length (level k) ≡ 256
-        level-long k = length-set (replicate 256 0) 0 k ∙ length-replicate {A = ℕ} 256 0
+        level-long k = length-set none 0 k ∙ length-replicate {A = ℕ} 256 0
 
         first-asked-of : GoPre L S M tables room width R′ A′ (level p) (level x) (level s) (level s) (level lo) (level n) 1 before
         first-asked-of =
@@ -188,7 +157,7 @@ module _ {L S M tables : List ℕ} {room width : ℕ} {before : List ℕ} where
               rows-long = level-long s;
               nexts-long = level-long lo;
               lefts-long = level-long n;
-              some = (h .0, h .1, h .2, h .3, h .4, replicate 256 0, asked (h .5));
+              some = (h .0, h .1, h .2, h .3, h .4, none, asked (h .5));
             }
 
         -- the levels in one list
@@ -208,7 +177,5 @@ module _ {L S M tables : List ℕ} {room width : ℕ} {before : List ℕ} where
               let long : length {A = ℕ} (replicate 256 0) ≡ 256 = length-replicate {A = ℕ} 256 0 in
               record {
                 all = λ T P Q es cs a.
-                    let d = asks a in
-                    let w = first-need (fixed a) (replicate 256 0) (replicate 256 0) (replicate 256 0) lo (suc (d .0) - lo) (omega arith) (omega arith) (ap outcome (d .3)) in
-                    ap (fill budget room width 0 0 before) (rw (d .1) at w) ∙ q .all T P Q es cs (replicate 256 0) (asked a);
+                    ap (fill budget room width 0 0 before) (first-need (fixed a) none none none lo n (omega arith) (omega arith) (asked-first a)) ∙ q .all T P Q es cs none (asked a);
               }

@@ -24,7 +24,7 @@ use Rattle.catalogue.specs.Listing.{Meant}
 use Rattle.catalogue.proofs.Back.{fitting, fitting-some}
 use Rattle.catalogue.proofs.Events.{events}
 use Rattle.catalogue.proofs.Run.{Tame, run}
-use Rattle.catalogue.proofs.Fill.{filled, room-fits}
+use Rattle.catalogue.proofs.Fill.{tame-widths, filled, room-fits}
 use Rattle.catalogue.proofs.Whole.{walked, meant}
 use Rattle.catalogue.proofs.Facts.{meant-unlimited}
 use Rattle.search.specs.declared.Found.{Found}
@@ -87,7 +87,7 @@ module _ (l : Lists) {r : Problem} (a : Answered l r) (budget : ℕ) (before : L
                 let g = b .search .pattern .numbered in
                 let walk = walked (Allowed cs) (allowed? cs) g T in
                 let tame : Tame walk (count Q) (size T) width = is-fixed (b .search) {before = before} (b .wide) (b .fits) .is-tame in
-                let h = filled walk (count Q) (size T) width budget room before after (f .ending) (f .records) (f .tries) tame (b .fits) (post .all T P Q es cs b) in
+                let h = filled (events walk (count Q) []) width budget room before after (f .ending) (f .records) (f .tries) (tame-widths walk (count Q) (size T) width tame) (b .fits) (post .all T P Q es cs b) in
                 let y : room ≡ fitting (length before) (length Q + length Q) = fits ∙ ap (fitting (length before)) (b .wide) in
                 record {
                   result = run (events walk (count Q) []) budget room;

@@ -1,5 +1,4 @@
 // The levels of the search as they stand at a record: each choice is the record's own second number, judged and walked with as a try is.
-ghost use mathlib.Core.Path.{_≡_};
 ghost use Rattle.page.specs.Page.{ChoosePre, ChoosePost, ReachPre, ReachPost};
 use levels::Try;
 use levels::advance;
@@ -21,7 +20,10 @@ fn choose(
     levels: &mut [usize; 1536],
     d: usize,
     w: walk::Stop,
-) -> Chosen {
+) -> Chosen
+    requires { ⌜ ChoosePre (now size) (now pattern) (now at) (now levels) (now list) d (w .place) (w .variable) (w .start) ⌝ }
+    ensures { λ r. ⌜ ChoosePost (now (size .entry)) (now (pattern .entry)) (now (at .entry)) (now (levels .entry)) (now (list .entry)) d (w .place) (w .variable) (w .start) (now (levels .exit)) r ⌝ }
+{
     let p = w.place;
     let x = w.variable;
     let s = w.start;
@@ -66,7 +68,10 @@ pub fn reach(
     record: &mut [u32; 32],
     at: &mut [usize; 256],
     levels: &mut [usize; 1536],
-) -> Reached {
+) -> Reached
+    requires { ⌜ ReachPre (now label) (now size) (now pattern) (now tables) (now list) (now «record») (now at) (now levels) ⌝ }
+    ensures { λ r. ⌜ ReachPost (now (label .entry)) (now (size .entry)) (now (pattern .entry)) (now (tables .entry)) (now (list .entry)) (now («record» .exit)) (now (at .exit)) (now (levels .exit)) r ⌝ }
+{
     let mut memory = [0usize; 1280];
     let mut path = [0usize; 259];
     let mut depth = 0;

@@ -1,4 +1,4 @@
-use Rattle.lister.proofs.Begun.{Begun, first-asked, begun-fail, begun-full, begun-put, begun-done, at-stop, need-room, go-asked, begun-need}
+use Rattle.lister.proofs.Begun.{Begun, walk-asked, begun-fail, begun-full, begun-put, begun-done, at-stop, need-room, go-asked, begun-need}
 use lib.ListN.{replicate, length-replicate}
 use native.Mathlib.Omega.{arith}
 use mathlib.Core.Path.{refl, _∙_}
@@ -25,7 +25,7 @@ begun c = record { R = replicate 32 0; A = replicate 256 0; long = refl; rows-lo
 
 -- src/lib.rt:40:11
 begin-requires : tie.Need-begin-requires
-begin-requires c κs = first-asked (c .before .before .before .before .before .pre) refl refl
+begin-requires c κs = walk-asked (c .before .before .before .before .before .pre) refl refl
 
 -- src/lib.rt:41:28
 enum-told : tie.Need-enum-told
