@@ -113,6 +113,10 @@ places-many : (Q : List Kind) (ts rs : List (List ℕ)) → length (places Q ts 
 places-many Q ts [] = refl
 places-many Q ts (r ∷ rs) = ap suc (places-many Q ts rs)
 
+-- where there is at most one, room for one is as good as any
+pub one-room : (Q : List Kind) (rs ts : List (List ℕ)) (budget : ℕ) → length rs ≤ 1 → answer Q rs ts budget (atMost 1) ≡ answer Q rs ts budget unlimited
+one-room Q rs ts budget few = rw (le-ltb 1 (within budget (places Q ts rs)) (omega (arith, within-few budget (places Q ts rs), places-many Q ts rs)))
+
 -- without variables there is at most one solution, so no room can be wanting
 module _ {Allowed : ℕ → Value → Type 0} (allowed? : (x : ℕ) (v : Value) → Dec (Allowed x v)) {P : Pattern} {T : Term} (g : Numbered P []) where
   no-numbers : {r : List ℕ} → IsRecord Allowed [] P T r → r ≡ []
@@ -132,14 +136,12 @@ module _ {Allowed : ℕ → Value → Type 0} (allowed? : (x : ℕ) (v : Value) 
 
   pub meant-unlimited : {budget : ℕ} {x : Result} → Meant Allowed [] P T budget (atMost 1) x → Meant Allowed [] P T budget unlimited x
   meant-unlimited {budget} m =
-      let few : within budget (places [] (m .tries) (m .solutions)) ≤ 1 =
-      omega (arith, within-few budget (places [] (m .tries) (m .solutions)), places-many [] (m .tries) (m .solutions), at-most-one (m .solutions-are)) in
       record {
         solutions = m .solutions;
         tries = m .tries;
         solutions-are = m .solutions-are;
         tries-are = m .tries-are;
-        result = m .result ∙ rw (le-ltb 1 (within budget (places [] (m .tries) (m .solutions))) few);
+        result = m .result ∙ one-room [] (m .solutions) (m .tries) budget (at-most-one (m .solutions-are));
       }
 
 -- the events' own facts

@@ -14,7 +14,7 @@ use native.Mathlib.Nat.{add-zero, suc-mul, sub-zero, add-assoc, mul-le-mul-right
 use native.Mathlib.Numerals.{add-one}
 use Rattle.meaning.specs.Order.{Mem}
 use Rattle.catalogue.specs.Answer.{Result}
-use Rattle.catalogue.specs.Listing.{joined}
+use Rattle.catalogue.specs.Listing.{joined, Shown}
 use Rattle.catalogue.proofs.Back.{BackTo, fitting}
 use Rattle.catalogue.proofs.Events.{Outcome, fail, need, done, Event, tried, matched, snoc, branch, events, sound}
 use Rattle.catalogue.proofs.Run.{run, stop, one-match, one-try, Tame}
@@ -102,21 +102,23 @@ module _ (budget room width : ℕ) where
 pub tame-widths : (walk : List ℕ → Outcome) (bound limit width : ℕ) → Tame walk bound limit width → Widths width (events walk bound [])
 tame-widths walk bound limit width t v r m = t .wide v r (sound walk bound [] (matched v r) m .kind)
 
--- a loop that ends with what some events fill has gone through them
-pub filled : (es : List Event) (width budget room : ℕ) (before after : List ℕ) (ending records tries : ℕ) → Widths width es → room * width ≤ length before
-    → fill budget room width 0 0 before es ≡ record { ending = ending; records = records; tries = tries; out = after }
-    → (ending ≡ run es budget room .ending) × (records ≡ length (run es budget room .records)) × (tries ≡ run es budget room .tries)
-    × (after ≡ joined (run es budget room .records) ++ drop (length (joined (run es budget room .records))) before)
-filled es width budget room before after ending records tries w h e =
+-- a loop that ends with what some events fill shows what they run to
+pub shown : (Means : Result → Type 0) (es : List Event) (width budget room : ℕ) (before after : List ℕ) (ending records tries : ℕ) → Widths width es → room * width ≤ length before
+    → fill budget room width 0 0 before es ≡ record { ending = ending; records = records; tries = tries; out = after } → Means (run es budget room) → Shown Means before ending records tries after
+shown Means es width budget room before after ending records tries w h e m =
     let res = run es budget room in
-    let k = fill-run budget room width es 0 0 budget room before (omega arith) (omega arith) w h in (
-      ap (λ (f : Filled). f .ending) (sym e ∙ k),
-      ap (λ (f : Filled). f .records) (sym e ∙ k) ∙ zero-add (length (res .records)),
-      ap (λ (f : Filled). f .tries) (sym e ∙ k) ∙ zero-add (res .tries),
-      ap (λ (f : Filled). f .out) (sym e ∙ k)
+    let k = fill-run budget room width es 0 0 budget room before (omega arith) (omega arith) w h in
+    record {
+      result = res;
+      meant = m;
+      ends = ap (λ (f : Filled). f .ending) (sym e ∙ k);
+      counts = ap (λ (f : Filled). f .records) (sym e ∙ k) ∙ zero-add (length (res .records));
+      tried = ap (λ (f : Filled). f .tries) (sym e ∙ k) ∙ zero-add (res .tries);
+      written =
+          ap (λ (f : Filled). f .out) (sym e ∙ k)
           ∙ ap (λ (m : ℕ). splice before m (joined (res .records))) (zero-mul width)
-          ∙ ap (λ (m : ℕ). joined (res .records) ++ drop m before) (zero-add (length (joined (res .records)))),
-    )
+          ∙ ap (λ (m : ℕ). joined (res .records) ++ drop m before) (zero-add (length (joined (res .records))));
+    }
 
 -- so many tries that fail are one step
 pub fill-skip : (budget room width : ℕ) (f : List ℕ → List Event) (p : List ℕ) (k lo m n t count : ℕ) (out : List ℕ) (es : List Event) → k + m ≡ n → t + k ≤ budget

@@ -2,7 +2,7 @@
 use Prim.Native.Nat.{ℕ, zero, suc, _+_, _-_, _≤_, _<_}
 use mathlib.Core.Path.{_≡_, refl, sym, ap, _∙_}
 use mathlib.Core.Logic.{inl, inr}
-use mathlib.Core.Bool.{true, false}
+use mathlib.Core.Bool.{Bool, true, false, cond}
 use mathlib.Core.List.{List, [], _∷_, _++_, append-assoc}
 use lib.ListN.{length, take, set, length-set}
 use lib.Seq.{set-set, getD-set-same}
@@ -13,12 +13,13 @@ use Rattle.meaning.specs.Pattern.{Pattern, Kind, Numbered}
 use Rattle.meaning.specs.Matcher.{Value}
 use Rattle.meaning.specs.Order.{seconds, choices, _⊏_, Mem, Ascending}
 use Rattle.meaning.proofs.Tame.{count}
-use Rattle.catalogue.specs.Answer.{upto, atMost}
-use Rattle.catalogue.specs.Page.{beyond, PageMeant}
+use Rattle.catalogue.specs.Answer.{upto, atMost, unlimited}
+use Rattle.catalogue.specs.Page.{beyond, solutionsAfter, triesAfter, PageMeant}
 use Rattle.catalogue.specs.Answer as answers
 use Rattle.catalogue.proofs.Events.{Outcome, need, done, Event, tried, matched, snoc, branch, events, mem-left, mem-right}
 use Rattle.catalogue.proofs.Ascent.{_≪_, ascending}
 use Rattle.catalogue.proofs.Run.{run, tries-of, Match, matches-of, in-tries, upto-before, upto-more, upto-less, upto-refl}
+use Rattle.catalogue.proofs.Facts.{one-room, at-most-one}
 use Rattle.catalogue.proofs.Fill.{Widths, rest, rest-level, rest-next, ahead, ahead-start, ahead-need, ahead-match}
 use Rattle.catalogue.proofs.Whole.{records-of, walked, all, all-solutions, all-tries, run-is}
 
@@ -77,6 +78,14 @@ pub beyond-cut : (f : List ℕ → List ℕ) (w : List ℕ) (a b : List (List �
 beyond-cut f w (v ∷ a) b h k = rw (h v (inl refl)) (beyond-cut f w a b (λ u m. h u (inr m)) k)
 beyond-cut f w [] [] h k = refl
 beyond-cut f w [] (v ∷ b) h k = rw (k v (inl refl)) (ap (λ l. v ∷ l) (beyond-cut f w [] b h (λ u m. k u (inr m))))
+
+beyond-few : (f : List ℕ → List ℕ) (w : List ℕ) (vs : List (List ℕ)) → length (beyond f w vs) ≤ length vs
+beyond-few f w [] = omega arith
+beyond-few f w (v ∷ vs) = go (upto (f v) w) (beyond-few f w vs)
+  where
+    go : (b : Bool) → length (beyond f w vs) ≤ length vs → length (cond b (beyond f w vs) (v ∷ beyond f w vs)) ≤ suc (length vs)
+    go true i = omega arith
+    go false i = omega arith
 
 -- in order, all that stands before an element comes before it, and all behind it after
 module _ {A : Type 0} (R : A → A → Type 0) where
@@ -154,3 +163,17 @@ module _ (Allowed : ℕ → Value → Type 0) (allowed? : (x : ℕ) (v : Value) 
               run-is Allowed allowed? g T es budget room (ascending-behind _≪_ (w .passed) (matched (choices Q r) r ∷ es) in-order .1) (λ s m. rw its-matches (mem-right s (matches-of (w .passed)) _ (inr m)))
               ∙ (λ i. answers.answer Q (sym solutions-beyond i) (sym tries-beyond i) budget (atMost room));
         }
+
+-- without variables there is no solution after one, so no room can be wanting
+module _ {Allowed : ℕ → Value → Type 0} (allowed? : (x : ℕ) (v : Value) → Dec (Allowed x v)) {P : Pattern} {T : Term} (g : Numbered P []) where
+  pub page-unlimited : {r : List ℕ} {budget : ℕ} {x : answers.Result} → PageMeant Allowed [] P T r budget (atMost 1) x → PageMeant Allowed [] P T r budget unlimited x
+  page-unlimited {r} {budget} m =
+      record {
+        solutions = m .solutions;
+        tries = m .tries;
+        solutions-are = m .solutions-are;
+        tries-are = m .tries-are;
+        result =
+            m .result
+            ∙ one-room [] (solutionsAfter r (m .solutions)) (triesAfter [] r (m .tries)) budget (omega (arith, beyond-few seconds (seconds r) (m .solutions), at-most-one allowed? g (m .solutions-are)));
+      }

@@ -1,3 +1,5 @@
 pub mod Begun
 pub mod Whole
 pub mod Unique
+pub mod Resumed
+pub mod Pages

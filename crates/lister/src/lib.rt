@@ -1,8 +1,10 @@
 // The lister of matchers: checks the problem, and lists every matcher once, in order, as far as room and budget go.
 ghost use mathlib.Core.Path.{_≡_};
 ghost use Rattle.catalogue.proofs.Back.{fitting};
-ghost use Rattle.lister.specs.Begun.{BeginPre, BeginPost};
+ghost use Rattle.lister.specs.Begun.{nothing, BeginPre, BeginPost};
 ghost use Rattle.lister.specs.Listed.{Settled};
+ghost use Rattle.lister.specs.Page.{PageSettled};
+ghost use Rattle.lister.specs.Resumed.{ResumePre, ResumePost};
 use meaning::codes::NO_MATCHER;
 use meaning::codes::RECORD;
 use meaning::endings::ALL;
@@ -18,8 +20,9 @@ pub struct Listed {
     pub tries: u32,
 }
 
+// A refusal: its code, and nothing else.
 fn refused(code: u32) -> Listed
-    ensures { λ r. ⌜ (r .code ≡ code) × (r .ending ≡ 0) × (r .records ≡ 0) × (r .tries ≡ 0) ⌝ }
+    ensures { λ r. ⌜ r ≡ nothing code ⌝ }
 {
     Listed {
         code,
@@ -126,12 +129,7 @@ pub fn list(
     );
     let code = p.code;
     if code != 0 {
-        return Listed {
-            code,
-            ending: 0,
-            records: 0,
-            tries: 0,
-        };
+        return refused(code);
     }
     let variables = p.variables;
     let mut tables = [0u64; 320];
@@ -155,21 +153,31 @@ pub fn list(
 }
 
 // What the search comes to from a record on, if it is that of a matcher.
-enum After {
+enum Paged {
     NoMatcher,
-    Found(Found),
+    Page(Found),
 }
 
 // The search from the levels that stand at a record.
-fn go_on(
+fn resume(
     label: &[u32],
     size: &[u32],
     pattern: &[u32; 1536],
     tables: &[u64; 320],
     list: &[u32],
-    limits: Limits,
+    budget: u32,
+    room: usize,
+    width: usize,
     out: &mut [u32],
-) -> After {
+) -> Paged
+    requires { ⌜ ResumePre (now label) (now size) (now pattern) (now tables) (now list) room width (now out) ⌝ }
+    ensures { λ r. ⌜ ResumePost (now (label .entry)) (now (size .entry)) (now (pattern .entry)) (now (tables .entry)) (now (list .entry)) budget room width (now (out .entry)) (now (out .exit)) r ⌝ }
+{
+    let limits = Limits {
+        budget,
+        room,
+        width,
+    };
     let mut record = [0u32; 32];
     let mut at = [0usize; 256];
     let mut levels = [0usize; 1536];
@@ -183,8 +191,8 @@ fn go_on(
         &mut at,
         &mut levels,
     ) {
-        page::Reached::Nowhere => After::NoMatcher,
-        page::Reached::At(depth) => After::Found(search::go(
+        page::Reached::Nowhere => Paged::NoMatcher,
+        page::Reached::At(depth) => Paged::Page(search::go(
             label,
             size,
             pattern,
@@ -213,7 +221,19 @@ pub fn list_after(
     record: &[u32],
     budget: u32,
     out: &mut [u32],
-) -> Listed {
+) -> Listed
+    ensures { λ r. ⌜ PageSettled (record {
+      label = now (label .entry);
+      size = now (size .entry);
+      kind = now (kind .entry);
+      name = now (name .entry);
+      patternSize = now («pattern_size» .entry);
+      expressionKind = now («expression_kind» .entry);
+      expressionName = now («expression_name» .entry);
+      expressionSize = now («expression_size» .entry);
+      constraint = now (constraint .entry);
+    }) (now («record» .entry)) budget (now (out .entry)) r (now (out .exit)) ⌝ }
+{
     let p = problem::check(
         label,
         size,
@@ -245,14 +265,19 @@ pub fn list_after(
     walk::pack(kind, name, pattern_size, constraint, &mut packed);
     let width = variables + variables;
     let room = room_for(out.len(), width);
-    let limits = Limits {
+    match resume(
+        label,
+        size,
+        &packed,
+        &tables,
+        record,
         budget,
         room,
         width,
-    };
-    match go_on(label, size, &packed, &tables, record, limits, out) {
-        After::NoMatcher => refused(NO_MATCHER),
-        After::Found(found) => Listed {
+        out,
+    ) {
+        Paged::NoMatcher => refused(NO_MATCHER),
+        Paged::Page(found) => Listed {
             code: 0,
             ending: found.ending,
             records: found.records,

@@ -80,17 +80,21 @@ module _ {L S M tables list R A W : List ℕ} {o : Out} {depth : ℕ} (t : Stand
 
     pub reach-found : same ≡ true → ReachPost L S M tables list R A W (At depth)
     reach-found f =
-        reached (t .record-long) (t .levels-long)
-        (λ T P Q es cs a.
-        let s = t .each a in
-        record {
-          is-record = stood-record a s e (says .0 f);
-          vals = s .vals;
-          vals-long = s .vals-long;
-          deep = s .deep;
-          levels = s .levels;
-          pauses = s .pauses;
-          later = stood-later a s e (says .0 f);
+        reached
+        (record {
+          record-long = t .record-long;
+          levels-long = t .levels-long;
+          each = λ T P Q es cs a.
+              let s = t .each a in
+              record {
+                is-record = stood-record a s e (says .0 f);
+                vals = s .vals;
+                vals-long = s .vals-long;
+                deep = s .deep;
+                levels = s .levels;
+                pauses = s .pauses;
+                later = stood-later a s e (says .0 f);
+              };
         })
 
   pub reach-short : {T : Term} {P : Pattern} {Q : List Kind} {es : List Expression} {cs : List Constraint} → ReachAsked L S M tables list T P Q es cs → length list ≤ 32

@@ -63,9 +63,13 @@ pub record AtRecord (L S M tables list : List ℕ) (T : Term) (P : Pattern) (Q :
   pub later : Later (all (Allowed cs) (allowed? cs) (w .pattern .numbered) T)
       (matched (choices Q list) list ∷ rest (walked (Allowed cs) (allowed? cs) (w .pattern .numbered) T) (count Q) vals (nexts W) (lefts W) depth)
 
+-- the same for every problem that the lists mean
+pub record Arrived (L S M tables list R A W : List ℕ) (depth : ℕ) : Type 0 where
+  pub record-long : length R ≡ 32
+  pub levels-long : length W ≡ 1536
+  pub each : (T : Term) (P : Pattern) (Q : List Kind) (es : List Expression) (cs : List Constraint) (a : ReachAsked L S M tables list T P Q es cs) → AtRecord L S M tables list T P Q es cs (a .search) R A W depth
+
 pub data ReachPost (L S M tables list R A W : List ℕ) : Reached → Type 0 where
   nowhere : ((T : Term) (P : Pattern) (Q : List Kind) (es : List Expression) (cs : List Constraint) → ReachAsked L S M tables list T P Q es cs → IsRecord (Allowed cs) Q P T list → ⊥)
       → ReachPost L S M tables list R A W Nowhere
-  reached : {depth : ℕ} → length R ≡ 32 → length W ≡ 1536
-      → ((T : Term) (P : Pattern) (Q : List Kind) (es : List Expression) (cs : List Constraint) (a : ReachAsked L S M tables list T P Q es cs) → AtRecord L S M tables list T P Q es cs (a .search) R A W depth)
-      → ReachPost L S M tables list R A W (At depth)
+  reached : {depth : ℕ} → Arrived L S M tables list R A W depth → ReachPost L S M tables list R A W (At depth)

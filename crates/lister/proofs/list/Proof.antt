@@ -20,8 +20,11 @@ accepted t = t .before .before
 check-requires : tie.Need-check-requires
 check-requires c κs = search needs
 
+refused-requires : tie.Need-refused-requires
+refused-requires c κs = search needs
+
 returns : tie.Need-returns
-returns c = list-refused _ (c .before .check .ensures) _ _ (c .if1 .taken)
+returns c = rw (c .refused .ensures) (list-refused _ (c .before .before .check .ensures) _ _ (c .before .if1 .taken))
 
 tables-of-requires : tie.Need-tables-of-requires
 tables-of-requires c κs = (length-replicate {A = ℕ} 320 0, tables-asked _ (c .before .before .check .ensures) 0 [] (c .before .if1 .left))
@@ -67,6 +70,7 @@ list-spec =
     tie.close
     (tie.spec
     check-requires
+    refused-requires
     returns
     tables-of-requires
     slice-aggregate-pack

@@ -73,8 +73,7 @@ enum-known-t c = search needs
 attempt-requires : tie.Need-attempt-requires Inv-loop μ-loop
 attempt-requires c κs =
     let h = c .before .before .before .before .before .before .before .before .before .before .before .before .before in
-    let k = c .before .before .before .before .before in
-    (
+    let k = c .before .before .before .before .before in (
       reach-tries (h .loop .inv .0) (k .before .before .before .before .before .before .o .given .1) (rw (k .t .given .1) at (k .before .before .choose .ensures)) (begun h .pre .some .5),
       h .loop .inv .1,
     )
