@@ -2,7 +2,7 @@
 #include "calls.h"
 #include "compare.h"
 
-/* Of the candidates that are no matcher's each of this number is a page's record too. */
+/* Of the candidates that are no matcher's one in so many is a page's record too, since a page costs more than a test. */
 enum { EACH = 5 };
 
 static void compare_test(const problem *problem, const list *record, uint32_t code, bool yes, enum comparison what) {
