@@ -36,7 +36,7 @@ static void compare_joined(const problem *problem, const listing *all, size_t ro
     size_t numbers = 2 * variables(&problem->pattern), found = 0;
     last.n = numbers;
     khargovsun_listing got = call_list(problem, UNLIMITED, out, room * numbers);
-    while (got.code == ACCEPTED && are_records(out, all, found, got.records, numbers)) {
+    while (got.code == ACCEPTED && got.records <= room && are_records(out, all, found, got.records, numbers)) {
         found += got.records;
         count(TURNED, 1);
         if (got.ending != NO_ROOM || got.records == 0) break;
