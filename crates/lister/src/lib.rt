@@ -4,7 +4,8 @@ ghost use Rattle.catalogue.proofs.Back.{fitting};
 ghost use Rattle.lister.specs.Begun.{nothing, BeginPre, BeginPost};
 ghost use Rattle.lister.specs.Listed.{Settled};
 ghost use Rattle.lister.specs.Page.{PageSettled};
-ghost use Rattle.lister.specs.Resumed.{ResumePre, ResumePost};
+ghost use Rattle.lister.specs.Resumed.{ResumePre, ResumePost, NoPage};
+ghost use Rattle.record.specs.Pairs.{RecordPre};
 use meaning::codes::NO_MATCHER;
 use meaning::codes::RECORD;
 use meaning::endings::ALL;
@@ -207,6 +208,17 @@ fn resume(
     }
 }
 
+// A record from which no page is taken: it is bad, or that of no matcher. The first is asked only here, since a matcher's is never bad.
+fn no_page(size: &[u32], kinds: &[u32; 16], variables: usize, record: &[u32]) -> Listed
+    requires { ⌜ RecordPre (now size) (now kinds) variables ⌝ }
+    ensures { λ r. ⌜ NoPage (now (size .entry)) (now (kinds .entry)) variables (now («record» .entry)) r ⌝ }
+{
+    if record::fits(size, kinds, variables, record) {
+        return refused(NO_MATCHER);
+    }
+    refused(RECORD)
+}
+
 // Lists the matchers that come strictly after a record, as many as room and budget allow: the next page.
 pub fn list_after(
     label: &[u32],
@@ -249,9 +261,9 @@ pub fn list_after(
     if code != 0 {
         return refused(code);
     }
-    let kinds = p.kinds;
     let variables = p.variables;
-    if !record::fits(size, &kinds, variables, record) {
+    let width = variables + variables;
+    if record.len() != width {
         return refused(RECORD);
     }
     let mut tables = [0u64; 320];
@@ -263,7 +275,6 @@ pub fn list_after(
     );
     let mut packed = [0u32; 1536];
     walk::pack(kind, name, pattern_size, constraint, &mut packed);
-    let width = variables + variables;
     let room = room_for(out.len(), width);
     match resume(
         label,
@@ -276,7 +287,10 @@ pub fn list_after(
         width,
         out,
     ) {
-        Paged::NoMatcher => refused(NO_MATCHER),
+        Paged::NoMatcher => {
+            let kinds = p.kinds;
+            no_page(size, &kinds, variables, record)
+        }
         Paged::Page(found) => Listed {
             code: 0,
             ending: found.ending,

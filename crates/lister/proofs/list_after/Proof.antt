@@ -3,24 +3,23 @@ use Prim.Native.Nat.{ℕ}
 use lib.ListN.{length-replicate}
 use mathlib.Core.Path.{refl}
 use mathlib.Core.List.{[]}
-use borrow.Author.Tests.{not-true, not-false}
 use Rattle.problem.proofs.Posed.{the}
 use Rattle.walk.proofs.Packs.{pack-asked}
 use Rattle.lister.proofs.Whole.{tables-asked, few-variables}
-use Rattle.lister.proofs.Pages.{page-refused, record-asked, page-bad-record, resume-asked, page-no-matcher, page-done}
+use Rattle.lister.proofs.Pages.{page-refused, record-asked, page-wrong-length, resume-asked, page-none, page-done}
 use borrow.Author.Needs.{needs}
 use Rattle.lister.proofs.list_after.Statement.{statement}
 use Rattle.lister.proofs.list_after.Tie as tie
 
--- from the packed pattern to the expressions' tables, from these to the test of the record, and from that to the test of the code
+-- from the search to the packed pattern, from this to the expressions' tables, and from these to the test of the record's length
+abbrev packed : tie.After-resume → tie.After-pack
+packed r = r .before .before .before .before .before .before
+
 abbrev tabled : tie.After-pack → tie.After-tables-of
 tabled k = k .before .before
 
-abbrev fitting : tie.After-tables-of → tie.Else2
-fitting t = t .before .before
-
-abbrev accepted : tie.Else2 → tie.Else1
-accepted e = e .before .before .before .before
+abbrev measured : tie.After-tables-of → tie.Else2
+measured t = t .before .before
 
 check-requires : tie.Need-check-requires
 check-requires c κs = search needs
@@ -31,20 +30,20 @@ refused-requires c κs = search needs
 returns : tie.Need-returns
 returns c = rw (c .refused .ensures) (page-refused _ (c .before .before .check .ensures) _ _ _ (c .before .if1 .taken))
 
-fits-requires : tie.Need-fits-requires
-fits-requires c κs = record-asked _ (c .before .before .before .check .ensures) [] 0 [] (c .before .before .if1 .left)
+add-width : tie.Need-add-width
+add-width c = omega (arith, few-variables _ (c .before .check .ensures) 0 [] (c .if1 .left))
 
 refused-requires-2 : tie.Need-refused-requires-2
 refused-requires-2 c κs = search needs
 
 returns-2 : tie.Need-returns-2
 returns-2 c =
-    let z = c .before .before .before .before .before in
-    rw (c .refused2 .ensures) (page-bad-record _ (z .before .check .ensures) _ _ _ (z .if1 .left) (c .before .before .fits2 .ensures) (not-true _ (c .before .if2 .taken)))
+    let z = c .before .before in
+    rw (c .refused2 .ensures) (page-wrong-length _ (z .before .check .ensures) _ _ _ (z .if1 .left) (c .before .if2 .taken))
 
 tables-of-requires : tie.Need-tables-of-requires
 tables-of-requires c κs =
-    let z = accepted (c .before) in
+    let z = c .before .before in
     (length-replicate {A = ℕ} 320 0, tables-asked _ (z .before .check .ensures) 0 [] (z .if1 .left))
 
 slice-aggregate-pack : tie.Need-slice-aggregate-pack
@@ -52,13 +51,8 @@ slice-aggregate-pack c = search needs
 
 pack-requires : tie.Need-pack-requires
 pack-requires c κs =
-    let z = accepted (fitting (c .before)) in
+    let z = measured (c .before) .before in
     pack-asked (the (z .before .check .ensures) (z .if1 .left) .poses .rest .pattern) refl
-
-add-width : tie.Need-add-width
-add-width c =
-    let z = accepted (fitting (tabled (c .before))) in
-    omega (arith, few-variables _ (z .before .check .ensures) 0 [] (z .if1 .left))
 
 room-for-requires : tie.Need-room-for-requires
 room-for-requires c κs = search needs
@@ -68,15 +62,17 @@ resume-requires c κs =
     let w = c .before .before .before in
     let k = w .before .before in
     let t = tabled k in
-    let e = fitting t in
-    let z = accepted e in
-    resume-asked _ (z .before .check .ensures) _ 0 _ (z .if1 .left) (e .before .fits2 .ensures) (not-false _ (e .if2 .left)) (t .tables-of .ensures) (k .pack .ensures) refl (w .room-for .ensures)
+    let e = measured t in
+    let z = e .before in
+    resume-asked _ (z .before .check .ensures) _ 0 _ (z .if1 .left) (e .if2 .left) (t .tables-of .ensures) (k .pack .ensures) refl (w .room-for .ensures)
 
 enum-told : tie.Need-enum-told
 enum-told c = search needs
 
-refused-requires-3 : tie.Need-refused-requires-3
-refused-requires-3 c κs = search needs
+no-page-requires : tie.Need-no-page-requires
+no-page-requires c κs =
+    let z = measured (tabled (packed (c .before .before .before .before .before .before))) .before in
+    record-asked _ (z .before .check .ensures) [] 0 [] (z .if1 .left)
 
 enum-known-found : tie.Need-enum-known-found
 enum-known-found c = search needs
@@ -86,15 +82,13 @@ same-length c = search needs
 
 returns-3 : tie.Need-returns-3
 returns-3 c =
-    let r = c .before .before .before .before .before in
-    let w = r .before .before .before .before in
-    let k = w .before .before in
+    let r = c .before .before .before .before .before .before .before in
+    let k = packed r in
     let t = tabled k in
-    let e = fitting t in
-    let z = accepted e in
-    rw (c .refused3 .ensures)
-    (page-no-matcher _ (z .before .check .ensures) _ _ _ (z .if1 .left) (e .before .fits2 .ensures) (not-false _ (e .if2 .left)) (t .tables-of .ensures) (k .pack .ensures) refl (w .room-for .ensures)
-    (r .resume .ensures) (c .before .enum-told .given .1))
+    let e = measured t in
+    let z = e .before in
+    page-none _ (z .before .check .ensures) _ _ _ (z .if1 .left) (e .if2 .left) (t .tables-of .ensures) (k .pack .ensures) refl (r .before .before .before .before .room-for .ensures)
+    (r .resume .ensures) (c .before .before .before .enum-told .given .1) (c .no-page .ensures)
 
 same-length-2 : tie.Need-same-length-2
 same-length-2 c = search needs
@@ -102,12 +96,11 @@ same-length-2 c = search needs
 returns-4 : tie.Need-returns-4
 returns-4 c =
     let r = c .before .before .before .before .before in
-    let w = r .before .before .before .before in
-    let k = w .before .before in
+    let k = packed r in
     let t = tabled k in
-    let e = fitting t in
-    let z = accepted e in
-    page-done _ (z .before .check .ensures) _ _ _ (z .if1 .left) (e .before .fits2 .ensures) (not-false _ (e .if2 .left)) (t .tables-of .ensures) (k .pack .ensures) refl (w .room-for .ensures)
+    let e = measured t in
+    let z = e .before in
+    page-done _ (z .before .check .ensures) _ _ _ (z .if1 .left) (e .if2 .left) (t .tables-of .ensures) (k .pack .ensures) refl (r .before .before .before .before .room-for .ensures)
     (r .resume .ensures) (c .before .found .given .1)
 
 pub list-after-spec : {M : Type 1} → statement M
@@ -117,17 +110,16 @@ list-after-spec =
     check-requires
     refused-requires
     returns
-    fits-requires
+    add-width
     refused-requires-2
     returns-2
     tables-of-requires
     slice-aggregate-pack
     pack-requires
-    add-width
     room-for-requires
     resume-requires
     enum-told
-    refused-requires-3
+    no-page-requires
     enum-known-found
     same-length
     returns-3
