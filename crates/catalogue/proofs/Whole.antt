@@ -161,11 +161,14 @@ module _ (Allowed : ℕ → Value → Type 0) (allowed? : (x : ℕ) (v : Value) 
           let c = complete Allowed allowed? g (m .solves) in
           plain-match walked is-honest s (ap walked (m .chose) ∙ ap outcome (c .0) ∙ ap done (sym (m .records)))
 
+  matchers : (budget room : ℕ) (s : Match) → Mem s (answers walked (count Q) stops budget room .matches) → Matcher Allowed Q P T s
+  matchers budget room s m = match-is s .0 (answers walked (count Q) stops budget room .matches-all s .0 m)
+
   -- the events of the walk give what is meant
   pub meant : (budget room : ℕ) → Meant Allowed Q P T budget (atMost room) (run (events walked (count Q) []) budget room)
   meant budget room =
       let a = answers walked (count Q) stops budget room in
-      let is : (s : Match) → Mem s (a .matches) → Matcher Allowed Q P T s = λ s m. match-is s .0 (a .matches-all s .0 m) in
+      let is = matchers budget room in
       record {
         solutions = records-of (a .matches);
         tries = a .tries;
@@ -191,3 +194,14 @@ module _ (Allowed : ℕ → Value → Type 0) (allowed? : (x : ℕ) (v : Value) 
         tries-are = record { ordered = a .tries-order; all = λ v. (λ m. try-is v .0 (a .tries-all v .0 m), λ h. a .tries-all v .1 (try-is v .1 h)) };
         result = a .result ∙ answer-is Q (a .tries) budget room (a .matches) (λ s m. let x = is s m in x .chose ∙ ap (λ (q : List ℕ). choices Q q) (sym (x .records)));
       }
+
+  -- with the solutions in the order of their choices
+  pub chosen : (budget room : ℕ) → Ascending (λ r s. choices Q r ⊏ choices Q s) (meant budget room .solutions)
+  unfolding meant
+  chosen budget room =
+      let a = answers walked (count Q) stops budget room in
+      records-ascending (λ r s. choices Q r ⊏ choices Q s) (a .matches) (a .matches-order)
+      (λ s u m n h.
+      let x = matchers budget room s m in
+      let y = matchers budget room u n in
+      rw (x .records, y .records, ← (x .chose), ← (y .chose)) h)
