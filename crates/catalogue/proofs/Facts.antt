@@ -4,7 +4,7 @@ use Prim.Native.Nat.{ℕ, _≤_}
 use mathlib.Core.Path.{_≡_, refl, ap, _∙_, sym}
 use mathlib.Core.Logic.{inl, inr}
 use mathlib.Core.List.{List, [], _∷_, _++_}
-use lib.ListN.{length}
+use lib.ListN.{length, drop}
 use native.Mathlib.Omega.{arith}
 use borrow.Author.Tests.{le-ltb}
 use Rattle.meaning.specs.Forest.{Term}
@@ -15,11 +15,23 @@ use Rattle.meaning.specs.Order.{seconds, choices, _⊏_, Mem, Ascending}
 use Rattle.meaning.specs.Reached.{Begins}
 use Rattle.meaning.proofs.Theorems.{complete}
 use Rattle.meaning.proofs.Tame.{tame-ok}
-use Rattle.catalogue.specs.Listing.{Solutions, Tries, Meant}
+use Rattle.catalogue.specs.Listing.{Solutions, Tries, Meant, joined, Shown}
 use Rattle.catalogue.specs.Answer.{Result, places, within, Room, atMost, unlimited, answer, roomOf}
 use Rattle.catalogue.proofs.Ascent.{⊏-irrefl, ⊏-trans, unique}
 use Rattle.catalogue.proofs.Cut.{within-few, places-many, places-ascend, answer-more, answer-begins, answer-whole, answer-tries}
 use Rattle.catalogue.proofs.Whole.{meant, chosen}
+
+-- what a call shows of a result is settled where the result is
+pub one-shown : {Means : Result → Type 0} {before after after' : List ℕ} {ending records tries ending' records' tries' : ℕ} → ((x y : Result) → Means x → Means y → x ≡ y)
+    → Shown Means before ending records tries after → Shown Means before ending' records' tries' after' → (ending ≡ ending') × (records ≡ records') × (tries ≡ tries') × (after ≡ after')
+one-shown {before = before} one x y =
+    let o = one (x .result) (y .result) (x .meant) (y .meant) in
+    (
+      x .ends ∙ ap (λ (z : Result). z .ending) o ∙ sym (y .ends),
+      x .counts ∙ ap (λ (z : Result). length (z .records)) o ∙ sym (y .counts),
+      x .tried ∙ ap (λ (z : Result). z .tries) o ∙ sym (y .tried),
+      x .written ∙ ap (λ (z : Result). joined (z .records) ++ drop (length (joined (z .records))) before) o ∙ sym (y .written),
+    )
 
 module _ {Allowed : ℕ → Value → Type 0} {Q : List Kind} {P : Pattern} {T : Term} where
   pub one-solutions : {rs ss : List (List ℕ)} → Solutions Allowed Q P T rs → Solutions Allowed Q P T ss → rs ≡ ss

@@ -13,3 +13,4 @@ pub mod Stays
 pub mod Cut
 pub mod Facts
 pub mod Different
+pub mod Pages

@@ -9,7 +9,7 @@ use native.Mathlib.Decide.{decLe}
 use Rattle.meaning.specs.Forest.{Term, size}
 use Rattle.meaning.specs.Pattern.{Pattern, Kind, Numbered}
 use Rattle.meaning.specs.Matcher.{Value, kinds, Solves}
-use Rattle.meaning.specs.Record.{numbers, recordOf}
+use Rattle.meaning.specs.Record.{numbers, recordOf, IsRecord}
 use Rattle.meaning.specs.Read.{values}
 use Rattle.meaning.specs.Order.{seconds, choices, _⊏_, Mem, Ascending}
 use Rattle.meaning.proofs.Walk as W
@@ -21,7 +21,7 @@ use Rattle.meaning.proofs.Honest.{Asked, honest}
 use Rattle.meaning.proofs.Tame.{count, tame-need, tame-ok}
 use Rattle.catalogue.specs.Listing.{Try, Meant}
 use Rattle.catalogue.specs.Answer.{places, within, atMost, answer as answerOf}
-use Rattle.catalogue.proofs.Events.{Outcome, fail, need, done, snoc, events, Within}
+use Rattle.catalogue.proofs.Events.{Outcome, fail, need, done, snoc, events, Within, Leads, Some}
 use Rattle.catalogue.proofs.Run.{run, Match, placed, reached, values-of, tries-at, answer, IsTry, IsMatch, answers, Tame, _before_}
 use Rattle.catalogue.proofs.Plain.{plain-try, plain-match, try-plain}
 use Rattle.catalogue.proofs.Ranks.{order}
@@ -161,6 +161,26 @@ module _ (Allowed : ℕ → Value → Type 0) (allowed? : (x : ℕ) (v : Value) 
           let c = complete Allowed allowed? g (m .solves) in
           plain-match walked is-honest s (ap walked (m .chose) ∙ ap outcome (c .0) ∙ ap done (sym (m .records)))
 
+  record-is : {r : List ℕ} → IsRecord Allowed Q P T r → IsMatch walked (record { choices = choices Q r; values = r })
+  record-is {r} i =
+      match-is (record { choices = choices Q r; values = r }) .1
+      (record { matcher = i .matcher; solves = i .solves; chose = ap (λ (q : List ℕ). choices Q q) (sym (i .its)); records = sym (i .its) })
+
+  -- the last try that leads to a matcher has all its choices; where a matcher has none, nothing is tried
+  pub last-try : {r : List ℕ} → IsRecord Allowed Q P T r → (choices Q r ≡ [] → ⊥) → Try Allowed Q P T (choices Q r)
+  last-try {r} i n = try-is (choices Q r) .0 (some (choices Q r) n, record-is i .0)
+    where
+      some : (v : List ℕ) → (v ≡ [] → ⊥) → Some v
+      some [] n = n refl
+      some (x ∷ v) n = tt
+
+  pub untried : {r v : List ℕ} → IsRecord Allowed Q P T r → choices Q r ≡ [] → Try Allowed Q P T v → ⊥
+  untried {r} {v} i e t = let h = try-is v .1 t in go v (h .0) (h .1)
+    where
+      go : (v : List ℕ) → Some v → Leads walked [] v → ⊥
+      go [] s l = s
+      go (x ∷ v) s l = rw (sym (ap walked e) ∙ record-is i .1) at (l .0)
+
   matchers : (budget room : ℕ) (s : Match) → Mem s (answers walked (count Q) stops budget room .matches) → Matcher Allowed Q P T s
   matchers budget room s m = match-is s .0 (answers walked (count Q) stops budget room .matches-all s .0 m)
 
@@ -187,8 +207,7 @@ module _ (Allowed : ℕ → Value → Type 0) (allowed? : (x : ℕ) (v : Value) 
                     record { matcher = x .matcher; solves = x .solves; its = sym (x .records) ∙ k .2 },
                 λ i.
                     let s : Match = record { choices = choices Q r; values = r } in
-                    of-records (a .matches) s
-                    (a .matches-all s .1 (match-is s .1 (record { matcher = i .matcher; solves = i .solves; chose = ap (λ (q : List ℕ). choices Q q) (sym (i .its)); records = sym (i .its) }))),
+                    of-records (a .matches) s (a .matches-all s .1 (record-is i)),
               );
             };
         tries-are = record { ordered = a .tries-order; all = λ v. (λ m. try-is v .0 (a .tries-all v .0 m), λ h. a .tries-all v .1 (try-is v .1 h)) };
