@@ -160,8 +160,8 @@ module _ (Q : List Kind) (rs ts : List (List ℕ)) where
   answer-begins budget room = rw (answer-records budget room) (record { rest = drop (fits room (within budget (places Q ts rs))) rs; is = sym (take-append-drop (fits room (within budget (places Q ts rs))) rs) })
 
   -- one that ends complete is all of it, with all tries
-  pub answer-whole : (budget : ℕ) (room : Room) → answer Q rs ts budget room .ending ≡ 0 → (answer Q rs ts budget room .records ≡ rs) × (answer Q rs ts budget room .tries ≡ length ts)
-  answer-whole budget room = go room
+  pub answer-whole : (budget : ℕ) (room : Room) {x : Result} → x ≡ answer Q rs ts budget room → x .ending ≡ 0 → (x .records ≡ rs) × (x .tries ≡ length ts)
+  answer-whole budget room e = subst C (sym e) (go room)
     where
       C : Result → Type 0
       C x = x .ending ≡ 0 → (x .records ≡ rs) × (x .tries ≡ length ts)
@@ -188,15 +188,18 @@ module _ (Q : List Kind) (rs ts : List (List ℕ)) where
       go unlimited = by-budget
 
   -- one that ends by room fills it
-  pub answer-full : (budget : ℕ) (room : Room) → answer Q rs ts budget room .ending ≡ 1 → room ≡ atMost (length (answer Q rs ts budget room .records))
-  answer-full budget room = go room
+  pub answer-full : (budget : ℕ) (room : Room) {x : Result} → x ≡ answer Q rs ts budget room → x .ending ≡ 1 → room ≡ atMost (length (x .records))
+  answer-full budget room e = subst (C room) (sym e) (go room)
     where
+      C : Room → Result → Type 0
+      C r x = x .ending ≡ 1 → r ≡ atMost (length (x .records))
+
       by-budget : {A : Type 0} → byBudget Q rs ts budget .ending ≡ 1 → A
       by-budget {A} = picked (λ x. x .ending ≡ 1 → A) (ltb budget (length ts)) _ _ (λ t e. absurd (omega arith)) (λ t e. absurd (omega arith))
 
-      go : (r : Room) → answer Q rs ts budget r .ending ≡ 1 → r ≡ atMost (length (answer Q rs ts budget r .records))
+      go : (r : Room) → C r (answer Q rs ts budget r)
       go (atMost n) =
-          picked (λ x. x .ending ≡ 1 → atMost n ≡ atMost (length (x .records))) (ltb n (within budget (places Q ts rs))) _ _
+          picked (C (atMost n)) (ltb n (within budget (places Q ts rs))) _ _
           (λ t e. ap atMost (sym (length-take-le n rs (omega (arith, ltb-true n (within budget (places Q ts rs)) t, within-few budget (places Q ts rs), places-many Q ts rs)))))
           (λ t. by-budget)
       go unlimited = by-budget

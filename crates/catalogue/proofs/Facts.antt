@@ -25,8 +25,7 @@ use Rattle.catalogue.proofs.Whole.{meant, chosen}
 pub one-shown : {Means : Result → Type 0} {before after after' : List ℕ} {ending records tries ending' records' tries' : ℕ} → ((x y : Result) → Means x → Means y → x ≡ y)
     → Shown Means before ending records tries after → Shown Means before ending' records' tries' after' → (ending ≡ ending') × (records ≡ records') × (tries ≡ tries') × (after ≡ after')
 one-shown {before = before} one x y =
-    let o = one (x .result) (y .result) (x .meant) (y .meant) in
-    (
+    let o = one (x .result) (y .result) (x .meant) (y .meant) in (
       x .ends ∙ ap (λ (z : Result). z .ending) o ∙ sym (y .ends),
       x .counts ∙ ap (λ (z : Result). length (z .records)) o ∙ sym (y .counts),
       x .tried ∙ ap (λ (z : Result). z .tries) o ∙ sym (y .tried),
@@ -55,8 +54,7 @@ module _ {Allowed : ℕ → Value → Type 0} {Q : List Kind} {P : Pattern} {T :
 
   -- a list that ends complete has all of them
   pub whole : {budget : ℕ} {room : Room} {x : Result} (m : Meant Allowed Q P T budget room x) → x .ending ≡ 0 → x .records ≡ m .solutions
-  whole {budget} {room} m e =
-      ap (λ (r : Result). r .records) (m .result) ∙ answer-whole Q (m .solutions) (m .tries) budget room (sym (ap (λ (r : Result). r .ending) (m .result)) ∙ e) .0
+  whole {budget} {room} m e = answer-whole Q (m .solutions) (m .tries) budget room (m .result) e .0
 
   -- more room or budget only lengthens it
   pub lengthens : {b c : ℕ} (m n : ℕ) {x y : Result} → b ≤ c → m ≤ n → Meant Allowed Q P T b (roomOf m (length Q)) x → Meant Allowed Q P T c (roomOf n (length Q)) y → Begins (x .records) (y .records)

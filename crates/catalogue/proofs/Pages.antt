@@ -85,9 +85,7 @@ module _ {Allowed : ℕ → Value → Type 0} {Q : List Kind} {P : Pattern} {T :
   -- one that ends complete has all of them, and all tries
   pub page-whole : {budget : ℕ} {room : Room} {x : Result} (m : PageMeant Allowed Q P T r budget room x) → x .ending ≡ 0
       → (x .records ≡ solutionsAfter r (m .solutions)) × (x .tries ≡ length (triesAfter Q r (m .tries)))
-  page-whole {budget} {room} m e =
-      let w = answer-whole Q (solutionsAfter r (m .solutions)) (triesAfter Q r (m .tries)) budget room (sym (ap (λ (y : Result). y .ending) (m .result)) ∙ e) in
-      (ap (λ (y : Result). y .records) (m .result) ∙ w .0, ap (λ (y : Result). y .tries) (m .result) ∙ w .1)
+  page-whole {budget} {room} m = answer-whole Q (solutionsAfter r (m .solutions)) (triesAfter Q r (m .tries)) budget room (m .result)
 
   -- more room or budget only lengthens it
   pub page-lengthens : {b c : ℕ} (m n : ℕ) {x y : Result} → b ≤ c → m ≤ n → PageMeant Allowed Q P T r b (roomOf m (length Q)) x → PageMeant Allowed Q P T r c (roomOf n (length Q)) y
