@@ -1,12 +1,12 @@
 -- What room and budget leave of two lists, whatever the lists are: the leading part, all of it where the ending is 0, no more tries than
 -- the budget, and with more room or budget only more. So it holds of the lister's list and of a page alike.
 use Prim.Native.Nat.{ℕ, zero, suc, _+_, _≤_, _<_, _/_, zero-le}
-use mathlib.Core.Path.{_≡_, refl, ap, _∙_, sym, subst}
+use mathlib.Core.Path.{_≡_, refl, ap, sym, subst}
 use mathlib.Core.Logic.{inl, inr, ⊎-elim}
 use mathlib.Core.Bool.{Bool, true, false, cond}
-use mathlib.Core.List.{List, [], _∷_, append-nil}
+use mathlib.Core.List.{List, [], _∷_}
 use lib.ListN.{length, take, drop, getD, take-append-drop}
-use lib.Seq.{take-all, take-nil, length-take-le}
+use lib.Seq.{take-all, length-take-le}
 use lib.Dec.{leb, ltb}
 use native.Mathlib.Omega.{arith}
 use native.Mathlib.Decide.{decLt, decLe}

@@ -1,5 +1,5 @@
 -- Demand 3 holds page by page.
-use Prim.Native.Nat.{ℕ, zero, suc, _+_, _/_, _≤_, _<_}
+use Prim.Native.Nat.{ℕ, zero, suc, _+_, _/_, _≤_}
 use mathlib.Core.Path.{_≡_, refl, ap, _∙_, sym, subst}
 use mathlib.Core.Logic.{inl, inr}
 use mathlib.Core.List.{List, [], _∷_, _++_, append-assoc, append-nil}
@@ -9,24 +9,23 @@ use native.Mathlib.Nat.{le-div-iff-mul-le}
 use Rattle.meaning.specs.Forest.{Term}
 use Rattle.meaning.specs.Pattern.{Pattern, Kind}
 use Rattle.meaning.specs.Record.{IsRecord}
-use Rattle.meaning.specs.Order.{seconds, choices, _⊏_, Mem, Ascending}
+use Rattle.meaning.specs.Order.{seconds, choices, Mem}
 use Rattle.meaning.proofs.Means.{matcher-means}
 use Rattle.constraint.specs.Obeys.{Constraint, Allowed}
 use Rattle.constraint.proofs.Allowed.{allowed?}
 use Rattle.expression.specs.Expression.{Expression}
 use Rattle.problem.specs.Problem.{Lists, Poses}
 use Rattle.problem.proofs.Posed.{codes-high}
-use Rattle.catalogue.specs.Answer.{Result, Room, atMost, unlimited, roomOf, answer}
+use Rattle.catalogue.specs.Answer.{Result, atMost, roomOf, answer}
 use Rattle.catalogue.specs.Listing.{Solutions}
-use Rattle.catalogue.specs.Page.{solutionsAfter, triesAfter, PageMeant}
+use Rattle.catalogue.specs.Page.{solutionsAfter, triesAfter}
 use Rattle.catalogue.proofs.Events.{mem-left, mem-right}
 use Rattle.catalogue.proofs.Cut.{answer-whole, answer-full, answer-none}
-use Rattle.catalogue.proofs.Facts.{one-solutions, one-tries, whole, leading}
+use Rattle.catalogue.proofs.Facts.{one-solutions, one-tries, whole}
 use Rattle.catalogue.proofs.Pages.{beyond-cut, place-beyond, page-leading, page-whole, page-lengthens, page-tries-bound, solutions-follow, tries-follow, no-tries}
 use Rattle.lister.specs.Page.{RecordCodes, PageCodes}
 use Rattle.lister.specs.declared.Listed.{Listed}
 use Rattle.lister.proofs.Unique.{one-page-code}
-use Rattle.promises.specs.Lists.{ListIs}
 use Rattle.promises.specs.Pages.{PageIs, LastIs, TurnedFrom, last-page, next-page, Turned, only-page, first-page, Pages}
 use Rattle.promises.proofs.Lists.{no-records}
 
