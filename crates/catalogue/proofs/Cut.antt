@@ -187,12 +187,13 @@ module _ (Q : List Kind) (rs ts : List (List ℕ)) where
       go (atMost n) = picked C (ltb n (within budget (places Q ts rs))) _ _ (λ t. within-at budget (places Q ts rs) n a (ltb-true n (within budget (places Q ts rs)) t)) (λ t. by-budget)
       go unlimited = by-budget
 
-  -- one that ends by room fills it
-  pub answer-full : (budget : ℕ) (room : Room) {x : Result} → x ≡ answer Q rs ts budget room → x .ending ≡ 1 → room ≡ atMost (length (x .records))
+  -- one that ends by room fills it, and takes the tries that reach the next solution
+  pub answer-full : (budget : ℕ) (room : Room) {x : Result} → x ≡ answer Q rs ts budget room → x .ending ≡ 1
+      → (room ≡ atMost (length (x .records))) × (x .tries ≡ getD (places Q ts rs) (length (x .records)) 0)
   answer-full budget room e = subst (C room) (sym e) (go room)
     where
       C : Room → Result → Type 0
-      C r x = x .ending ≡ 1 → r ≡ atMost (length (x .records))
+      C r x = x .ending ≡ 1 → (r ≡ atMost (length (x .records))) × (x .tries ≡ getD (places Q ts rs) (length (x .records)) 0)
 
       by-budget : {A : Type 0} → byBudget Q rs ts budget .ending ≡ 1 → A
       by-budget {A} = picked (λ x. x .ending ≡ 1 → A) (ltb budget (length ts)) _ _ (λ t e. absurd (omega arith)) (λ t e. absurd (omega arith))
@@ -200,7 +201,9 @@ module _ (Q : List Kind) (rs ts : List (List ℕ)) where
       go : (r : Room) → C r (answer Q rs ts budget r)
       go (atMost n) =
           picked (C (atMost n)) (ltb n (within budget (places Q ts rs))) _ _
-          (λ t e. ap atMost (sym (length-take-le n rs (omega (arith, ltb-true n (within budget (places Q ts rs)) t, within-few budget (places Q ts rs), places-many Q ts rs)))))
+          (λ t e.
+          let many : length (take n rs) ≡ n = length-take-le n rs (omega (arith, ltb-true n (within budget (places Q ts rs)) t, within-few budget (places Q ts rs), places-many Q ts rs)) in
+          (ap atMost (sym many), ap (λ k. getD (places Q ts rs) k 0) (sym many)))
           (λ t. by-budget)
       go unlimited = by-budget
 

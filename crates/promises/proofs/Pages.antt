@@ -60,7 +60,7 @@ some-room lent (suc v) n e h =
 -- what ends by room has a last record
 module _ (Q : List Kind) (rs ts : List (List ℕ)) (budget lent : ℕ) {x : Result} (e : x ≡ answer Q rs ts budget (roomOf lent (length Q))) where
   ends-with : length Q + length Q ≤ lent → x .ending ≡ 1 → (last : List ℕ) × LastIs last (x .records)
-  ends-with h z = last-of (x .records) (some-room lent (length Q) (length (x .records)) (answer-full Q rs ts budget (roomOf lent (length Q)) e z) h)
+  ends-with h z = last-of (x .records) (some-room lent (length Q) (length (x .records)) (answer-full Q rs ts budget (roomOf lent (length Q)) e z .0) h)
 
 module _ {Q : List Kind} {P : Pattern} {T : Term} {cs : List Constraint} where
   -- a page's records are among the solutions
@@ -70,7 +70,7 @@ module _ {Q : List Kind} {P : Pattern} {T : Term} {cs : List Constraint} where
 
   module _ {ss : List (List ℕ)} (S : Solutions (Allowed cs) Q P T ss) where
     -- what follows s is the page and what is further
-    behind : {s : List ℕ} {budget : ℕ} {before after : List ℕ} {r : Listed} (x : PageIs Q P T cs s budget before r after) (earlier rest : List (List ℕ)) → ss ≡ earlier ++ (s ∷ rest)
+    pub behind : {s : List ℕ} {budget : ℕ} {before after : List ℕ} {r : Listed} (x : PageIs Q P T cs s budget before r after) (earlier rest : List (List ℕ)) → ss ≡ earlier ++ (s ∷ rest)
         → rest ≡ x .page .result .records ++ x .further
     behind {s} x earlier rest e =
         sym (beyond-cut seconds ss earlier rest s (S .ordered) e)
