@@ -113,6 +113,7 @@ pages = record {
         every = λ z. nothing-added (h .result .records) (b .rest) (page-whole p (sym (h .ends) ∙ z) .0 ∙ b .is);
         tries-follow = tries-follow (Allowed cs) (allowed? cs) g T m (p .tries-are);
         no-tries = no-tries (Allowed cs) (allowed? cs) g T m (p .tries-are);
+        all-tried = λ z. h .tried ∙ page-whole p (sym (h .ends) ∙ z) .1;
         within = rw (h .tried) (page-tries-bound (Allowed cs) (allowed? cs) g T p);
       };
   joined-are-all = all-turned;
@@ -130,7 +131,7 @@ pages = record {
       let n = y .page .meant in
       let e : r .tries ≡ length (m .tries) = x .listing .tried ∙ answer-whole Q (m .solutions) (m .tries) b (roomOf (length before) (length Q)) (m .result) (sym (x .listing .ends) ∙ z) .1 in
       let f : r' .tries ≡ length (triesAfter Q s (m .tries)) =
-      y .page .tried ∙ page-whole n (sym (y .page .ends) ∙ w) .1 ∙ ap (λ (ts : List (List ℕ)). length (triesAfter Q s ts)) (one-tries (n .tries-are) (m .tries-are)) in
+      y .all-tried w ∙ ap (λ (ts : List (List ℕ)). length (triesAfter Q s ts)) (one-tries (n .tries-are) (m .tries-are)) in
       omega (arith, place-beyond (m .tries) (choices Q s));
   last-is-empty = λ {Q} {s = s} {budget = budget} {before = before} x l.
       let m = x .page .meant in

@@ -30,11 +30,14 @@ pub record PageIs (Q : List Kind) (P : Pattern) (T : Term) (cs : List Constraint
   pub further : List (List ℕ)
   pub follows : page .meant .solutions ≡ earlier ++ (s ∷ (page .result .records ++ further))
   pub every : r .ending ≡ 0 → further ≡ []
-  -- in the list of all tries its tries follow the last that leads to s, the one with all choices of s; without choices there is no try
+  -- in the list of all tries its tries follow the last that leads to s, the one with all choices of s; without choices there is no try.
+  -- A complete page takes all of them, and counts no other
   pub tries-follow : (choices Q s ≡ [] → ⊥) → (tried : List (List ℕ)) × (page .meant .tries ≡ tried ++ (choices Q s ∷ triesAfter Q s (page .meant .tries)))
   pub no-tries : choices Q s ≡ [] → page .meant .tries ≡ []
+  pub all-tried : r .ending ≡ 0 → r .tries ≡ length (triesAfter Q s (page .meant .tries))
   pub within : r .tries ≤ budget
 
+-- s is the last of the records
 pub record LastIs (s : List ℕ) (records : List (List ℕ)) : Type 0 where
   pub front : List (List ℕ)
   pub is : records ≡ front ++ (s ∷ [])
