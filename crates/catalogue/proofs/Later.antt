@@ -1,8 +1,7 @@
 -- The events that are left where the levels of the search stand are the last of all events; those after a record's own are its page.
 use Prim.Native.Nat.{ℕ, zero, suc, _+_, _-_, _≤_, _<_}
 use mathlib.Core.Path.{_≡_, refl, sym, ap, _∙_}
-use mathlib.Core.Logic.{inl, inr}
-use mathlib.Core.Bool.{Bool, true, false, cond}
+use mathlib.Core.Logic.{inr}
 use mathlib.Core.List.{List, [], _∷_, _++_, append-assoc}
 use lib.ListN.{length, take, set, length-set}
 use lib.Seq.{set-set, getD-set-same}
@@ -11,17 +10,18 @@ use native.Mathlib.Nat.{add-zero}
 use Rattle.meaning.specs.Forest.{Term}
 use Rattle.meaning.specs.Pattern.{Pattern, Kind, Numbered}
 use Rattle.meaning.specs.Matcher.{Value}
-use Rattle.meaning.specs.Order.{seconds, choices, _⊏_, Mem, Ascending}
+use Rattle.meaning.specs.Record.{IsRecord}
+use Rattle.meaning.specs.Order.{seconds, choices, Ascending}
 use Rattle.meaning.proofs.Tame.{count}
-use Rattle.catalogue.specs.Answer.{upto, atMost, unlimited}
-use Rattle.catalogue.specs.Page.{beyond, solutionsAfter, triesAfter, PageMeant}
+use Rattle.catalogue.specs.Answer.{atMost}
+use Rattle.catalogue.specs.Page.{beyond, PageMeant}
 use Rattle.catalogue.specs.Answer as answers
-use Rattle.catalogue.proofs.Events.{Outcome, need, done, Event, tried, matched, snoc, branch, events, mem-left, mem-right}
+use Rattle.catalogue.proofs.Events.{Outcome, need, Event, tried, matched, snoc, branch, events, mem-right}
 use Rattle.catalogue.proofs.Ascent.{_≪_, ascending}
-use Rattle.catalogue.proofs.Run.{run, tries-of, Match, matches-of, in-tries, upto-before, upto-more, upto-less, upto-refl}
-use Rattle.catalogue.proofs.Facts.{one-room, at-most-one}
-use Rattle.catalogue.proofs.Fill.{Widths, rest, rest-level, rest-next, ahead, ahead-start, ahead-need, ahead-match}
-use Rattle.catalogue.proofs.Whole.{records-of, walked, all, all-solutions, all-tries, run-is}
+use Rattle.catalogue.proofs.Beyond.{split, beyond-part, beyond-cut, ascending-before, ascending-behind}
+use Rattle.catalogue.proofs.Run.{run, tries-of, Match, matches-of, in-tries, upto-before, upto-more}
+use Rattle.catalogue.proofs.Fill.{Widths, rest, rest-level, rest-next, ahead, ahead-start, ahead-need}
+use Rattle.catalogue.proofs.Whole.{records-of, walked, all, all-solutions, all-tries, record-event, run-is}
 
 -- these events are the last of all
 pub record Later (whole left : List Event) : Type 0 where
@@ -72,31 +72,6 @@ module _ (walk : List ℕ → Outcome) (bound : ℕ) where
       (getD-set-same nexts d v 0 hn) (getD-set-same lefts d (suc left) 0 hl) in
       later-more (tried (snoc p v) ∷ []) _ (rw (set-set nexts d v (v + 1), set-set lefts d (suc left) left) at two) (later-more (b .0) _ one w)
 
--- those of a list that are not up to w are what stands behind those that are
-pub beyond-cut : (f : List ℕ → List ℕ) (w : List ℕ) (a b : List (List ℕ)) → ((v : List ℕ) → Mem v a → upto (f v) w ≡ true) → ((v : List ℕ) → Mem v b → upto (f v) w ≡ false)
-    → beyond f w (a ++ b) ≡ b
-beyond-cut f w (v ∷ a) b h k = rw (h v (inl refl)) (beyond-cut f w a b (λ u m. h u (inr m)) k)
-beyond-cut f w [] [] h k = refl
-beyond-cut f w [] (v ∷ b) h k = rw (k v (inl refl)) (ap (λ l. v ∷ l) (beyond-cut f w [] b h (λ u m. k u (inr m))))
-
-beyond-few : (f : List ℕ → List ℕ) (w : List ℕ) (vs : List (List ℕ)) → length (beyond f w vs) ≤ length vs
-beyond-few f w [] = omega arith
-beyond-few f w (v ∷ vs) = go (upto (f v) w) (beyond-few f w vs)
-  where
-    go : (b : Bool) → length (beyond f w vs) ≤ length vs → length (cond b (beyond f w vs) (v ∷ beyond f w vs)) ≤ suc (length vs)
-    go true i = omega arith
-    go false i = omega arith
-
--- in order, all that stands before an element comes before it, and all behind it after
-module _ {A : Type 0} (R : A → A → Type 0) where
-  pub ascending-before : (l k : List A) (a : A) → Ascending R (l ++ (a ∷ k)) → (b : A) → Mem b l → R b a
-  ascending-before (c ∷ l) k a h b (inl e) = rw e (h .0 a (mem-right a l (a ∷ k) (inl refl)))
-  ascending-before (c ∷ l) k a h b (inr m) = ascending-before l k a (h .1) b m
-
-  pub ascending-behind : (l k : List A) → Ascending R (l ++ k) → Ascending R k
-  ascending-behind [] k h = h
-  ascending-behind (c ∷ l) k h = ascending-behind l k (h .1)
-
 tries-append : (a b : List Event) → tries-of (a ++ b) ≡ tries-of a ++ tries-of b
 tries-append [] b = refl
 tries-append (tried v ∷ a) b = ap (λ l. v ∷ l) (tries-append a b)
@@ -112,6 +87,12 @@ records-append [] b = refl
 records-append (s ∷ a) b = ap (λ l. s .values ∷ l) (records-append a b)
 
 module _ (Allowed : ℕ → Value → Type 0) (allowed? : (x : ℕ) (v : Value) → Dec (Allowed x v)) {Q : List Kind} {P : Pattern} (g : Numbered P Q) (T : Term) where
+  -- every matcher has its place among the events
+  pub at-record : {r : List ℕ} → IsRecord Allowed Q P T r → (es : List Event) × Later (all Allowed allowed? g T) (matched (choices Q r) r ∷ es)
+  at-record {r} i =
+      let s = split (matched (choices Q r) r) (all Allowed allowed? g T) (record-event Allowed allowed? g T i) in
+      (s .1, record { passed = s .0; is = s .2 })
+
   module _ {r : List ℕ} {es : List Event} (w : Later (all Allowed allowed? g T) (matched (choices Q r) r ∷ es)) where
     in-order : Ascending _≪_ (w .passed ++ (matched (choices Q r) r ∷ es))
     in-order = rw (← (w .is)) (ascending (walked Allowed allowed? g T) (count Q) [])
@@ -122,34 +103,21 @@ module _ (Allowed : ℕ → Value → Type 0) (allowed? : (x : ℕ) (v : Value) 
     its-matches : matches-of (all Allowed allowed? g T) ≡ matches-of (w .passed) ++ (record { choices = choices Q r; values = r } ∷ matches-of es)
     its-matches = ap matches-of (w .is) ∙ matches-append (w .passed) (matched (choices Q r) r ∷ es)
 
-    its-records : records-of (matches-of (all Allowed allowed? g T)) ≡ (records-of (matches-of (w .passed)) ++ (r ∷ [])) ++ records-of (matches-of es)
-    its-records =
-        ap records-of its-matches ∙ records-append (matches-of (w .passed)) (record { choices = choices Q r; values = r } ∷ matches-of es)
-        ∙ sym (append-assoc (records-of (matches-of (w .passed))) (r ∷ []) (records-of (matches-of es)))
+    its-records : records-of (matches-of (all Allowed allowed? g T)) ≡ records-of (matches-of (w .passed)) ++ (r ∷ records-of (matches-of es))
+    its-records = ap records-of its-matches ∙ records-append (matches-of (w .passed)) (record { choices = choices Q r; values = r } ∷ matches-of es)
 
     -- the tries after the last that leads to the record
     tries-beyond : beyond (λ v. v) (choices Q r) (tries-of (all Allowed allowed? g T)) ≡ tries-of es
     tries-beyond =
         ap (beyond (λ v. v) (choices Q r)) its-tries
-        ∙ beyond-cut (λ v. v) (choices Q r) (tries-of (w .passed)) (tries-of es)
+        ∙ beyond-part (λ v. v) (choices Q r) (tries-of (w .passed)) (tries-of es)
         (λ v m. upto-before v (choices Q r) r (ascending-before _≪_ (w .passed) es (matched (choices Q r) r) in-order (tried v) (in-tries (w .passed) v m)))
         (λ v m. upto-more (choices Q r) v (ascending-behind _≪_ (w .passed) (matched (choices Q r) r ∷ es) in-order .0 (tried v) (in-tries es v m)))
 
     -- the solutions after the record
     solutions-beyond : beyond seconds (seconds r) (records-of (matches-of (all Allowed allowed? g T))) ≡ records-of (matches-of es)
     solutions-beyond =
-        let a = records-of (matches-of (w .passed)) in
-        let b = records-of (matches-of es) in
-        let whole : Ascending (λ x y. seconds x ⊏ seconds y) (a ++ (r ∷ b)) = rw (its-records ∙ append-assoc a (r ∷ []) b) at (all-solutions Allowed allowed? g T .ordered) in
-        ap (beyond seconds (seconds r)) its-records
-        ∙ beyond-cut seconds (seconds r) (a ++ (r ∷ [])) b (λ v m. upto-own a v (λ u n. ascending-before (λ x y. seconds x ⊏ seconds y) a b r whole u n) m)
-        (λ v m. upto-more (seconds r) (seconds v) (ascending-behind (λ x y. seconds x ⊏ seconds y) a (r ∷ b) whole .0 v m))
-      where
-        upto-own : (a : List (List ℕ)) (v : List ℕ) → ((u : List ℕ) → Mem u a → seconds u ⊏ seconds r) → Mem v (a ++ (r ∷ [])) → upto (seconds v) (seconds r) ≡ true
-        upto-own [] v h (inl e) = rw e (upto-refl (seconds r))
-        upto-own [] v h (inr m) = absurd m
-        upto-own (u ∷ a) v h (inl e) = upto-less (seconds v) (seconds r) (h v (inl e))
-        upto-own (u ∷ a) v h (inr m) = upto-own a v (λ x n. h x (inr n)) m
+        beyond-cut seconds (records-of (matches-of (all Allowed allowed? g T))) (records-of (matches-of (w .passed))) (records-of (matches-of es)) r (all-solutions Allowed allowed? g T .ordered) its-records
 
     -- what is run from the events behind the record is the page after it
     pub page-meant : (budget room : ℕ) → PageMeant Allowed Q P T r budget (atMost room) (run es budget room)
@@ -163,17 +131,3 @@ module _ (Allowed : ℕ → Value → Type 0) (allowed? : (x : ℕ) (v : Value) 
               run-is Allowed allowed? g T es budget room (ascending-behind _≪_ (w .passed) (matched (choices Q r) r ∷ es) in-order .1) (λ s m. rw its-matches (mem-right s (matches-of (w .passed)) _ (inr m)))
               ∙ (λ i. answers.answer Q (sym solutions-beyond i) (sym tries-beyond i) budget (atMost room));
         }
-
--- without variables there is no solution after one, so no room can be wanting
-module _ {Allowed : ℕ → Value → Type 0} (allowed? : (x : ℕ) (v : Value) → Dec (Allowed x v)) {P : Pattern} {T : Term} (g : Numbered P []) where
-  pub page-unlimited : {r : List ℕ} {budget : ℕ} {x : answers.Result} → PageMeant Allowed [] P T r budget (atMost 1) x → PageMeant Allowed [] P T r budget unlimited x
-  page-unlimited {r} {budget} m =
-      record {
-        solutions = m .solutions;
-        tries = m .tries;
-        solutions-are = m .solutions-are;
-        tries-are = m .tries-are;
-        result =
-            m .result
-            ∙ one-room [] (solutionsAfter r (m .solutions)) (triesAfter [] r (m .tries)) budget (omega (arith, beyond-few seconds (seconds r) (m .solutions), at-most-one allowed? g (m .solutions-are)));
-      }

@@ -1,14 +1,14 @@
 -- What is answered: by going through the events, and by arithmetic on the lists of all tries and all matches. The two agree.
 use mathlib.Core.Path.{_≡_, refl, sym, ap, _∙_}
-use mathlib.Core.Logic.{inl, inr, _↔_}
+use mathlib.Core.Logic.{_⊎_, inl, inr, ⊎-elim, _↔_}
 use mathlib.Core.List.{List, [], _∷_}
-use mathlib.Core.Bool.{Bool, true, false, cond}
+use mathlib.Core.Bool.{Bool, true, false, cond, true≢false}
 use Prim.Native.Nat.{ℕ, zero, suc, _+_, _≤_, _<_, zero-le}
 use native.Mathlib.Omega.{arith}
+use native.Mathlib.Decide.{ℕ-discrete, decLt}
 use lib.Dec.{leb, ltb, leb·suc-suc}
 use lib.ListN.{length, take}
 use borrow.Author.Tests.{le-leb, lt-leb, lt-ltb, le-ltb, eq-eqb, ne-eqb}
-use Rattle.meaning.specs.Reached.{Begins}
 use Rattle.meaning.specs.Order.{_⊏_, Mem, Ascending}
 use Rattle.catalogue.specs.Answer.{Result, upto, place}
 use Rattle.catalogue.proofs.Events.{Outcome, need, done, Event, tried, matched, events, Within, Leads, Some, sound, complete, short}
@@ -130,6 +130,17 @@ upto-more [] (y ∷ w) h = refl
 upto-more (x ∷ v) (y ∷ w) (inl h) = rw (le-ltb y x (omega arith), ne-eqb y x (λ e. omega arith))
 upto-more (x ∷ v) (y ∷ w) (inr h) = rw (le-ltb y x (omega (arith, h .0)), eq-eqb y x (sym (h .0)), upto-more v w (h .1))
 
+pub upto-only : (v w : List ℕ) → upto v w ≡ true → (v ⊏ w) ⊎ (v ≡ w)
+upto-only [] [] e = inr refl
+upto-only [] (y ∷ w) e = inl tt
+upto-only (x ∷ v) [] e = absurd (true≢false (sym e))
+upto-only (x ∷ v) (y ∷ w) e = go (decLt x y) (ℕ-discrete x y) (upto-only v w)
+  where
+    go : Dec (x < y) → Dec (x ≡ y) → (upto v w ≡ true → (v ⊏ w) ⊎ (v ≡ w)) → ((x ∷ v) ⊏ (y ∷ w)) ⊎ (x ∷ v ≡ y ∷ w)
+    go (yes h) d i = inl (inl h)
+    go (no h) (yes d) i = ⊎-elim (λ l. inl (inr (d, l))) (λ l. inr (cc)) (i (rw (le-ltb x y (omega arith), eq-eqb x y d) at e))
+    go (no h) (no d) i = absurd (true≢false (sym (rw (le-ltb x y (omega arith), ne-eqb x y d) at e)))
+
 place-none : (W : List (List ℕ)) (v : List ℕ) → ((u : List ℕ) → Mem u W → v ⊏ u) → place W v ≡ 0
 place-none [] v h = refl
 place-none (u ∷ W) v h = rw (upto-more v u (h u (inl refl))) (place-none W v (λ u′ m. h u′ (inr m)))
@@ -233,16 +244,6 @@ module _ (walk : List ℕ → Outcome) (bound : ℕ) (stops : (v : List ℕ) (x 
   all-matched s =
       let es = events walk bound [] in
       (λ m. is-match s (in-matches es s m), λ h. of-matches es s (complete walk bound [] (s .choices) (event-of s) (fits (s .choices) (h .0)) (h .0) refl (h .1)))
-
--- more budget or more room only lengthens the list
-pub more : (es : List Event) (b c r q : ℕ) → b ≤ c → r ≤ q → Begins (run es b r .records) (run es c q .records)
-more [] b c r q g h = record { rest = []; is = refl }
-more (tried v ∷ es) zero c r q g h = record { rest = run (tried v ∷ es) c q .records; is = refl }
-more (tried v ∷ es) (suc b) zero r q g h = absurd (omega arith)
-more (tried v ∷ es) (suc b) (suc c) r q g h = more es b c r q (omega arith) h
-more (matched v x ∷ es) b c zero q g h = record { rest = run (matched v x ∷ es) c q .records; is = refl }
-more (matched v x ∷ es) b c (suc r) zero g h = absurd (omega arith)
-more (matched v x ∷ es) b c (suc r) (suc q) g h = let i = more es b c r q g (omega arith) in record { rest = i .rest; is = ap (λ l. x ∷ l) (i .is) }
 
 -- what a walk has to be: it asks for a choice only after fewer than bound, of values below limit, and its records have the width
 pub record Tame (walk : List ℕ → Outcome) (bound limit width : ℕ) : Type 0 where

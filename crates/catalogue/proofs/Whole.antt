@@ -9,7 +9,7 @@ use native.Mathlib.Decide.{decLe}
 use Rattle.meaning.specs.Forest.{Term, size}
 use Rattle.meaning.specs.Pattern.{Pattern, Kind, Numbered}
 use Rattle.meaning.specs.Matcher.{Value, kinds, Solves}
-use Rattle.meaning.specs.Record.{numbers, recordOf}
+use Rattle.meaning.specs.Record.{numbers, recordOf, IsRecord}
 use Rattle.meaning.specs.Read.{values}
 use Rattle.meaning.specs.Order.{seconds, choices, _⊏_, Mem, Ascending}
 use Rattle.meaning.proofs.Walk as W
@@ -21,9 +21,9 @@ use Rattle.meaning.proofs.Honest.{Asked, honest}
 use Rattle.meaning.proofs.Tame.{count, tame-need, tame-ok}
 use Rattle.catalogue.specs.Listing.{Solutions, Try, Tries, Meant}
 use Rattle.catalogue.specs.Answer.{places, within, atMost, answer as answerOf}
-use Rattle.catalogue.proofs.Events.{Outcome, fail, need, done, Event, snoc, events, Within}
+use Rattle.catalogue.proofs.Events.{Outcome, fail, need, done, Event, matched, snoc, events, Within, Leads, Some}
 use Rattle.catalogue.proofs.Ascent.{_≪_, ascending}
-use Rattle.catalogue.proofs.Run.{run, tries-of, Match, matches-of, placed, reached, values-of, tries-at, answer, IsTry, IsMatch, Tame, _before_, tries-ascending, matches-ascending, run-answer, all-tried, all-matched}
+use Rattle.catalogue.proofs.Run.{run, tries-of, Match, matches-of, placed, reached, values-of, tries-at, answer, IsTry, IsMatch, Tame, _before_, tries-ascending, matches-ascending, run-answer, in-matches, all-tried, all-matched}
 use Rattle.catalogue.proofs.Plain.{plain-try, plain-match, try-plain}
 use Rattle.catalogue.proofs.Ranks.{order}
 
@@ -162,6 +162,26 @@ module _ (Allowed : ℕ → Value → Type 0) (allowed? : (x : ℕ) (v : Value) 
           let c = complete Allowed allowed? g (m .solves) in
           plain-match walked is-honest s (ap walked (m .chose) ∙ ap outcome (c .0) ∙ ap done (sym (m .records)))
 
+  record-is : {r : List ℕ} → IsRecord Allowed Q P T r → IsMatch walked (record { choices = choices Q r; values = r })
+  record-is {r} i =
+      match-is (record { choices = choices Q r; values = r }) .1
+      (record { matcher = i .matcher; solves = i .solves; chose = ap (λ (q : List ℕ). choices Q q) (sym (i .its)); records = sym (i .its) })
+
+  -- the last try that leads to a matcher has all its choices; where a matcher has none, nothing is tried
+  pub last-try : {r : List ℕ} → IsRecord Allowed Q P T r → (choices Q r ≡ [] → ⊥) → Try Allowed Q P T (choices Q r)
+  last-try {r} i n = try-is (choices Q r) .0 (some (choices Q r) n, record-is i .0)
+    where
+      some : (v : List ℕ) → (v ≡ [] → ⊥) → Some v
+      some [] n = n refl
+      some (x ∷ v) n = tt
+
+  pub untried : {r v : List ℕ} → IsRecord Allowed Q P T r → choices Q r ≡ [] → Try Allowed Q P T v → ⊥
+  untried {r} {v} i e t = let h = try-is v .1 t in go v (h .0) (h .1)
+    where
+      go : (v : List ℕ) → Some v → Leads walked [] v → ⊥
+      go [] s l = s
+      go (x ∷ v) s l = rw (sym (ap walked e) ∙ record-is i .1) at (l .0)
+
   -- the events of the walk
   abbrev pub all : List Event
   all = events walked (count Q) []
@@ -185,10 +205,18 @@ module _ (Allowed : ℕ → Value → Type 0) (allowed? : (x : ℕ) (v : Value) 
               record { matcher = x .matcher; solves = x .solves; its = sym (x .records) ∙ k .2 },
           λ i.
               let s : Match = record { choices = choices Q r; values = r } in
-              of-records (matches-of all) s
-              (all-matched walked (count Q) stops s .1 (match-is s .1 (record { matcher = i .matcher; solves = i .solves; chose = ap (λ (q : List ℕ). choices Q q) (sym (i .its)); records = sym (i .its) }))),
+              of-records (matches-of all) s (all-matched walked (count Q) stops s .1 (record-is i)),
         );
       }
+
+  -- they are in the order of their choices too
+  pub all-chosen : Ascending (λ r s. choices Q r ⊏ choices Q s) (records-of (matches-of all))
+  all-chosen =
+      records-ascending (λ r s. choices Q r ⊏ choices Q s) (matches-of all) (matches-ascending all (ascending walked (count Q) []))
+      (λ s u m n h.
+      let x = its-matcher s m in
+      let y = its-matcher u n in
+      rw (x .records, y .records, ← (x .chose), ← (y .chose)) h)
 
   pub all-tries : Tries Allowed Q P T (tries-of all)
   all-tries =
@@ -196,6 +224,10 @@ module _ (Allowed : ℕ → Value → Type 0) (allowed? : (x : ℕ) (v : Value) 
         ordered = tries-ascending all (ascending walked (count Q) []);
         all = λ v. (λ m. try-is v .0 (all-tried walked (count Q) stops v .0 m), λ h. all-tried walked (count Q) stops v .1 (try-is v .1 h));
       }
+
+  -- the event of a matcher
+  pub record-event : {r : List ℕ} → IsRecord Allowed Q P T r → Mem (matched (choices Q r) r) all
+  record-event {r} i = in-matches all (record { choices = choices Q r; values = r }) (all-matched walked (count Q) stops _ .1 (record-is i))
 
   -- what is run from some of the events is answered by their tries and matches
   pub run-is : (es : List Event) (budget room : ℕ) → Ascending _≪_ es → ((s : Match) → Mem s (matches-of es) → Mem s (matches-of all))

@@ -19,9 +19,11 @@ MatcherRecord l list =
     (T : Term) × (P : Pattern) × (Q : List Kind) × (es : List Expression) × (cs : List Constraint) × Poses l T P Q es cs × IsRecord (Allowed cs) Q P T list
 
 -- the codes, in the order in which they are asked: those of the problem, 15, and then 20
+abbrev pub RecordCodes : Lists → List ℕ → ℕ → Type 0
+RecordCodes l list = refuse 15 (GoodRecordList (l .label) (l .size) (l .kind) (l .name) (l .patternSize) list) (refuse 20 (MatcherRecord l list) accept)
+
 abbrev pub PageCodes : Lists → List ℕ → ℕ → Type 0
-PageCodes l list =
-    Codes l (refuse 15 (GoodRecordList (l .label) (l .size) (l .kind) (l .name) (l .patternSize) list) (refuse 20 (MatcherRecord l list) accept))
+PageCodes l list = Codes l (RecordCodes l list)
 
 -- what a page promises of its answer and of the lent list, for any lists and any record
 pub record PageSettled (l : Lists) (list : List ℕ) (budget : ℕ) (before : List ℕ) (r : Listed) (after : List ℕ) : Type 0 where

@@ -1,6 +1,7 @@
--- 02, #105, "The next page": "The lister shall also take a record and give the matchers that come strictly after it. .. Pages with room for at
--- least one record, each taken from the last record before it and none ended by the budget, up to the first complete one, joined, are all
--- matchers in order. A page ended by the budget is the leading part of what it would be with more."
+-- 02, #105, "The next page": "The lister shall also take a record and give the matchers that come strictly after it. Its tries are those
+-- that come after the last try leading to that record, from 1 up. Pages with room for at least one record, each taken from the last
+-- record before it and none ended by the budget, up to the first complete one, joined, are all matchers in order. A page ended by the
+-- budget is the leading part of what it would be with more."
 use Prim.Native.Nat.{ℕ, _+_, _≤_}
 use mathlib.Core.Path.{_≡_}
 use mathlib.Core.List.{List, [], _∷_, _++_}
@@ -29,42 +30,48 @@ pub record PageIs (Q : List Kind) (P : Pattern) (T : Term) (cs : List Constraint
   pub further : List (List ℕ)
   pub follows : page .meant .solutions ≡ earlier ++ (s ∷ (page .result .records ++ further))
   pub every : r .ending ≡ 0 → further ≡ []
+  -- in the list of all tries its tries follow the last that leads to s, the one with all choices of s; without choices there is no try.
+  -- A complete page takes all of them, and counts no other
+  pub tries-follow : (choices Q s ≡ [] → ⊥) → (tried : List (List ℕ)) × (page .meant .tries ≡ tried ++ (choices Q s ∷ triesAfter Q s (page .meant .tries)))
+  pub no-tries : choices Q s ≡ [] → page .meant .tries ≡ []
+  pub all-tried : r .ending ≡ 0 → r .tries ≡ length (triesAfter Q s (page .meant .tries))
   pub within : r .tries ≤ budget
 
--- pages turned from the record s on, each from the last record of the page before it, none ended by the budget, the last one complete: all their records
+-- s is the last of the records
+pub record LastIs (s : List ℕ) (records : List (List ℕ)) : Type 0 where
+  pub front : List (List ℕ)
+  pub is : records ≡ front ++ (s ∷ [])
+
+-- pages taken from the record s on, each from the last record of the one before it and none ended by the budget, up to the first
+-- complete one: all their records. Budget and lent list may be others for each.
 pub data TurnedFrom (Q : List Kind) (P : Pattern) (T : Term) (cs : List Constraint) : List ℕ → List (List ℕ) → Type 0 where
   last-page : {s : List ℕ} {budget : ℕ} {before after : List ℕ} {r : Listed} (x : PageIs Q P T cs s budget before r after) → r .ending ≡ 0 → TurnedFrom Q P T cs s (x .page .result .records)
-  next-page : {s : List ℕ} {budget : ℕ} {before after : List ℕ} {r : Listed} (x : PageIs Q P T cs s budget before r after) → r .ending ≡ 1
-      → (front : List (List ℕ)) (last : List ℕ) → x .page .result .records ≡ front ++ (last ∷ []) → {rs : List (List ℕ)} → TurnedFrom Q P T cs last rs
-      → TurnedFrom Q P T cs s (x .page .result .records ++ rs)
+  next-page : {s last : List ℕ} {budget : ℕ} {before after : List ℕ} {r : Listed} {rs : List (List ℕ)} (x : PageIs Q P T cs s budget before r after) → r .ending ≡ 1
+      → LastIs last (x .page .result .records) → TurnedFrom Q P T cs last rs → TurnedFrom Q P T cs s (x .page .result .records ++ rs)
 
 -- the same with the first page, which is the lister's
 pub data Turned (Q : List Kind) (P : Pattern) (T : Term) (cs : List Constraint) : List (List ℕ) → Type 0 where
   only-page : {budget : ℕ} {before after : List ℕ} {r : Listed} (x : ListIs Q P T cs budget before r after) → r .ending ≡ 0 → Turned Q P T cs (x .listing .result .records)
-  first-page : {budget : ℕ} {before after : List ℕ} {r : Listed} (x : ListIs Q P T cs budget before r after) → r .ending ≡ 1
-      → (front : List (List ℕ)) (last : List ℕ) → x .listing .result .records ≡ front ++ (last ∷ []) → {rs : List (List ℕ)} → TurnedFrom Q P T cs last rs
-      → Turned Q P T cs (x .listing .result .records ++ rs)
+  first-page : {last : List ℕ} {budget : ℕ} {before after : List ℕ} {r : Listed} {rs : List (List ℕ)} (x : ListIs Q P T cs budget before r after) → r .ending ≡ 1
+      → LastIs last (x .listing .result .records) → TurnedFrom Q P T cs last rs → Turned Q P T cs (x .listing .result .records ++ rs)
 
 pub record Pages : Type 0 where
   -- of every answer that keeps a page's promise, for every problem that is well formed and every record of one of its matchers
   pub lists-after : (l : Lists) (s : List ℕ) (budget : ℕ) (before after : List ℕ) (r : Listed) (T : Term) (P : Pattern) (Q : List Kind) (es : List Expression) (cs : List Constraint)
       → PageSettled l s budget before r after → Poses l T P Q es cs → IsRecord (Allowed cs) Q P T s → PageIs Q P T cs s budget before r after
   -- the pages joined are all matchers, in order
-  pub joined-are-all : (l : Lists) (T : Term) (P : Pattern) (Q : List Kind) (es : List Expression) (cs : List Constraint) (rs : List (List ℕ)) → Poses l T P Q es cs
-      → Turned Q P T cs rs → Solutions (Allowed cs) Q P T rs
-  -- a page with room for at least one record that ends by room has a last record, from which the next is taken
-  pub has-last : (l : Lists) (s : List ℕ) (budget : ℕ) (before after : List ℕ) (r : Listed) (T : Term) (P : Pattern) (Q : List Kind) (es : List Expression) (cs : List Constraint)
-      → Poses l T P Q es cs → length Q + length Q ≤ length before → (x : PageIs Q P T cs s budget before r after) → r .ending ≡ 1
-      → (front : List (List ℕ)) × (last : List ℕ) × (x .page .result .records ≡ front ++ (last ∷ []))
-  -- more room or budget only lengthens a page
-  pub more-lengthens : (l : Lists) (s : List ℕ) (b c : ℕ) (before after before' after' : List ℕ) (r r' : Listed) (T : Term) (P : Pattern) (Q : List Kind) (es : List Expression) (cs : List Constraint)
-      → b ≤ c → length before ≤ length before' → Poses l T P Q es cs → (x : PageIs Q P T cs s b before r after) (y : PageIs Q P T cs s c before' r' after')
-      → Begins (x .page .result .records) (y .page .result .records)
-  -- the tries that lead to s and those of the page after it, where both it and the list are complete, add up to the list's
-  pub tries-add-up : (l : Lists) (s : List ℕ) (b c : ℕ) (before after before' after' : List ℕ) (r r' : Listed) (T : Term) (P : Pattern) (Q : List Kind) (es : List Expression) (cs : List Constraint)
-      → Poses l T P Q es cs → (x : ListIs Q P T cs b before r after) → r .ending ≡ 0 → (y : PageIs Q P T cs s c before' r' after') → r' .ending ≡ 0
-      → place (x .listing .meant .tries) (choices Q s) + r' .tries ≡ r .tries
-  -- after the last matcher a page is empty, and complete where the budget is enough for the tries that are left
-  pub last-is-empty : (l : Lists) (s : List ℕ) (budget : ℕ) (before after : List ℕ) (r : Listed) (T : Term) (P : Pattern) (Q : List Kind) (es : List Expression) (cs : List Constraint)
-      → Poses l T P Q es cs → (x : PageIs Q P T cs s budget before r after) → (front : List (List ℕ)) → x .page .meant .solutions ≡ front ++ (s ∷ [])
-      → (r .records ≡ 0) × (length (triesAfter Q s (x .page .meant .tries)) ≤ budget → (r .ending ≡ 0) × (r .tries ≡ length (triesAfter Q s (x .page .meant .tries))))
+  pub joined-are-all : {Q : List Kind} {P : Pattern} {T : Term} {cs : List Constraint} {rs : List (List ℕ)} → Turned Q P T cs rs → Solutions (Allowed cs) Q P T rs
+  -- with room for at least one record, what ends by room has a last record, and a page can be taken from it
+  pub first-goes-on : {Q : List Kind} {P : Pattern} {T : Term} {cs : List Constraint} {budget : ℕ} {before after : List ℕ} {r : Listed} (x : ListIs Q P T cs budget before r after)
+      → length Q + length Q ≤ length before → r .ending ≡ 1 → (last : List ℕ) × LastIs last (x .listing .result .records) × IsRecord (Allowed cs) Q P T last
+  pub goes-on : {Q : List Kind} {P : Pattern} {T : Term} {cs : List Constraint} {s : List ℕ} {budget : ℕ} {before after : List ℕ} {r : Listed} (x : PageIs Q P T cs s budget before r after)
+      → length Q + length Q ≤ length before → r .ending ≡ 1 → (last : List ℕ) × LastIs last (x .page .result .records) × IsRecord (Allowed cs) Q P T last
+  -- a page that is cut short is the leading part of what it is with more room or budget
+  pub more-lengthens : {Q : List Kind} {P : Pattern} {T : Term} {cs : List Constraint} {s : List ℕ} {b c : ℕ} {before after before' after' : List ℕ} {r r' : Listed} → b ≤ c → length before ≤ length before'
+      → (x : PageIs Q P T cs s b before r after) (y : PageIs Q P T cs s c before' r' after') → Begins (x .page .result .records) (y .page .result .records)
+  -- the tries that lead to s and those of a complete page after it add up to those of a complete list
+  pub tries-add-up : {Q : List Kind} {P : Pattern} {T : Term} {cs : List Constraint} {s : List ℕ} {b c : ℕ} {before after before' after' : List ℕ} {r r' : Listed}
+      (x : ListIs Q P T cs b before r after) → r .ending ≡ 0 → PageIs Q P T cs s c before' r' after' → r' .ending ≡ 0 → place (x .listing .meant .tries) (choices Q s) + r' .tries ≡ r .tries
+  -- after the last matcher a page is empty, and complete if the budget is enough for the tries that are left
+  pub last-is-empty : {Q : List Kind} {P : Pattern} {T : Term} {cs : List Constraint} {s : List ℕ} {budget : ℕ} {before after : List ℕ} {r : Listed} (x : PageIs Q P T cs s budget before r after)
+      → LastIs s (x .page .meant .solutions) → (r .records ≡ 0) × (length (triesAfter Q s (x .page .meant .tries)) ≤ budget → r .ending ≡ 0)
