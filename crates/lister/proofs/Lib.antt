@@ -1,5 +1,3 @@
-pub mod Begun
 pub mod Whole
-pub mod Unique
-pub mod Resumed
 pub mod Pages
+pub mod Unique

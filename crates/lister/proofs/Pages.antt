@@ -2,11 +2,11 @@
 use Prim.Native.Nat.{ℕ, _+_}
 use mathlib.Core.Path.{_≡_, refl, ap, _∙_, subst}
 use mathlib.Core.Logic.{inl, inr}
-use mathlib.Core.Bool.{Bool, true, false}
+use mathlib.Core.Bool.{Bool, false}
 use mathlib.Core.List.{List, [], _∷_}
 use lib.ListN.{length}
 use native.Mathlib.Omega.{arith}
-use Rattle.meaning.specs.Calls.{Says, refuse, accept}
+use Rattle.meaning.specs.Calls.{Says}
 use Rattle.meaning.specs.Forest.{Term, size}
 use Rattle.meaning.specs.Pattern.{Pattern, Kind, Numbered}
 use Rattle.meaning.specs.Matcher.{Value}
@@ -34,17 +34,18 @@ use Rattle.catalogue.specs.Page.{PageMeant}
 use Rattle.catalogue.proofs.Events as events
 use Rattle.catalogue.proofs.Back.{fitting}
 use Rattle.catalogue.proofs.Fill.{tame-widths, shown}
-use Rattle.catalogue.proofs.Later.{later-more, later-widths, page-meant, page-unlimited}
+use Rattle.catalogue.proofs.Later.{later-more, later-widths, page-meant}
+use Rattle.catalogue.proofs.Pages.{page-unlimited}
 use Rattle.catalogue.proofs.Run.{Tame, run}
 use Rattle.catalogue.proofs.Whole.{walked}
 use Rattle.search.specs.declared.Found.{Found}
 use Rattle.levels.proofs.Going.{is-fixed}
-use Rattle.lister.specs.Begun.{nothing}
-use Rattle.lister.specs.Page.{MatcherRecord, PageSettled}
-use Rattle.lister.specs.Resumed.{ResumeAsked, ResumePre, ResumePost, not-there, from-there, NoPage, bad, of-none}
+use Rattle.lister.specs.Page.{RecordCodes, PageSettled}
+use Rattle.entry.specs.Resumed.{ResumeAsked, ResumePre, ResumePost, not-there, from-there}
+use Rattle.lister.specs.Answered.{nothing, whole, NoPage, bad, of-none}
 use Rattle.lister.specs.declared.Listed.{Listed}
-use Rattle.lister.specs.declared.Paged.{Paged}
-use Rattle.lister.specs.declared.Paged.the-variants.{NoMatcher, Page}
+use Rattle.entry.specs.declared.Paged.{Paged}
+use Rattle.entry.specs.declared.Paged.the-variants.{NoMatcher, Page}
 use Rattle.lister.proofs.Whole.{searched, by-room}
 
 -- the room of the code is the room of the rules
@@ -57,12 +58,8 @@ in-room {A} a? {P} {T} {list} {budget} {x} n Q g = by-room (λ (r : Room). PageM
     all-room (k ∷ Q) g e m = absurd (omega (arith, ap length e))
 
 module _ (l : Lists) {r : Problem} (a : Answered l r) (list : List ℕ) (budget : ℕ) (before : List ℕ) where
-  -- the codes that a page asks after those of the problem
-  abbrev others : ℕ → Type 0
-  others = refuse 15 (GoodRecordList (l .label) (l .size) (l .kind) (l .name) (l .patternSize) list) (refuse 20 (MatcherRecord l list) accept)
-
   pub page-refused : (r .code ≡ 0 → ⊥) → PageSettled l list budget before (nothing (r .code)) before
-  page-refused n = record { code = codes-low l others (r .code) n (a .code); listed = λ e. absurd (n e); refused = λ e. (refl, refl, refl, refl) }
+  page-refused n = record { code = codes-low l (RecordCodes l list) (r .code) n (a .code); listed = λ e. absurd (n e); refused = λ e. (refl, refl, refl, refl) }
 
   module _ (z : r .code ≡ 0) where
     pub record-asked : RecordPre (l .size) (r .kinds) (r .variables)
@@ -75,7 +72,7 @@ module _ (l : Lists) {r : Problem} (a : Answered l r) (list : List ℕ) (budget 
 
       page-bad : {after : List ℕ} → after ≡ before → b ≡ false → PageSettled l list budget before (nothing 15) after
       page-bad same e =
-          record { code = codes-high l others 15 (the a z) (inl (said-no says-good e, refl)); listed = λ h. absurd (omega arith); refused = λ h. (refl, refl, refl, same) }
+          record { code = codes-high l (RecordCodes l list) 15 (the a z) (inl (said-no says-good e, refl)); listed = λ h. absurd (omega arith); refused = λ h. (refl, refl, refl, same) }
 
     pub page-wrong-length : (length list ≡ r .variables + r .variables → ⊥) → PageSettled l list budget before (nothing 15) before
     page-wrong-length n = page-bad (wrong-length n) refl refl
@@ -102,26 +99,26 @@ module _ (l : Lists) {r : Problem} (a : Answered l r) (list : List ℕ) (budget 
             go (not-there same n) (bad post) = page-bad post same refl
             go (not-there same n) (of-none post) =
                 record {
-                  code = codes-high l others 20 (the a z) (inr (says-good post .0 refl, inl (λ m. n (m .0) (m .1) (m .2) (m .3) (m .4) (asked (m .5)) (m .6), refl)));
+                  code = codes-high l (RecordCodes l list) 20 (the a z) (inr (says-good post .0 refl, inl (λ m. n (m .0) (m .1) (m .2) (m .3) (m .4) (asked (m .5)) (m .6), refl)));
                   listed = λ h. absurd (omega arith);
                   refused = λ h. (refl, refl, refl, same);
                 }
 
         pub page-done : {p : Paged} {f : Found} → ResumePost (l .label) (l .size) M tables list budget room width before after p → p ≡ Page f
-            → PageSettled l list budget before (record { code = 0; ending = f .ending; records = f .records; tries = f .tries }) after
+            → PageSettled l list budget before (whole f) after
         page-done resumed e = go (rw e at resumed)
           where
             -- the record of a matcher is good
-            taken : {T : Term} {P : Pattern} {Q : List Kind} {es : List Expression} {cs : List Constraint} → Poses l T P Q es cs → IsRecord (Allowed cs) Q P T list → others 0
+            taken : {T : Term} {P : Pattern} {Q : List Kind} {es : List Expression} {cs : List Constraint} → Poses l T P Q es cs → IsRecord (Allowed cs) Q P T list → RecordCodes l list 0
             taken {T} {P} {Q} {es} {cs} w i =
                 let m = matcher-means (Allowed cs) (allowed? cs) (w .rest .pattern .numbered) (i .solves) in
                 inr ((T, P, Q, i .matcher, w .tree, w .rest .pattern, rw (i .its) at m), inr ((T, P, Q, es, cs, w, i), refl))
 
             go : {f : Found} → ResumePost (l .label) (l .size) M tables list budget room width before after (Page f)
-                → PageSettled l list budget before (record { code = 0; ending = f .ending; records = f .records; tries = f .tries }) after
+                → PageSettled l list budget before (whole f) after
             go {f} (from-there each) =
                 record {
-                  code = let p = the a z in codes-high l others 0 p (taken (p .poses) (each (p .T) (p .P) (p .Q) (p .es) (p .cs) (asked (p .poses)) .is-record));
+                  code = let p = the a z in codes-high l (RecordCodes l list) 0 p (taken (p .poses) (each (p .T) (p .P) (p .Q) (p .es) (p .cs) (asked (p .poses)) .is-record));
                   listed = λ e T P Q es cs w.
                       let b = asked w in
                       let s = b .asked .search in

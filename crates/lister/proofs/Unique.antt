@@ -1,12 +1,16 @@
 -- The promises settle the answers of the list and of a page, and the lent list afterwards.
 use Prim.Native.Nat.{ℕ}
 use mathlib.Core.Path.{_≡_, _∙_, sym}
+use mathlib.Core.Logic.{inl, inr}
 use mathlib.Core.List.{List}
+use native.Mathlib.Omega.{arith}
 use native.Mathlib.Decide.{ℕ-discrete}
 use Rattle.meaning.specs.Calls.{accept}
+use Rattle.meaning.specs.Record.{IsRecord}
+use Rattle.constraint.specs.Obeys.{Allowed}
 use Rattle.meaning.proofs.OneCode.{one-refuse, one-accept}
 use Rattle.problem.specs.Problem.{Lists}
-use Rattle.problem.proofs.Posed.{posed, one-codes}
+use Rattle.problem.proofs.Posed.{Posed, posed, one-codes}
 use Rattle.catalogue.proofs.Facts.{one-shown, one-answer}
 use Rattle.catalogue.proofs.Pages.{one-page}
 use Rattle.lister.specs.Listed.{Settled}
@@ -35,6 +39,16 @@ same before r s v w c shown a b = go (ℕ-discrete (r .code) 0)
 
 pub one-page-code : (l : Lists) (list : List ℕ) (a b : ℕ) → PageCodes l list a → PageCodes l list b → a ≡ b
 one-page-code l list = one-codes l (RecordCodes l list) (λ i j. one-refuse 15 _ _ i j (λ i j. one-refuse 20 _ _ i j one-accept))
+
+-- where no code is given, the record is that of a matcher of the problem
+pub page-posed : (l : Lists) (list : List ℕ) (c : ℕ) → c ≡ 0 → PageCodes l list c → (p : Posed l) × IsRecord (Allowed (p .cs)) (p .Q) (p .P) (p .T) list
+page-posed l list c z (inl a) = absurd (omega (arith, a .1))
+page-posed l list c z (inr (t, inl a)) = absurd (omega (arith, a .1))
+page-posed l list c z (inr (t, inr (p, inl a))) = absurd (omega (arith, a .1))
+page-posed l list c z (inr (t, inr (p, inr (e, inl a)))) = absurd (omega (arith, a .1))
+page-posed l list c z (inr (t, inr (p, inr (e, inr (k, inl a))))) = absurd (omega (arith, a .1))
+page-posed l list c z (inr (t, inr (p, inr (e, inr (k, inr (g, inl a)))))) = absurd (omega (arith, a .1))
+page-posed l list c z (inr (t, inr (p, inr (e, inr (k, inr (g, inr (m, o))))))) = (record { T = m .0; P = m .1; Q = m .2; es = m .3; cs = m .4; poses = m .5 }, m .6)
 
 module _ {l : Lists} {budget : ℕ} {before : List ℕ} {r s : Listed} {v w : List ℕ} where
   pub one-listed : Settled l budget before r v → Settled l budget before s w → Same r s v w

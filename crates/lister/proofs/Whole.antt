@@ -29,7 +29,8 @@ use Rattle.catalogue.proofs.Whole.{walked, meant}
 use Rattle.catalogue.proofs.Facts.{meant-unlimited}
 use Rattle.search.specs.declared.Found.{Found}
 use Rattle.levels.proofs.Going.{is-fixed}
-use Rattle.lister.specs.Begun.{nothing, BeginAsked, BeginPre, BeginPost}
+use Rattle.entry.specs.Begun.{BeginAsked, BeginPre, BeginPost}
+use Rattle.lister.specs.Answered.{nothing, whole}
 use Rattle.lister.specs.Listed.{Settled}
 
 -- the room of the code is the room of the rules
@@ -84,7 +85,7 @@ module _ (l : Lists) {r : Problem} (a : Answered l r) (budget : ℕ) (before : L
       begin-asked = record { some = (the a z .T, the a z .P, the a z .Q, the a z .es, the a z .cs, searched (the a z .poses)) }
 
       pub list-done : {f : Found} {after : List ℕ} → BeginPost (l .label) (l .size) M tables budget room width before f after
-          → Settled l budget before (record { code = 0; ending = f .ending; records = f .records; tries = f .tries }) after
+          → Settled l budget before (whole f) after
       list-done {f} {after} post =
           record {
             code = codes-high l accept 0 (the a z) refl;

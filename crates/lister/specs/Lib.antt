@@ -1,4 +1,3 @@
-pub mod Begun
+pub mod Answered
 pub mod Listed
 pub mod Page
-pub mod Resumed

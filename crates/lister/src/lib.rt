@@ -1,17 +1,16 @@
 // The lister of matchers: checks the problem, and lists every matcher once, in order, as far as room and budget go.
 ghost use mathlib.Core.Path.{_≡_};
 ghost use Rattle.catalogue.proofs.Back.{fitting};
-ghost use Rattle.lister.specs.Begun.{nothing, BeginPre, BeginPost};
+ghost use Rattle.lister.specs.Answered.{nothing, whole, NoPage};
 ghost use Rattle.lister.specs.Listed.{Settled};
 ghost use Rattle.lister.specs.Page.{PageSettled};
-ghost use Rattle.lister.specs.Resumed.{ResumePre, ResumePost, NoPage};
 ghost use Rattle.record.specs.Pairs.{RecordPre};
+use entry::Paged;
+use entry::begin;
+use entry::resume;
 use meaning::codes::NO_MATCHER;
 use meaning::codes::RECORD;
-use meaning::endings::ALL;
-use meaning::endings::ROOM;
 use search::Found;
-use search::Limits;
 
 // What the lister answers; all but the code are 0 in a refusal.
 pub struct Listed {
@@ -33,62 +32,23 @@ fn refused(code: u32) -> Listed
     }
 }
 
+// What the search comes to, of lists that are accepted.
+fn accepted(found: Found) -> Listed
+    ensures { λ r. ⌜ r ≡ whole found ⌝ }
+{
+    Listed {
+        code: 0,
+        ending: found.ending,
+        records: found.records,
+        tries: found.tries,
+    }
+}
+
 // How many records of a width fit into a list; where they have no numbers, the only one there can be.
 fn room_for(n: usize, width: usize) -> usize
     ensures { λ r. ⌜ r ≡ fitting n width ⌝ }
 {
     if width == 0 { 1 } else { n / width }
-}
-
-// The search from its first walk on, before any choice.
-fn begin(
-    label: &[u32],
-    size: &[u32],
-    pattern: &[u32; 1536],
-    tables: &[u64; 320],
-    budget: u32,
-    room: usize,
-    width: usize,
-    out: &mut [u32],
-) -> Found
-    requires { ⌜ BeginPre (now label) (now size) (now pattern) (now tables) room width (now out) ⌝ }
-    ensures { λ r. ⌜ BeginPost (now (label .entry)) (now (size .entry)) (now (pattern .entry)) (now (tables .entry)) budget room width (now (out .entry)) r (now (out .exit)) ⌝ }
-{
-    let mut record = [0u32; 32];
-    let mut at = [0usize; 256];
-    match walk::begin(label, size, pattern, &mut record, &mut at) {
-        walk::Out::Fail => search::ended(ALL, 0, 0),
-        walk::Out::Need(w) => {
-            let mut levels = [0usize; 1536];
-            let least = choice::least(pattern, w.place, w.start);
-            let values = choice::values(size, pattern, &at, w.place, w.start);
-            levels::enter(&mut levels, 0, w, least, values);
-            let limits = Limits {
-                budget,
-                room,
-                width,
-            };
-            search::go(
-                label,
-                size,
-                pattern,
-                tables,
-                limits,
-                &mut record,
-                &mut at,
-                &mut levels,
-                1,
-                out,
-            )
-        }
-        walk::Out::Ok(_) => {
-            if room == 0 {
-                return search::ended(ROOM, 0, 0);
-            }
-            search::put(out, 0, &record, width);
-            search::ended(ALL, 1, 0)
-        }
-    }
 }
 
 // Lists the matchers' records one after another into out, as many as room and budget allow.
@@ -144,68 +104,7 @@ pub fn list(
     walk::pack(kind, name, pattern_size, constraint, &mut packed);
     let width = variables + variables;
     let room = room_for(out.len(), width);
-    let found = begin(label, size, &packed, &tables, budget, room, width, out);
-    Listed {
-        code: 0,
-        ending: found.ending,
-        records: found.records,
-        tries: found.tries,
-    }
-}
-
-// What the search comes to from a record on, if it is that of a matcher.
-enum Paged {
-    NoMatcher,
-    Page(Found),
-}
-
-// The search from the levels that stand at a record.
-fn resume(
-    label: &[u32],
-    size: &[u32],
-    pattern: &[u32; 1536],
-    tables: &[u64; 320],
-    list: &[u32],
-    budget: u32,
-    room: usize,
-    width: usize,
-    out: &mut [u32],
-) -> Paged
-    requires { ⌜ ResumePre (now label) (now size) (now pattern) (now tables) (now list) room width (now out) ⌝ }
-    ensures { λ r. ⌜ ResumePost (now (label .entry)) (now (size .entry)) (now (pattern .entry)) (now (tables .entry)) (now (list .entry)) budget room width (now (out .entry)) (now (out .exit)) r ⌝ }
-{
-    let limits = Limits {
-        budget,
-        room,
-        width,
-    };
-    let mut record = [0u32; 32];
-    let mut at = [0usize; 256];
-    let mut levels = [0usize; 1536];
-    match page::reach(
-        label,
-        size,
-        pattern,
-        tables,
-        list,
-        &mut record,
-        &mut at,
-        &mut levels,
-    ) {
-        page::Reached::Nowhere => Paged::NoMatcher,
-        page::Reached::At(depth) => Paged::Page(search::go(
-            label,
-            size,
-            pattern,
-            tables,
-            limits,
-            &mut record,
-            &mut at,
-            &mut levels,
-            depth,
-            out,
-        )),
-    }
+    accepted(begin(label, size, &packed, &tables, budget, room, width, out))
 }
 
 // A record from which no page is taken: it is bad, or that of no matcher. The first is asked only here, since a matcher's is never bad.
@@ -291,11 +190,6 @@ pub fn list_after(
             let kinds = p.kinds;
             no_page(size, &kinds, variables, record)
         }
-        Paged::Page(found) => Listed {
-            code: 0,
-            ending: found.ending,
-            records: found.records,
-            tries: found.tries,
-        },
+        Paged::Page(found) => accepted(found),
     }
 }

@@ -1,9 +1,9 @@
 -- The way to a record, turn by turn, for every problem that the lists mean.
-use Prim.Native.Nat.{ℕ, suc, _+_, _-_, _<_, _≤_}
-use mathlib.Core.Path.{_≡_, refl, ap, _∙_, sym, subst}
+use Prim.Native.Nat.{ℕ, _+_, _<_, _≤_}
+use mathlib.Core.Path.{_≡_, refl, ap, _∙_}
 use mathlib.Core.Bool.{Bool, true, false}
 use mathlib.Core.List.{List}
-use lib.ListN.{length, getD, set, replicate, length-replicate}
+use lib.ListN.{length, set, replicate, length-replicate}
 use lib.Seq.{set-set}
 use native.Mathlib.Omega.{arith}
 use native.Mathlib.Numerals.{add-one}
@@ -14,8 +14,7 @@ use Rattle.meaning.specs.Order.{choices}
 use Rattle.meaning.proofs.Answers.{said-no}
 use Rattle.meaning.proofs.Tame.{count}
 use Rattle.expression.specs.Expression.{Expression}
-use Rattle.constraint.specs.Obeys.{Constraint, Allowed}
-use Rattle.constraint.proofs.Allowed.{allowed?}
+use Rattle.constraint.specs.Obeys.{Constraint}
 use Rattle.walk.specs.Cycle.{stop-at}
 use Rattle.walk.specs.Onward.{BeginPre, BeginPost}
 use Rattle.walk.specs.declared.Out.{Out}
@@ -23,15 +22,14 @@ use Rattle.walk.specs.declared.Out.the-variants as answer
 use Rattle.choice.proofs.Stops.{at-room}
 use Rattle.record.specs.Copied.{Copied}
 use Rattle.catalogue.proofs.Later.{later-start}
-use Rattle.levels.specs.Columns.{places, variables, starts, rows, nexts, lefts, Moved, Entered}
+use Rattle.levels.specs.Columns.{places, variables, starts, rows, nexts, lefts}
 use Rattle.levels.specs.Levels.{AttemptPre, AttemptPost}
 use Rattle.levels.specs.declared.Try.{Try}
 use Rattle.levels.proofs.Columns.{sixths-long}
 use Rattle.levels.proofs.First.{first-asked, first-marks, first-long, first-answered, first-asks}
 use Rattle.levels.proofs.Going.{Walked}
 use Rattle.levels.proofs.Pauses.{pauses-none}
-use Rattle.levels.proofs.Tried.{try-long}
-use Rattle.page.specs.Page.{ChoosePre, ChoosePost, beyond, value, ReachAsked, ReachPre, AtRecord, ReachPost, nowhere, reached}
+use Rattle.page.specs.Page.{ChoosePre, ChoosePost, beyond, value, ReachAsked, ReachPre, ReachPost, nowhere, reached}
 use Rattle.page.specs.declared.Chosen.{Chosen}
 use Rattle.page.specs.declared.Chosen.the-variants.{Beyond, Value}
 use Rattle.page.specs.declared.Reached.the-variants.{Nowhere, At}

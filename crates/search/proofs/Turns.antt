@@ -1,6 +1,6 @@
 -- The search's loop: what holds at each turn, for every problem that the lists mean.
 use Prim.Native.Nat.{ℕ, suc, _+_, _-_, _*_, _<_, _≤_}
-use mathlib.Core.Path.{_≡_, refl, ap, _∙_, sym, subst}
+use mathlib.Core.Path.{_≡_, refl, ap, _∙_, subst}
 use mathlib.Core.List.{List, []}
 use lib.ListN.{length, getD, take, set, length-set}
 use lib.Seq.{paste, set-set, getD-set-same}

@@ -89,7 +89,7 @@ pub extern "C" fn khargovsun_list_after(
     constraint: &[u32],
     record: &[u32],
     budget: u32,
-    out: &mut [u32],
+    page: &mut [u32],
 ) -> Listing
     ensures { λ r. ⌜ ListsAfter (record {
       label = now (label .entry);
@@ -101,7 +101,7 @@ pub extern "C" fn khargovsun_list_after(
       expressionName = now («expression_name» .entry);
       expressionSize = now («expression_size» .entry);
       constraint = now (constraint .entry);
-    }) (now («record» .entry)) budget (now (out .entry)) (r .code) (r .ending) (r .records) (r .tries) (now (out .exit)) ⌝ }
+    }) (now («record» .entry)) budget (now (page .entry)) (r .code) (r .ending) (r .records) (r .tries) (now (page .exit)) ⌝ }
 {
     answer::of_lister(lister::list_after(
         label,
@@ -115,7 +115,7 @@ pub extern "C" fn khargovsun_list_after(
         constraint,
         record,
         budget,
-        out,
+        page,
     ))
 }
 

@@ -1,19 +1,19 @@
 -- The walk with the choices of a record: each variable that is asked for takes its own second number.
-use Prim.Native.Nat.{ℕ, zero, suc, _+_, _-_, _*_, _<_, _≤_}
+use Prim.Native.Nat.{ℕ, suc, _+_, _-_, _*_, _<_, _≤_}
 use mathlib.Core.Path.{_≡_, refl, ap, _∙_, sym, subst}
 use mathlib.Core.Bool.{true, false}
 use mathlib.Core.List.{List, [], _∷_, _++_, append-assoc, append-nil}
-use lib.ListN.{length, getD, take, length-append}
+use lib.ListN.{length, getD, length-append}
 use native.Mathlib.Omega.{arith}
 use native.Mathlib.Decide.{decLe}
 use Rattle.meaning.specs.Forest.{none, Term, _◂_}
-use Rattle.meaning.specs.Pattern.{Pattern, Kind, anIndividual, aSequence, aFunction, aContext, old, look}
+use Rattle.meaning.specs.Pattern.{Pattern, Kind}
 use Rattle.meaning.specs.Record.{numbers}
 use Rattle.meaning.specs.Order.{choices}
 use Rattle.meaning.proofs.Walk.{Res, fail, over, when, walkT, walk}
 use Rattle.meaning.proofs.Resume.{least, largest, then-done}
 use Rattle.meaning.proofs.Next.{Any, any?}
-use Rattle.meaning.proofs.Tame.{count, choices-few, numbers-double, tame-ok, tame-need}
+use Rattle.meaning.proofs.Tame.{choices-few, numbers-double, tame-ok, tame-need}
 use Rattle.meaning.proofs.Steps.{values-length}
 use Rattle.record.proofs.Each.{good-long}
 use Rattle.variable.proofs.States.{count-bound}

@@ -53,17 +53,21 @@ begin-requires c κs =
     let z = accepted t in
     begin-asked _ (z .before .check .ensures) 0 _ (z .if1 .left) (t .tables-of .ensures) (k .pack .ensures) refl (w .room-for .ensures)
 
+accepted-requires : tie.Need-accepted-requires
+accepted-requires c κs = search needs
+
 same-length : tie.Need-same-length
 same-length c = search needs
 
 returns-2 : tie.Need-returns-2
 returns-2 c =
-    let w = c .before .before .before .before .before .before in
+    let w = c .before .before .before .before .before .before .before in
     let k = w .before .before in
     let t = tabled k in
     let z = accepted t in
-    list-done _ (z .before .check .ensures) _ _ (z .if1 .left) (t .tables-of .ensures) (k .pack .ensures) refl (w .room-for .ensures)
-    (c .before .before .begin .ensures)
+    rw (c .accepted .ensures)
+    (list-done _ (z .before .check .ensures) _ _ (z .if1 .left) (t .tables-of .ensures) (k .pack .ensures) refl (w .room-for .ensures)
+    (c .before .before .before .begin .ensures))
 
 pub list-spec : {M : Type 1} → statement M
 list-spec =
@@ -78,5 +82,6 @@ list-spec =
     add-width
     room-for-requires
     begin-requires
+    accepted-requires
     same-length
     returns-2)

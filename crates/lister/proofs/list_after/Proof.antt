@@ -77,6 +77,9 @@ no-page-requires c κs =
 enum-known-found : tie.Need-enum-known-found
 enum-known-found c = search needs
 
+accepted-requires : tie.Need-accepted-requires
+accepted-requires c κs = search needs
+
 same-length : tie.Need-same-length
 same-length c = search needs
 
@@ -95,13 +98,14 @@ same-length-2 c = search needs
 
 returns-4 : tie.Need-returns-4
 returns-4 c =
-    let r = c .before .before .before .before .before in
+    let r = c .before .before .before .before .before .before in
     let k = packed r in
     let t = tabled k in
     let e = measured t in
     let z = e .before in
-    page-done _ (z .before .check .ensures) _ _ _ (z .if1 .left) (e .if2 .left) (t .tables-of .ensures) (k .pack .ensures) refl (r .before .before .before .before .room-for .ensures)
-    (r .resume .ensures) (c .before .found .given .1)
+    rw (c .accepted .ensures)
+    (page-done _ (z .before .check .ensures) _ _ _ (z .if1 .left) (e .if2 .left) (t .tables-of .ensures) (k .pack .ensures) refl (r .before .before .before .before .room-for .ensures)
+    (r .resume .ensures) (c .before .before .found .given .1))
 
 pub list-after-spec : {M : Type 1} → statement M
 list-after-spec =
@@ -121,6 +125,7 @@ list-after-spec =
     enum-told
     no-page-requires
     enum-known-found
+    accepted-requires
     same-length
     returns-3
     same-length-2

@@ -1,14 +1,12 @@
 -- Not needed to believe the promise: what the search asks and answers from a record on.
 use Prim.Native.Nat.{ℕ, _+_, _*_, _≤_}
 use mathlib.Core.Path.{_≡_}
-use mathlib.Core.Bool.{true, false}
 use mathlib.Core.List.{List, _∷_}
 use lib.ListN.{length}
 use Rattle.meaning.specs.Forest.{Term}
 use Rattle.meaning.specs.Pattern.{Pattern, Kind}
 use Rattle.meaning.specs.Record.{IsRecord}
 use Rattle.meaning.specs.Order.{choices}
-use Rattle.record.specs.Pairs.{RecordPost}
 use Rattle.expression.specs.Expression.{Expression}
 use Rattle.constraint.specs.Obeys.{Constraint, Allowed}
 use Rattle.constraint.proofs.Allowed.{allowed?}
@@ -18,10 +16,8 @@ use Rattle.catalogue.proofs.Later.{Later}
 use Rattle.catalogue.proofs.Whole.{all}
 use Rattle.page.specs.Page.{ReachAsked}
 use Rattle.search.specs.declared.Found.{Found}
-use Rattle.lister.specs.Begun.{nothing}
-use Rattle.lister.specs.declared.Listed.{Listed}
-use Rattle.lister.specs.declared.Paged.{Paged}
-use Rattle.lister.specs.declared.Paged.the-variants.{NoMatcher, Page}
+use Rattle.entry.specs.declared.Paged.{Paged}
+use Rattle.entry.specs.declared.Paged.the-variants.{NoMatcher, Page}
 
 pub record ResumeAsked (L S M tables list : List ℕ) (room width : ℕ) (before : List ℕ)
     (T : Term) (P : Pattern) (Q : List Kind) (es : List Expression) (cs : List Constraint) : Type 0 where
@@ -48,8 +44,3 @@ pub data ResumePost (L S M tables list : List ℕ) (budget room width : ℕ) (be
   from-there : {f : Found}
       → ((T : Term) (P : Pattern) (Q : List Kind) (es : List Expression) (cs : List Constraint) (a : ResumeAsked L S M tables list room width before T P Q es cs) → Resumes list budget room width before (a .asked) f after)
       → ResumePost L S M tables list budget room width before after (Page f)
-
--- which of the two a record is from which no page is taken
-pub data NoPage (S kinds : List ℕ) (variables : ℕ) (list : List ℕ) : Listed → Type 0 where
-  bad : RecordPost S kinds variables list false → NoPage S kinds variables list (nothing 15)
-  of-none : RecordPost S kinds variables list true → NoPage S kinds variables list (nothing 20)

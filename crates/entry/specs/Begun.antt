@@ -14,11 +14,6 @@ use Rattle.catalogue.proofs.Fill.{fill}
 use Rattle.catalogue.proofs.Whole.{walked}
 use Rattle.levels.specs.Levels.{Search}
 use Rattle.search.specs.declared.Found.{Found}
-use Rattle.lister.specs.declared.Listed.{Listed}
-
--- a refusal by a code
-abbrev pub nothing : ℕ → Listed
-nothing code = record { code = code; ending = 0; records = 0; tries = 0 }
 
 pub record BeginAsked (L S M tables : List ℕ) (room width : ℕ) (before : List ℕ)
     (T : Term) (P : Pattern) (Q : List Kind) (es : List Expression) (cs : List Constraint) : Type 0 where

@@ -14,8 +14,8 @@ use Rattle.page.specs.declared.Reached.{Reached}
 use Rattle.page.specs.declared.Reached.the-variants.{Nowhere, At}
 use Rattle.search.specs.Search.{GoAsked, GoPre, GoPost}
 use Rattle.search.specs.declared.Found.{Found}
-use Rattle.lister.specs.Resumed.{ResumeAsked, ResumePre, ResumePost, not-there, from-there}
-use Rattle.lister.specs.declared.Paged.the-variants.{NoMatcher, Page}
+use Rattle.entry.specs.Resumed.{ResumeAsked, ResumePre, ResumePost, not-there, from-there}
+use Rattle.entry.specs.declared.Paged.the-variants.{NoMatcher, Page}
 
 module _ {L S M tables list : List ℕ} {room width : ℕ} {before : List ℕ} where
   pub reach-asked : {R A W : List ℕ} → ResumePre L S M tables list room width before → length R ≡ 32 → length A ≡ 256 → length W ≡ 1536 → ReachPre L S M tables list R A W

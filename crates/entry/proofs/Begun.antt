@@ -34,7 +34,7 @@ use Rattle.levels.proofs.First.{first-asked, first-marks, first-long, first-ans
 use Rattle.levels.proofs.Pauses.{pauses-none}
 use Rattle.levels.specs.Columns.{places, variables, starts, rows, nexts, lefts, Entered}
 use Rattle.levels.proofs.Columns.{first-level}
-use Rattle.lister.specs.Begun.{BeginAsked, BeginPre, BeginPost}
+use Rattle.entry.specs.Begun.{BeginAsked, BeginPre, BeginPost}
 
 -- the first walk was made: its answer o, the record R′ and the rows A′
 pub record Begun (L S M tables : List ℕ)

@@ -1,13 +1,13 @@
-use Rattle.lister.proofs.Begun.{Begun, walk-asked, begun-fail, begun-full, begun-put, begun-done, at-stop, need-room, go-asked, begun-need}
+use Rattle.entry.proofs.Begun.{Begun, walk-asked, begun-fail, begun-full, begun-put, begun-done, at-stop, need-room, go-asked, begun-need}
 use lib.ListN.{replicate, length-replicate}
 use native.Mathlib.Omega.{arith}
 use mathlib.Core.Path.{refl, _∙_}
 use Prim.Native.Nat.{ℕ}
 use borrow.Author.Needs.{needs}
-use Rattle.lister.proofs.begin.Statement.{statement}
-use Rattle.lister.proofs.begin.Tie as tie
-use Rattle.lister.proofs.begin.Reads as reads
-use Rattle.lister.proofs.begin.Lts as lts
+use Rattle.entry.proofs.begin.Statement.{statement}
+use Rattle.entry.proofs.begin.Tie as tie
+use Rattle.entry.proofs.begin.Reads as reads
+use Rattle.entry.proofs.begin.Lts as lts
 use Rattle.choice.proofs.least.Reads as least-reads
 use Rattle.choice.proofs.values.Reads as values-reads
 use Rattle.levels.proofs.enter.Reads as enter-reads

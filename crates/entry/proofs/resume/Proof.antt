@@ -3,9 +3,9 @@ use mathlib.Core.Path.{refl}
 use lib.ListN.{length-replicate}
 use native.Mathlib.Omega.{arith}
 use borrow.Author.Needs.{needs}
-use Rattle.lister.proofs.Resumed.{reach-asked, resumed-nowhere, arrived, resumed-asked, resumed-page}
-use Rattle.lister.proofs.resume.Statement.{statement}
-use Rattle.lister.proofs.resume.Tie as tie
+use Rattle.entry.proofs.Resumed.{reach-asked, resumed-nowhere, arrived, resumed-asked, resumed-page}
+use Rattle.entry.proofs.resume.Statement.{statement}
+use Rattle.entry.proofs.resume.Tie as tie
 
 reach-requires : tie.Need-reach-requires
 reach-requires c κs = reach-asked (c .before .before .before .before .before .before .before .pre) refl refl (length-replicate {A = ℕ} 1536 0)
