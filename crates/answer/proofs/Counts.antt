@@ -1,5 +1,5 @@
 -- The two counts that the exports narrow fit 32 bits: the lister's records and the instance maker's rows.
-use Prim.Native.Nat.{ℕ, zero, suc, _+_, _≤_, _<_, zero-le}
+use Prim.Native.Nat.{ℕ, zero, suc, _+_, _/_, _≤_, _<_, zero-le}
 use mathlib.Core.Path.{_≡_, ap, sym, subst}
 use mathlib.Core.Logic.{inl, inr}
 use mathlib.Core.Bool.{Bool, true, false}
@@ -122,7 +122,8 @@ page-few A a? {list = list} {x = x} k n many low [] g i m =
 page-few A a? {T = T} {budget = budget} k n many low (q ∷ Q) g i m =
     let e = at-record A a? g T i in
     let all : Paced true (events (walked A a? g T) (count (q ∷ Q)) []) = rw append-nil at (events-paced (walked A a? g T) (count (q ∷ Q)) [] [] ended) in
-    rw (one-page m (page-meant A a? g T (e .1) budget _)) (omega (arith, run-few (paced-behind (e .1 .passed) (e .0) _ _ (rw (e .1 .is) at all)) budget _))
+    let paced = paced-behind (e .1 .passed) (e .0) _ _ (rw (e .1 .is) at all) in
+    rw (one-page m (page-meant A a? g T (e .1) budget _)) (omega (arith, run-few paced budget (n / (suc (length Q) + suc (length Q)))))
 
 pub page-records-fit : {l : problem.Lists} {list : List ℕ} {budget : ℕ} {before : List ℕ} {r : Listed} {new : List ℕ} → budget < 4294967296 → page.PageSettled l list budget before r new → r .records < 4294967296
 page-records-fit {l} {list} {budget} {before} {r} low s = go (ℕ-discrete (r .code) 0)
