@@ -57,6 +57,12 @@ in-room {A} a? {P} {T} {list} {budget} {x} n Q g = by-room (λ (r : Room). PageM
     all-room [] g e m = page-unlimited a? g m
     all-room (k ∷ Q) g e m = absurd (omega (arith, ap length e))
 
+-- the record of a matcher is good, and so it is not refused
+pub record-accepted : {l : Lists} {T : Term} {P : Pattern} {Q : List Kind} {es : List Expression} {cs : List Constraint} {list : List ℕ} → Poses l T P Q es cs → IsRecord (Allowed cs) Q P T list → RecordCodes l list 0
+record-accepted {T = T} {P} {Q} {es} {cs} w i =
+    let m = matcher-means (Allowed cs) (allowed? cs) (w .rest .pattern .numbered) (i .solves) in
+    inr ((T, P, Q, i .matcher, w .tree, w .rest .pattern, rw (i .its) at m), inr ((T, P, Q, es, cs, w, i), refl))
+
 module _ (l : Lists) {r : Problem} (a : Answered l r) (list : List ℕ) (budget : ℕ) (before : List ℕ) where
   pub page-refused : (r .code ≡ 0 → ⊥) → PageSettled l list budget before (nothing (r .code)) before
   page-refused n = record { code = codes-low l (RecordCodes l list) (r .code) n (a .code); listed = λ e. absurd (n e); refused = λ e. (refl, refl, refl, refl) }
@@ -108,17 +114,11 @@ module _ (l : Lists) {r : Problem} (a : Answered l r) (list : List ℕ) (budget 
             → PageSettled l list budget before (whole f) after
         page-done resumed e = go (rw e at resumed)
           where
-            -- the record of a matcher is good
-            taken : {T : Term} {P : Pattern} {Q : List Kind} {es : List Expression} {cs : List Constraint} → Poses l T P Q es cs → IsRecord (Allowed cs) Q P T list → RecordCodes l list 0
-            taken {T} {P} {Q} {es} {cs} w i =
-                let m = matcher-means (Allowed cs) (allowed? cs) (w .rest .pattern .numbered) (i .solves) in
-                inr ((T, P, Q, i .matcher, w .tree, w .rest .pattern, rw (i .its) at m), inr ((T, P, Q, es, cs, w, i), refl))
-
             go : {f : Found} → ResumePost (l .label) (l .size) M tables list budget room width before after (Page f)
                 → PageSettled l list budget before (whole f) after
             go {f} (from-there each) =
                 record {
-                  code = let p = the a z in codes-high l (RecordCodes l list) 0 p (taken (p .poses) (each (p .T) (p .P) (p .Q) (p .es) (p .cs) (asked (p .poses)) .is-record));
+                  code = let p = the a z in codes-high l (RecordCodes l list) 0 p (record-accepted (p .poses) (each (p .T) (p .P) (p .Q) (p .es) (p .cs) (asked (p .poses)) .is-record));
                   listed = λ e T P Q es cs w.
                       let b = asked w in
                       let s = b .asked .search in

@@ -10,7 +10,6 @@ use Rattle.meaning.specs.Forest.{Term}
 use Rattle.meaning.specs.Pattern.{Pattern, Kind}
 use Rattle.meaning.specs.Record.{IsRecord}
 use Rattle.meaning.specs.Order.{seconds, choices, Mem}
-use Rattle.meaning.proofs.Means.{matcher-means}
 use Rattle.constraint.specs.Obeys.{Constraint, Allowed}
 use Rattle.constraint.proofs.Allowed.{allowed?}
 use Rattle.expression.specs.Expression.{Expression}
@@ -26,6 +25,7 @@ use Rattle.catalogue.proofs.Beyond.{beyond-cut, place-beyond}
 use Rattle.catalogue.proofs.Pages.{page-leading, page-whole, page-lengthens, page-tries-bound, solutions-follow, tries-follow, no-tries}
 use Rattle.lister.specs.Page.{RecordCodes, PageCodes}
 use Rattle.lister.specs.declared.Listed.{Listed}
+use Rattle.lister.proofs.Pages.{record-accepted}
 use Rattle.lister.proofs.Unique.{one-page-code}
 use Rattle.promises.specs.Pages.{PageIs, LastIs, TurnedFrom, last-page, next-page, Turned, only-page, first-page, Pages}
 use Rattle.promises.proofs.Lists.{no-records}
@@ -33,10 +33,7 @@ use Rattle.promises.proofs.Lists.{no-records}
 -- the record of a matcher is not refused
 accepted : {l : Lists} {T : Term} {P : Pattern} {Q : List Kind} {es : List Expression} {cs : List Constraint} {s : List ℕ} {c : ℕ} → Poses l T P Q es cs → IsRecord (Allowed cs) Q P T s → PageCodes l s c → c ≡ 0
 accepted {l} {T} {P} {Q} {es} {cs} {s} {c} w m o =
-    let g = w .rest .pattern in
-    let x = rw (m .its) at (matcher-means (Allowed cs) (allowed? cs) (g .numbered) (m .solves)) in
-    one-page-code l s c 0 o
-    (codes-high l (RecordCodes l s) 0 (record { T = T; P = P; Q = Q; es = es; cs = cs; poses = w }) (inr ((T, P, Q, m .matcher, w .tree, g, x), inr ((T, P, Q, es, cs, w, m), refl))))
+    one-page-code l s c 0 o (codes-high l (RecordCodes l s) 0 (record { T = T; P = P; Q = Q; es = es; cs = cs; poses = w }) (record-accepted w m))
 
 -- what is added to a list and leaves it as it is
 nothing-added : (rs more : List (List ℕ)) → rs ≡ rs ++ more → more ≡ []

@@ -6,15 +6,6 @@ use Prim.Native.Nat.{ℕ}
 use borrow.Author.Needs.{needs}
 use Rattle.entry.proofs.begin.Statement.{statement}
 use Rattle.entry.proofs.begin.Tie as tie
-use Rattle.entry.proofs.begin.Reads as reads
-use Rattle.entry.proofs.begin.Lts as lts
-use Rattle.choice.proofs.least.Reads as least-reads
-use Rattle.choice.proofs.values.Reads as values-reads
-use Rattle.levels.proofs.enter.Reads as enter-reads
-use Rattle.search.proofs.ended.Reads as ended-reads
-use Rattle.search.proofs.go.Reads as go-reads
-use Rattle.search.proofs.put.Reads as put-reads
-use Rattle.walk.proofs.begin.Reads as begin-reads
 
 -- the first walk, from a record of zeros
 begun : (c : tie.After-begin) →

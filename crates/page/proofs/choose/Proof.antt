@@ -2,7 +2,6 @@ use Prim.Native.Nat.{ℕ, suc, _+_, _-_, _<_, _≤_}
 use mathlib.Core.Path.{_≡_, _∙_}
 use native.Mathlib.Omega.{arith}
 use Rattle.page.specs.Page.{beyond, value}
-use borrow.Author.Needs.{needs}
 use Rattle.page.proofs.choose.Statement.{statement}
 use Rattle.page.proofs.choose.Tie as tie
 

@@ -1,13 +1,10 @@
 use Prim.Native.Nat.{_-_}
-use mathlib.Core.Path.{_∙_, subst}
+use mathlib.Core.Path.{_∙_}
 use native.Mathlib.Omega.{arith}
 use Rattle.paths.proofs.Read as paths
 use Rattle.memory.proofs.Numbers.{blank}
 use Rattle.memory.specs.Memory.{Both}
 use Rattle.walk.specs.Packed.{rootOf}
-use Rattle.page.specs.Page.{ChoosePost}
-use Rattle.page.specs.declared.Chosen.{Chosen}
-use Rattle.page.specs.declared.Chosen.the-variants.{Value}
 use Rattle.levels.proofs.Tried.{try-long}
 use Rattle.page.proofs.Reaching.{Standing, reach-begins, reach-first, reach-fails, reach-other, reach-found, reach-short, reach-deep, reach-chooses, reach-beyond, reach-tries, reach-again}
 use borrow.Author.Needs.{needs}
