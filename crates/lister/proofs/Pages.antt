@@ -42,7 +42,7 @@ use Rattle.search.specs.declared.Found.{Found}
 use Rattle.levels.proofs.Going.{is-fixed}
 use Rattle.lister.specs.Page.{RecordCodes, PageSettled}
 use Rattle.entry.specs.Resumed.{ResumeAsked, ResumePre, ResumePost, not-there, from-there}
-use Rattle.lister.specs.Answered.{nothing, whole, NoPage, bad, of-none}
+use Rattle.lister.specs.Inside.{nothing, whole, NoPage, bad, of-none}
 use Rattle.lister.specs.declared.Listed.{Listed}
 use Rattle.entry.specs.declared.Paged.{Paged}
 use Rattle.entry.specs.declared.Paged.the-variants.{NoMatcher, Page}

@@ -30,7 +30,7 @@ use Rattle.catalogue.proofs.Facts.{meant-unlimited}
 use Rattle.search.specs.declared.Found.{Found}
 use Rattle.levels.proofs.Going.{is-fixed}
 use Rattle.entry.specs.Begun.{BeginAsked, BeginPre, BeginPost}
-use Rattle.lister.specs.Answered.{nothing, whole}
+use Rattle.lister.specs.Inside.{nothing, whole}
 use Rattle.lister.specs.Listed.{Settled}
 
 -- the room of the code is the room of the rules

@@ -1,3 +1,3 @@
-pub mod Answered
+pub mod Inside
 pub mod Listed
 pub mod Page

@@ -1,7 +1,7 @@
 // The lister of matchers: checks the problem, and lists every matcher once, in order, as far as room and budget go.
 ghost use mathlib.Core.Path.{_≡_};
 ghost use Rattle.catalogue.proofs.Back.{fitting};
-ghost use Rattle.lister.specs.Answered.{nothing, whole, NoPage};
+ghost use Rattle.lister.specs.Inside.{nothing, whole, NoPage};
 ghost use Rattle.lister.specs.Listed.{Settled};
 ghost use Rattle.lister.specs.Page.{PageSettled};
 ghost use Rattle.record.specs.Pairs.{RecordPre};

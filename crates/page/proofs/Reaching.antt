@@ -25,18 +25,18 @@ use Rattle.catalogue.proofs.Later.{later-start}
 use Rattle.levels.specs.Columns.{places, variables, starts, rows, nexts, lefts}
 use Rattle.levels.specs.Levels.{AttemptPre, AttemptPost}
 use Rattle.levels.specs.declared.Try.{Try}
-use Rattle.levels.proofs.Columns.{sixths-long}
+use Rattle.levels.proofs.Columns.{columns-long}
 use Rattle.levels.proofs.First.{first-asked, first-marks, first-long, first-answered, first-asks}
 use Rattle.levels.proofs.Going.{Walked}
 use Rattle.levels.proofs.Pauses.{pauses-none}
-use Rattle.page.specs.Page.{ChoosePre, ChoosePost, beyond, value, ReachAsked, ReachPre, ReachPost, nowhere, reached}
+use Rattle.page.specs.Page.{ChoosePre, ChoosePost, outside, value, ReachAsked, ReachPre, ReachPost, nowhere, reached}
 use Rattle.page.specs.declared.Chosen.{Chosen}
 use Rattle.page.specs.declared.Chosen.the-variants.{Beyond, Value}
 use Rattle.page.specs.declared.Reached.the-variants.{Nowhere, At}
-use Rattle.page.proofs.Standing.{Stood, stood-fails, stood-other, stood-record, stood-later, stood-stop, stood-deep, stood-read, stood-beyond, stood-landing, stood-further, stood-attempt, stood-tried}
+use Rattle.page.proofs.Stood.{Stood, stood-fails, stood-other, stood-record, stood-later, stood-stop, stood-deep, stood-read, stood-beyond, stood-landing, stood-further, stood-attempt, stood-tried}
 
 -- at the loop's head
-pub record Standing (L S M tables list R A W : List ℕ) (o : Out) (depth : ℕ) : Type 0 where
+pub record OnTheWay (L S M tables list R A W : List ℕ) (o : Out) (depth : ℕ) : Type 0 where
   pub record-long : length R ≡ 32
   pub levels-long : length W ≡ 1536
   pub each : {T : Term} {P : Pattern} {Q : List Kind} {es : List Expression} {cs : List Constraint} (a : ReachAsked L S M tables list T P Q es cs)
@@ -46,7 +46,7 @@ module _ {L S M tables list R A W : List ℕ} (pre : ReachPre L S M tables list 
   pub reach-begins : BeginPre L S M R A
   reach-begins = let s = pre .some in record { some = (s .0, s .1, s .2, first-asked (s .5 .search) (pre .record-long) (pre .rows-long)) }
 
-  pub reach-first : {o : Out} {R′ A′ : List ℕ} → BeginPost L S M R A o R′ A′ → Standing L S M tables list R′ A′ W o 0
+  pub reach-first : {o : Out} {R′ A′ : List ℕ} → BeginPost L S M R A o R′ A′ → OnTheWay L S M tables list R′ A′ W o 0
   reach-first {o} {R′} {A′} b =
       record {
         record-long = first-long (pre .some .5 .search) (pre .record-long) (pre .rows-long) b;
@@ -68,7 +68,7 @@ module _ {L S M tables list R A W : List ℕ} (pre : ReachPre L S M tables list 
             };
       }
 
-module _ {L S M tables list R A W : List ℕ} {o : Out} {depth : ℕ} (t : Standing L S M tables list R A W o depth) where
+module _ {L S M tables list R A W : List ℕ} {o : Out} {depth : ℕ} (t : OnTheWay L S M tables list R A W o depth) where
   pub reach-fails : o ≡ answer.Fail → ReachPost L S M tables list R A W Nowhere
   reach-fails e = nowhere (λ T P Q es cs a i. stood-fails a (t .each a) e i)
 
@@ -114,8 +114,8 @@ module _ {L S M tables list R A W : List ℕ} {o : Out} {depth : ℕ} (t : Stand
             room = at-room k .1;
             read = stood-read a s e;
             asked = λ lo m v left low values small high. (
-              stood-landing a s e low values (sixths-long 256 0 W) (sixths-long 256 1 W) (sixths-long 256 2 W) (sixths-long 256 3 W) (sixths-long 256 4 W) (sixths-long 256 5 W) left small high,
-              λ u landing. stood-further a s e low values (sixths-long 256 0 W) (sixths-long 256 1 W) (sixths-long 256 2 W) (sixths-long 256 3 W) (sixths-long 256 4 W) (sixths-long 256 5 W) left small high landing,
+              stood-landing a s e low values (columns-long W) left small high,
+              λ u landing. stood-further a s e low values (columns-long W) left small high landing,
             );
           }
 
@@ -124,19 +124,19 @@ module _ {L S M tables list R A W : List ℕ} {o : Out} {depth : ℕ} (t : Stand
       reach-beyond post h = go (rw h at post)
         where
           go : {R′ A′ W″ : List ℕ} → ChoosePost S M A W list depth p x s W′ Beyond → ReachPost L S M tables list R′ A′ W″ Nowhere
-          go (beyond low values out) =
+          go (outside low values out) =
               nowhere
               (λ T P Q es cs a i.
-              stood-beyond a (t .each a) e low values (sixths-long 256 0 W) (sixths-long 256 1 W) (sixths-long 256 2 W) (sixths-long 256 3 W) (sixths-long 256 4 W) (sixths-long 256 5 W) out i)
+              stood-beyond a (t .each a) e low values (columns-long W) out i)
 
       -- the level stands behind the value that is tried
       pub reach-tries : {v : Try} → ChoosePost S M A W list depth p x s W′ (Value v) → {T : Term} {P : Pattern} {Q : List Kind} {es : List Expression} {cs : List Constraint} → ReachAsked L S M tables list T P Q es cs
           → AttemptPre L S M tables R A (v .p) (v .x) (v .s) (v .u) (v .v)
       reach-tries (value {left = left} low values ev small high landing further entered moved) a =
-          stood-attempt a (t .each a) e low values (sixths-long 256 0 W) (sixths-long 256 1 W) (sixths-long 256 2 W) (sixths-long 256 3 W) (sixths-long 256 4 W) (sixths-long 256 5 W) left small high landing (t .record-long)
+          stood-attempt a (t .each a) e low values (columns-long W) left small high landing (t .record-long)
 
       pub reach-again : {v : Try} {o′ : Out} {R′ A′ : List ℕ} → ChoosePost S M A W list depth p x s W′ (Value v) → length R′ ≡ 32 → AttemptPost L S M tables R A (v .p) (v .x) (v .s) (v .u) (v .v) o′ R′ A′
-          → Standing L S M tables list R′ A′ W′ o′ (depth + 1)
+          → OnTheWay L S M tables list R′ A′ W′ o′ (depth + 1)
       reach-again (value {v = v} {row = row} {left = left} low values ev small high landing further entered moved) long post =
           record {
             record-long = long;
@@ -151,5 +151,5 @@ module _ {L S M tables list R A W : List ℕ} {o : Out} {depth : ℕ} (t : Stand
                   moved .new-lefts ∙ ap (λ (c : List ℕ). set c depth left) (entered .new-lefts) ∙ set-set (lefts W) depth _ left,
                   add-one depth,
                 )
-                (stood-tried a (t .each a) e low values (sixths-long 256 0 W) (sixths-long 256 1 W) (sixths-long 256 2 W) (sixths-long 256 3 W) (sixths-long 256 4 W) (sixths-long 256 5 W) left small high landing (t .record-long) ev further post);
+                (stood-tried a (t .each a) e low values (columns-long W) left small high landing (t .record-long) ev further post);
           }

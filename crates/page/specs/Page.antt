@@ -35,7 +35,7 @@ pub record ChoosePre (S M A W list : List ℕ) (d p x s : ℕ) : Type 0 where
 
 -- the second number that the record has for it is none of its values; or its level stands behind this one
 pub data ChoosePost (S M A W list : List ℕ) (d p x s : ℕ) (W′ : List ℕ) : Chosen → Type 0 where
-  beyond : {lo n : ℕ} → LeastPost M p s lo → ValuesPost S M A p s n → (lo ≤ getD list (x + x + 1) 0 → getD list (x + x + 1) 0 < lo + n → ⊥) → ChoosePost S M A W list d p x s W′ Beyond
+  outside : {lo n : ℕ} → LeastPost M p s lo → ValuesPost S M A p s n → (lo ≤ getD list (x + x + 1) 0 → getD list (x + x + 1) 0 < lo + n → ⊥) → ChoosePost S M A W list d p x s W′ Beyond
   value : {lo n u v row left : ℕ} {W₁ : List ℕ} → LeastPost M p s lo → ValuesPost S M A p s n → v ≡ getD list (x + x + 1) 0 → lo ≤ v → v + suc left ≡ lo + n
       → LandingPost S M p s v u → FurtherPost S M p u left row → Entered W d p x s lo n W₁ → Moved W₁ d row (v + 1) left W′
       → ChoosePost S M A W list d p x s W′ (Value (record { p = p; x = x; s = s; u = u; v = v; left = left; failed = 0 }))

@@ -1,5 +1,5 @@
 use borrow.Author.Needs.{needs}
-use Rattle.lister.specs.Answered.{bad, of-none}
+use Rattle.lister.specs.Inside.{bad, of-none}
 use Rattle.lister.proofs.no_page.Statement.{statement}
 use Rattle.lister.proofs.no_page.Tie as tie
 

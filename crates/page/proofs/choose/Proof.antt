@@ -1,7 +1,7 @@
 use Prim.Native.Nat.{ℕ, suc, _+_, _-_, _<_, _≤_}
 use mathlib.Core.Path.{_≡_, _∙_}
 use native.Mathlib.Omega.{arith}
-use Rattle.page.specs.Page.{beyond, value}
+use Rattle.page.specs.Page.{outside, value}
 use Rattle.page.proofs.choose.Statement.{statement}
 use Rattle.page.proofs.choose.Tie as tie
 
@@ -25,10 +25,10 @@ values-requires : tie.Need-values-requires
 values-requires c κs = c .before .before .before .before .pre .stop
 
 returns : tie.Need-returns
-returns c = beyond (c .before .before .least .ensures) (c .before .values .ensures) (λ l h. omega (arith, c .before .before .before .at .ensures .0, c .if1 .taken))
+returns c = outside (c .before .before .least .ensures) (c .before .values .ensures) (λ l h. omega (arith, c .before .before .before .at .ensures .0, c .if1 .taken))
 
 returns-2 : tie.Need-returns-2
-returns-2 c = beyond (c .before .before .before .least .ensures) (c .before .before .values .ensures) (λ l h. omega (arith, c .before .before .before .before .at .ensures .0, c .if2 .taken))
+returns-2 c = outside (c .before .before .before .least .ensures) (c .before .before .values .ensures) (λ l h. omega (arith, c .before .before .before .before .at .ensures .0, c .if2 .taken))
 
 sub-left : tie.Need-sub-left
 sub-left c = omega (arith, c .if2 .left)

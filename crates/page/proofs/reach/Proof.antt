@@ -6,14 +6,14 @@ use Rattle.memory.proofs.Numbers.{blank}
 use Rattle.memory.specs.Memory.{Both}
 use Rattle.walk.specs.Packed.{rootOf}
 use Rattle.levels.proofs.Tried.{try-long}
-use Rattle.page.proofs.Reaching.{Standing, reach-begins, reach-first, reach-fails, reach-other, reach-found, reach-short, reach-deep, reach-chooses, reach-beyond, reach-tries, reach-again}
+use Rattle.page.proofs.Reaching.{OnTheWay, reach-begins, reach-first, reach-fails, reach-other, reach-found, reach-short, reach-deep, reach-chooses, reach-beyond, reach-tries, reach-again}
 use borrow.Author.Needs.{needs}
 use Rattle.page.proofs.reach.Statement.{statement}
 use Rattle.page.proofs.reach.Tie as tie
 
 abbrev Inv-loop : tie.InvT-loop
 Inv-loop label size pattern tables list record₀ at₀ levels₀ memory₀ path₀ depth₀ o₀ «record» at levels memory path depth o =
-    Standing label size pattern tables list «record» at levels o depth × Both label size tables (rootOf pattern) memory path
+    OnTheWay label size pattern tables list «record» at levels o depth × Both label size tables (rootOf pattern) memory path
 
 abbrev μ-loop : tie.MeasureT-loop
 μ-loop label size pattern tables list record₀ at₀ levels₀ memory₀ path₀ depth₀ o₀ «record» at levels memory path depth o = 256 - depth

@@ -31,6 +31,7 @@ use Rattle.catalogue.proofs.Levels.{level-choice}
 use Rattle.catalogue.proofs.Plain.{alive}
 use Rattle.catalogue.proofs.Whole.{outcome, all, is-honest}
 use Rattle.levels.specs.Levels.{Search, AttemptPre, AttemptPost}
+use Rattle.levels.proofs.Columns.{ColumnsLong}
 use Rattle.levels.proofs.Going.{few, numbered, Walked, Leveled, Paused, Asks, asks-stop, asks-range, asks-values, asks-level, jump-levels, try-kind, try-taken, try-answered, further-asked}
 use Rattle.page.specs.Page.{ReachAsked}
 
@@ -135,8 +136,7 @@ module _ {L S M tables list : List ℕ} {T : Term} {P : Pattern} {Q : List Kind}
         asked-for : outcome (walk (Allowed cs) (allowed? cs) P T (take depth (t .vals))) ≡ events.need lo n
         asked-for = rw (its-range .0, its-range .1) at (ap outcome (b .asked))
 
-        -- the levels' lists are long enough
-        module _ (lg : length G ≡ 256) (lx : length X ≡ 256) (ls : length St ≡ 256) (lu : length U ≡ 256) (ln : length Nx ≡ 256) (lf : length F ≡ 256) where
+        module _ (long : ColumnsLong G X St U Nx F) where
           entered : Leveled w (t .vals) (set X depth x) (set St depth s) (set Nx depth lo) (set F depth n) (suc depth)
               × Paused w R A (t .vals) (set G depth p) (set X depth x) (set St depth s) (set U depth s) (set Nx depth lo) (set F depth n) (suc depth)
           entered =
@@ -216,11 +216,11 @@ module _ {L S M tables list : List ℕ} {T : Term} {P : Pattern} {Q : List Kind}
               stood-further = rw (its-place, its-row, its-left, one-less) at (further-asked w (jumped .0) (jumped .1) live)
 
               pub stood-attempt : length R ≡ 32 → AttemptPre L S M tables R A p x s u v
-              stood-attempt long =
+              stood-attempt full =
                   let k = try-kind w (jumped .0) (jumped .1) live in
-                  let q = try-taken w (jumped .0) (jumped .1) live long in
+                  let q = try-taken w (jumped .0) (jumped .1) live full in
                   let r : AttemptPre L S M tables R A (getD (set G depth p) depth 0) (getD (set X depth x) depth 0) (getD (set St depth s) depth 0) (getD (set U depth u) depth 0) (getD (set Nx depth v) depth 0) =
-                  record { long = long; some = (T, P, Q, es, cs, k .0, q .0, q .1, q .2, w, k .1, k .2, q .3) } in
+                  record { long = full; some = (T, P, Q, es, cs, k .0, q .0, q .1, q .2, w, k .1, k .2, q .3) } in
                   rw (its-place, its-variable, its-start, its-row, its-next) at r
 
               in-vals : depth < length (t .vals)
@@ -238,10 +238,10 @@ module _ {L S M tables list : List ℕ} {T : Term} {P : Pattern} {Q : List Kind}
               -- the value was tried
               pub stood-tried : {o′ : Out} {R′ A′ : List ℕ} {row : ℕ} → length R ≡ 32 → v ≡ getD list (x + x + 1) 0 → FurtherPost S M p u left row → AttemptPost L S M tables R A p x s u v o′ R′ A′
                   → Stood R′ A′ (set G depth p) (set X depth x) (set St depth s) (set U depth row) (set Nx depth (v + 1)) (set F depth left) o′ (suc depth)
-              stood-tried {o′} {R′} {A′} {row} long ev further post =
+              stood-tried {o′} {R′} {A′} {row} full ev further post =
                   let c = its-choice in
                   let q =
-                  try-answered w (jumped .0) (jumped .1) live {o = o′} {R′ = R′} {A′ = A′} {r = row} long in-rows (in-nexts .1) (in-lefts .1)
+                  try-answered w (jumped .0) (jumped .1) live {o = o′} {R′ = R′} {A′ = A′} {r = row} full in-rows (in-nexts .1) (in-lefts .1)
                   (rw (its-place, its-row, its-left, one-less) further) (rw (its-place, its-variable, its-start, its-row, its-next) post) in
                   let q′ = rw (its-left, one-less, its-next, set-set U depth u row, set-set Nx depth v (v + 1), set-set F depth (suc left) left) at q in
                   record {
