@@ -1,12 +1,12 @@
-/* The shortest honest use of Khargovsun by a server: a request is a document on standard input, the answer one page of plain text with
- * at most ten matches of a fixed query. On x86-64, with the kit and any C compiler:
+/* The shortest honest use of Khargovsun by a server: a request is a document on standard input, the answer plain text with all matches of a
+ * fixed query, three to a page. On x86-64, with the kit and any C compiler:
  *     rt staticlib site
  *     cc -I include examples/server.c target/staticlib/libsite.a -o server
  *     printf '<g><f>a</f><f/>a</g>' | ./server */
 #include <stdio.h>
 #include "khargovsun.h"
 
-enum { ROWS = KHARGOVSUN_MAX_ROWS, PAGE = 10, WIDTH = 4, BUDGET = 100000 };
+enum { ROWS = KHARGOVSUN_MAX_ROWS, PAGE = 3, WIDTH = 4, BUDGET = 100000 };
 
 static const uint8_t NAMES[] = "g\nf\nh\na\nb\n";
 static const khargovsun_bytes DICTIONARY = {NAMES, sizeof NAMES - 1};
@@ -36,14 +36,28 @@ static void print_match(const uint32_t *record) {
     printf("\n");
 }
 
-static void page(khargovsun_tree tree) {
+static void print_page(unsigned number, khargovsun_listing page, const uint32_t *records) {
+    printf("page %u, %u tries\n", number, page.tries);
+    for (uint32_t k = 0; k < page.records; k++) print_match(records + k * WIDTH);
+}
+
+/* The next page is asked for by the last record alone: a server that hands out one page a request keeps that record, or lets the client keep it, and
+ * nothing else. It stands apart, since the next page overwrites the list. */
+static void print_pages(khargovsun_tree tree) {
     static const char *const ENDING[] = {"that is all", "there are more", "the search was cut short"};
     khargovsun_problem problem = {.tree = tree, .pattern = {.kind = KIND, .name = NAME, .size = SIZE, .rows = 3}, .constraints = {FREE, 4}};
-    uint32_t records[PAGE * WIDTH];
+    uint32_t records[PAGE * WIDTH], last[WIDTH], matches = 0;
     khargovsun_lent_records out = {records, PAGE * WIDTH};
+    khargovsun_record after = {last, WIDTH};
     khargovsun_listing l = khargovsun_list_matchers(&problem, BUDGET, out);
-    for (uint32_t k = 0; k < l.records; k++) print_match(records + k * WIDTH);
-    printf("%u matches on %u rows, %u tries: %s\n", l.records, (unsigned)tree.rows, l.tries, ENDING[l.ending]);
+    for (unsigned page = 1;; page++) {
+        print_page(page, l, records);
+        matches += l.records;
+        if (l.ending != KHARGOVSUN_ENDING_ROOM) break;
+        for (size_t k = 0; k < WIDTH; k++) last[k] = records[(l.records - 1) * WIDTH + k];
+        l = khargovsun_list_matchers_after(&problem, after, BUDGET, out);
+    }
+    printf("%u matches on %u rows: %s\n", matches, (unsigned)tree.rows, ENDING[l.ending]);
 }
 
 int main(void) {
@@ -54,6 +68,6 @@ int main(void) {
         printf("refused: code %u, place %u\n", read.code, read.place);
         return 1;
     }
-    page(khargovsun_tree_read(lent, read));
+    print_pages(khargovsun_tree_read(lent, read));
     return 0;
 }

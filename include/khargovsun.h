@@ -1,7 +1,7 @@
 /* Khargovsun for C and C++: link the archive of the crate `site` (`rt staticlib site`), or see tests/c/run.
  *
- * First the numbers by name; then the six functions that the archive has, in which every list is a pointer and then its number of
- * entries; and last structs and functions over the six that take a tree, a pattern or a problem as one thing, so that two lists cannot
+ * First the numbers by name; then the seven functions that the archive has, in which every list is a pointer and then its number of
+ * entries; and last structs and functions over the seven that take a tree, a pattern or a problem as one thing, so that two lists cannot
  * be exchanged unseen.
  *
  * A pointer may be null where its number of entries is 0. Lists that are written must not overlap any other list of the call.
@@ -10,7 +10,8 @@
  * and signal handlers may call at the same time, as long as none writes a list that another call reads or writes.
  *
  * Stack, the most that was measured, in bytes (bench/stack/README.md: painted, on the deepest inputs; -O3, the larger of x86-64 and Arm): check
- * 40,960; read 57,496 (35,792 where the document is read); list 66,888; test 39,688; instance 30,696; spelling 10,456. Give a thread 128 kB.
+ * 40,960; read 57,496 (35,792 where the document is read); list 60,648; list_after 72,264; test 39,688; instance 30,696; spelling 10,456. Give a
+ * thread 128 kB.
  *
  * In a refusal the lowest code that applies is given, every other number is 0 (but the place of code 3), and nothing is written. */
 #ifndef KHARGOVSUN_H
@@ -57,6 +58,7 @@
 #define KHARGOVSUN_CODE_RECORD 15
 #define KHARGOVSUN_CODE_INSTANCE_TOO_LARGE 16
 #define KHARGOVSUN_CODE_NO_ROOM_FOR_INSTANCE 17
+#define KHARGOVSUN_CODE_NO_MATCHER 20 /* a good record that is not a matcher's */
 
 /* ---- Endings of a listing ---- */
 
@@ -89,7 +91,7 @@
 extern "C" {
 #endif
 
-/* ---- The six functions of the archive ---- */
+/* ---- The seven functions of the archive ---- */
 
 /* Code times 4,294,967,296, plus the rows (code 0), the place (code 3) or 0 (codes 1, 2, 4 and 5). Writes nothing. Who reads the document
  * anyhow need not check it before: read gives the same codes, and 6. */
@@ -119,6 +121,27 @@ khargovsun_listing khargovsun_list(const uint32_t *label, size_t label_length, c
                                    const uint32_t *expression_size, size_t expression_size_length,
                                    const uint32_t *constraint, size_t constraint_length,
                                    uint32_t budget, uint32_t *out, size_t out_length);
+
+/* The next page: the matchers that come strictly after a record, in the same order and written as khargovsun_list writes them. The record is
+ * that of a matcher of the same problem, mostly the last one of the page before; the first page is khargovsun_list's. It stands in a list of its
+ * own, since out must not overlap it.
+ *
+ * Tries count anew: the first one after the last try that led to the record is 1, and the way to the record costs none. The budget is this page's
+ * own. The endings are those of a list: 0 when no matcher comes after these, 1 when one more is reached and has no room, 2 when a try is needed
+ * and the budget is spent; the records are then the leading ones of what more budget would give. With room for one record at least, and
+ * as long as no page ends with 2, the pages up to the first that ends with 0 are together what one khargovsun_list with room enough gives.
+ *
+ * A refusal (codes 11 to 15; then 20 for a good record that is not a matcher's, as khargovsun_test decides it) leaves out as it was; ending,
+ * records and tries are 0. */
+khargovsun_listing khargovsun_list_after(const uint32_t *label, size_t label_length, const uint32_t *size, size_t size_length,
+                                         const uint32_t *kind, size_t kind_length, const uint32_t *name, size_t name_length,
+                                         const uint32_t *pattern_size, size_t pattern_size_length,
+                                         const uint32_t *expression_kind, size_t expression_kind_length,
+                                         const uint32_t *expression_name, size_t expression_name_length,
+                                         const uint32_t *expression_size, size_t expression_size_length,
+                                         const uint32_t *constraint, size_t constraint_length,
+                                         const uint32_t *record, size_t record_length,
+                                         uint32_t budget, uint32_t *out, size_t out_length);
 
 typedef struct {
     uint32_t code, yes;
@@ -254,6 +277,15 @@ static inline khargovsun_listing khargovsun_list_matchers(const khargovsun_probl
                            p->pattern.name, p->pattern.rows, p->pattern.size, p->pattern.rows, p->expressions.kind, p->expressions.rows,
                            p->expressions.name, p->expressions.rows, p->expressions.size, p->expressions.rows, p->constraints.at,
                            p->constraints.length, budget, out.at, out.length);
+}
+
+/* khargovsun_list_after. */
+static inline khargovsun_listing khargovsun_list_matchers_after(const khargovsun_problem *p, khargovsun_record record, uint32_t budget,
+                                                                khargovsun_lent_records out) {
+    return khargovsun_list_after(p->tree.label, p->tree.rows, p->tree.size, p->tree.rows, p->pattern.kind, p->pattern.rows,
+                                 p->pattern.name, p->pattern.rows, p->pattern.size, p->pattern.rows, p->expressions.kind, p->expressions.rows,
+                                 p->expressions.name, p->expressions.rows, p->expressions.size, p->expressions.rows, p->constraints.at,
+                                 p->constraints.length, record.at, record.length, budget, out.at, out.length);
 }
 
 /* khargovsun_test. */

@@ -1,4 +1,4 @@
-// The three parts of the measurement. Each prints its table and adds its goals.
+// The four parts of the measurement. Each prints its table and adds its goals.
 #pragma once
 #include "goals.hpp"
 
@@ -10,3 +10,6 @@ void measure_matchers(Goals &goals, const char *prolog, const char *maude);
 
 // Nanoseconds a try.
 void measure_tries(Goals &goals);
+
+// Page k of 100 beside page 1, and beside k pages listed from the start.
+void measure_pages(Goals &goals);

@@ -35,6 +35,14 @@ khargovsun_listing Problem::list(uint32_t budget, Numbers &out) const {
                            e.size.data(), e.size.size(), constraint.data(), constraint.size(), budget, out.data(), out.size());
 }
 
+khargovsun_listing Problem::list_after(const Numbers &record, uint32_t budget, Numbers &out) const {
+    const Rows &p = pattern, &e = expressions;
+    return khargovsun_list_after(label.data(), label.size(), size.data(), size.size(), p.kind.data(), p.kind.size(), p.name.data(),
+                                 p.name.size(), p.size.data(), p.size.size(), e.kind.data(), e.kind.size(), e.name.data(), e.name.size(),
+                                 e.size.data(), e.size.size(), constraint.data(), constraint.size(), record.data(), record.size(), budget,
+                                 out.data(), out.size());
+}
+
 Rows between_a_and_b(uint32_t name, std::vector<Rows> before) {
     for (const Rows &next : {sequence(0), symbol(A), sequence(1), symbol(B), sequence(2)}) before.push_back(next);
     return symbol(name, before);
@@ -45,3 +53,22 @@ std::vector<Rows> alternating(size_t leaves) {
     for (size_t k = 0; k < leaves; k++) all.push_back(symbol(k % 2 ? B : A));
     return all;
 }
+
+Rows chains() {
+    std::vector<Rows> all;
+    for (uint32_t k = 0; k < 33; k++) {
+        Rows chain = symbol(B);
+        for (uint32_t row = 1; row < 60; row++) chain = symbol(SYMBOLS[(row * (k + 1) + row / 5) % 5], {chain});
+        all.push_back(chain);
+    }
+    return symbol(G, all);
+}
+
+static Rows any_of(const std::vector<Rows> &letters) {
+    Rows all = letters[0];
+    for (size_t k = 1; k < letters.size(); k++) all = choice(all, letters[k]);
+    return repetition(all);
+}
+
+Rows a_or_b() { return any_of({symbol(A), symbol(B)}); }
+Rows any_label() { return any_of({symbol(G), symbol(F), symbol(H), symbol(A), symbol(B)}); }

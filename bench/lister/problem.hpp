@@ -35,6 +35,7 @@ struct Problem {
     Problem(const Rows &tree, const Rows &pattern, const Rows &expressions = {}, const Numbers &constrained = {});
 
     khargovsun_listing list(uint32_t budget, Numbers &out) const;
+    khargovsun_listing list_after(const Numbers &record, uint32_t budget, Numbers &out) const;
     size_t variables() const { return constraint.size() / 2; }
 };
 
@@ -46,3 +47,12 @@ Rows between_a_and_b(uint32_t name, std::vector<Rows> before = {});
 
 // a b a b ..
 std::vector<Rows> alternating(size_t leaves);
+
+// 33 chains of 60 rows below one root, all five labels on each.
+Rows chains();
+
+inline Rows two_contexts(const Rows &inside) { return context(0, context(1, inside)); }
+
+// Repetitions that accept every word of a's and b's, and of all five labels.
+Rows a_or_b();
+Rows any_label();

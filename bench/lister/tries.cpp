@@ -37,17 +37,6 @@ std::vector<Rows> mixed(size_t leaves) {
     return all;
 }
 
-// 33 chains of 60 rows below one root, all five labels on each.
-Rows chains() {
-    std::vector<Rows> all;
-    for (uint32_t k = 0; k < 33; k++) {
-        Rows chain = symbol(B);
-        for (uint32_t row = 1; row < 60; row++) chain = symbol(SYMBOLS[(row * (k + 1) + row / 5) % 5], {chain});
-        all.push_back(chain);
-    }
-    return symbol(G, all);
-}
-
 std::vector<Rows> after(size_t before, std::vector<Rows> leaves) {
     leaves.insert(leaves.begin(), before, symbol(H));
     return leaves;
@@ -65,17 +54,6 @@ Rows between_individuals(uint32_t name) {
 
 // The second sequence stands before one term and the list's end: every value of it is walked with, and all but one fail there.
 Rows walked(uint32_t name) { return symbol(name, {sequence(0), individual(1), sequence(2), individual(3)}); }
-
-Rows two_contexts(const Rows &inside) { return context(0, context(1, inside)); }
-
-Rows any_of(const std::vector<Rows> &letters) {
-    Rows all = letters[0];
-    for (size_t k = 1; k < letters.size(); k++) all = choice(all, letters[k]);
-    return repetition(all);
-}
-
-Rows a_or_b() { return any_of({symbol(A), symbol(B)}); }
-Rows any_label() { return any_of({symbol(G), symbol(F), symbol(H), symbol(A), symbol(B)}); }
 
 // ---- Measuring ----
 

@@ -72,6 +72,7 @@ static void compare_problem(chance *chance, const char *name, uint32_t number, c
     if (all_candidates) compare_candidates(chance, problem, &all);
     compare_listed(chance, problem, &all);
     compare_lists(chance, problem, &all);
+    compare_pages(problem, &all);
     compare_damages(chance, problem);
     if (all_candidates) compare_documents(chance, &problem->tree, number);
 }

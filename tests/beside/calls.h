@@ -19,6 +19,10 @@ static inline khargovsun_listing call_list(const problem *p, uint32_t budget, ui
     return khargovsun_list(TREE(p), PATTERN(p), EXPRESSION(p), GIVEN(p->constraint), budget, out, n);
 }
 
+static inline khargovsun_listing call_list_after(const problem *p, const list *record, uint32_t budget, uint32_t *out, size_t n) {
+    return khargovsun_list_after(TREE(p), PATTERN(p), EXPRESSION(p), GIVEN(p->constraint), GIVEN(*record), budget, out, n);
+}
+
 static inline khargovsun_testing call_test(const problem *p, const list *record) {
     return khargovsun_test(TREE(p), PATTERN(p), EXPRESSION(p), GIVEN(p->constraint), GIVEN(*record));
 }

@@ -6,7 +6,8 @@
 #include "make.h"
 #include "tally.h"
 
-/* The test and the instance maker on one record of a problem that has this code. Is the record a matcher's? */
+/* The test and the instance maker on one record of a problem that has this code, and now and then the code of its page. Is the record a
+ * matcher's? */
 bool compare_record(chance *chance, const problem *problem, uint32_t code, const list *record, enum comparison test,
                     enum comparison making);
 
@@ -19,7 +20,25 @@ void compare_rooms(const problem *problem, const list *record);
 /* The lister with every room and budget. */
 void compare_lists(chance *chance, const problem *problem, const listing *all);
 
-/* The lister and, with one record, the test and the instance maker on a problem that may be bad. */
+enum { OUT = MOST_RECORDS * 2 * VARIABLES + 64, DAMAGED_ROOM = 64 };
+#define UNLIMITED 4294967295u
+
+/* Are these the records of the list from one on? */
+bool are_records(const uint32_t *out, const listing *all, size_t first, size_t records, size_t numbers);
+
+/* One call with a lent list of this length: the lister's, if there is no record, or else its page after the record. */
+void compare_page(const problem *problem, const page *page, const list *record, size_t length, uint32_t budget, enum comparison what);
+
+/* The same, where it is refused. */
+void compare_refused(const problem *problem, const list *record, uint32_t code, enum comparison what);
+
+/* Pages after every record of the list, and all pages joined. */
+void compare_pages(const problem *problem, const listing *all);
+
+/* The code of a page after a record, if it is no matcher's, of a problem that has this code. */
+void compare_page_code(const problem *problem, uint32_t code, const list *record, enum comparison what);
+
+/* The lister and, with one record, its page, the test and the instance maker on a problem that may be bad. */
 void compare_damaged(chance *chance, const problem *problem, const list *record);
 
 /* The smallest and the largest of everything that has a limit. */

@@ -2,6 +2,9 @@
 #include "calls.h"
 #include "compare.h"
 
+/* Of the candidates that are no matcher's one in so many is a page's record too, since a page costs more than a test. */
+enum { EACH = 5 };
+
 static void compare_test(const problem *problem, const list *record, uint32_t code, bool yes, enum comparison what) {
     khargovsun_testing got = call_test(problem, record);
     compare(what, got.code == code && got.yes == yes);
@@ -41,6 +44,7 @@ static size_t some_room(chance *chance, size_t rows) {
 bool compare_record(chance *chance, const problem *problem, uint32_t code, const list *record, enum comparison test,
                     enum comparison making) {
     static instance built;
+    static size_t candidate;
     bool bad_lists = code == BAD_TREE || code == BAD_PATTERN;
     uint32_t code_of_record = bad_lists || good_record(problem, record) ? ACCEPTED : BAD_RECORD;
     built.rows = 0;
@@ -50,6 +54,7 @@ bool compare_record(chance *chance, const problem *problem, uint32_t code, const
     compare_test(problem, record, code_of_test, yes, test);
     size_t labels = some_room(chance, built.rows), sizes = some_room(chance, built.rows);
     compare_making(problem, record, bad_lists ? code : code_of_record, &built, labels, sizes, making);
+    if (!yes && test == TEST && candidate++ % EACH == 0) compare_page_code(problem, code, record, PAGE_CODE);
     return yes;
 }
 

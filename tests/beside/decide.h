@@ -56,9 +56,26 @@ typedef struct {
     size_t records, tries;
     size_t reached[MOST_RECORDS]; /* the tries up to the one that reaches the record */
     uint32_t record[MOST_RECORDS][2 * VARIABLES];
+    uint32_t chosen[MOST_TRIES]; /* the variable that a try is for */
+    uint32_t tried[MOST_TRIES][2 * VARIABLES]; /* its value and those before it, as in a record */
 } listing;
 
 /* All tries by their definition, and after which of them each record is reached. */
 void list_all(const problem *problem, listing *out);
+
+/* Does a record, or a try for the last of so many variables, come after a record? At the first variable where they differ the second number
+ * decides. */
+bool comes_after(const uint32_t *one, size_t variables, const uint32_t *record);
+
+/* Records of a list from one on, and the tries before the first of theirs. */
+typedef struct {
+    const listing *all;
+    size_t first, tries_before;
+} page;
+
+page whole_list(const listing *all);
+
+/* What comes strictly after a record of a matcher. */
+page page_after(const problem *problem, const listing *all, const uint32_t *record);
 
 #endif

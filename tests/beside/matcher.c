@@ -72,6 +72,17 @@ static void reach(walk *w) {
     out->reached[out->records++] = out->tries;
 }
 
+static void note_try(walk *w, uint32_t variable) {
+    listing *out = w->out;
+    if (out->tries == MOST_TRIES) {
+        out->too_long = true;
+        return;
+    }
+    out->chosen[out->tries] = variable;
+    for (size_t k = 0; k < 2 * (variable + 1); k++) out->tried[out->tries][k] = w->record[k];
+    out->tries++;
+}
+
 /* The tries of all variables from one on, where the values before are settled. */
 static void try_from(walk *w, uint32_t variable) {
     const rows *pattern = &w->problem->pattern;
@@ -85,10 +96,10 @@ static void try_from(walk *w, uint32_t variable) {
     range range = values(w, q);
     size_t here = w->under.place[q];
     for (size_t k = 0; k < range.count && !w->out->too_long; k++) {
-        if (++w->out->tries > MOST_TRIES) w->out->too_long = true;
         w->record[2 * variable] = here;
         w->record[2 * variable + 1] = range.from + k;
-        if (obeys(w->problem, w->record, variable)) try_from(w, variable + 1);
+        note_try(w, variable);
+        if (!w->out->too_long && obeys(w->problem, w->record, variable)) try_from(w, variable + 1);
     }
 }
 
@@ -99,4 +110,21 @@ void list_all(const problem *problem, listing *out) {
     out->too_long = false;
     out->records = out->tries = 0;
     try_from(&w, 0);
+}
+
+bool comes_after(const uint32_t *one, size_t variables, const uint32_t *record) {
+    for (size_t v = 0; v < variables; v++)
+        if (one[2 * v + 1] != record[2 * v + 1]) return one[2 * v + 1] > record[2 * v + 1];
+    return false;
+}
+
+page whole_list(const listing *all) {
+    return (page){all, 0, 0};
+}
+
+page page_after(const problem *problem, const listing *all, const uint32_t *record) {
+    page after = {all, 0, 0};
+    for (size_t k = 0; k < all->records; k++) after.first += !comes_after(all->record[k], variables(&problem->pattern), record);
+    for (size_t k = 0; k < all->tries; k++) after.tries_before += !comes_after(all->tried[k], all->chosen[k] + 1, record);
+    return after;
 }

@@ -25,7 +25,8 @@ enum code {
     BAD_RECORD = 15,
     INSTANCE_TOO_LARGE = 16,
     NO_ROOM_FOR_INSTANCE = 17,
-    CODES = 18
+    NO_MATCHER = 20,
+    CODES = 21
 };
 
 enum limit {

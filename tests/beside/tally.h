@@ -17,6 +17,12 @@
     X(DAMAGED_LIST, "lists of a damaged problem", 10000)                                    \
     X(DAMAGED_TEST, "tests with a damaged problem or record", 10000)                        \
     X(DAMAGED_INSTANCE, "instances with a damaged problem or record", 10000)                \
+    X(PAGE, "pages after a record, with each room and budget", 100000)                     \
+    X(PAGES_JOINED, "pages joined with rooms 1, 2 and 3", 20000)                            \
+    X(PAGE_CODE, "pages after a candidate that is no matcher's", 100000)                    \
+    X(PAGE_MOVED, "pages after a matcher's values at other rows", 20000)                    \
+    X(DAMAGED_PAGE, "pages with a damaged problem or record", 10000)                        \
+    X(OWN_PAGE, "lists of ours by tries and by second numbers", 10000)                      \
     X(CHECK, "checks of a document", 20000)                                                 \
     X(READING, "readings of a document", 20000)                                             \
     X(READ_BACK, "trees written as documents and read back", 2500)                          \
@@ -58,6 +64,10 @@
     X(ENDING_0, "lists that end with 0", 5000)                                              \
     X(ENDING_1, "lists that end with 1", 2000)                                              \
     X(ENDING_2, "lists that end with 2", 6000)                                              \
+    X(PAGE_ENDING_0, "pages that end with 0", 20000)                                        \
+    X(PAGE_ENDING_1, "pages that end with 1", 20000)                                        \
+    X(PAGE_ENDING_2, "pages that end with 2", 20000)                                        \
+    X(TURNED, "pages turned where they are joined", 20000)                                  \
     X(BOTH_SORTS, "documents with an element and a text of one spelling", 200)              \
     X(CODE_1, "refusals 1", 500)                                                            \
     X(CODE_2, "refusals 2", 5)                                                              \
@@ -71,7 +81,8 @@
     X(CODE_14, "refusals 14", 300)                                                          \
     X(CODE_15, "refusals 15", 1000)                                                         \
     X(CODE_16, "refusals 16", 10)                                                           \
-    X(CODE_17, "refusals 17", 5000)
+    X(CODE_17, "refusals 17", 5000)                                                         \
+    X(CODE_20, "refusals 20", 50000)
 
 #define FIRST_OF_THREE(name, text, least) name,
 enum comparison { COMPARISONS(FIRST_OF_THREE) COMPARISONS_END };

@@ -39,6 +39,7 @@ static const struct number {
     IS(CODE_RECORD, 15),
     IS(CODE_INSTANCE_TOO_LARGE, 16),
     IS(CODE_NO_ROOM_FOR_INSTANCE, 17),
+    IS(CODE_NO_MATCHER, 20),
     IS(ENDING_ALL, 0),
     IS(ENDING_ROOM, 1),
     IS(ENDING_BUDGET, 2),

@@ -3,8 +3,8 @@
  *
  * All of the memory is there, as the header asks: one region of 16 GB without reservation. Pages of it that are only read are all the same
  * page of zeros, and few are written. Every function is called so. Only the tree check reads on for so long (the labels, before it looks at
- * the number of rows): that takes some seconds, so that a tree of two such lists is given to the lister alone. The test and the instance
- * maker make the same check. */
+ * the number of rows): that takes some seconds, so that a tree of two such lists is given to the lister alone. Its pages, the test and the
+ * instance maker make the same check. */
 #include <stdbool.h>
 #include <sys/mman.h>
 #include "compare.h"
@@ -86,6 +86,20 @@ static void listing_is(const char *name, const list *l, uint32_t code) {
     holds(name, "out", out, ROOM, code ? none : RECORDS);
 }
 
+/* After the first record the second is left, and four tries. */
+static const list SECOND = LIST(0, 3, 4, 0);
+
+static void page_is(const char *name, const list *l, uint32_t code) {
+    uint32_t out[ROOM];
+    list none = NONE;
+    mark(out, ROOM);
+    khargovsun_listing got = khargovsun_list_after(PROBLEM(l), LENT(l[RECORD]), 1000, out, ROOM);
+    same(name, "the page's code", got.code, code);
+    same(name, "the page's records", got.records, code ? 0 : 1);
+    same(name, "the page's tries", got.tries, code ? 0 : 4);
+    holds(name, "the page", out, ROOM, code ? none : SECOND);
+}
+
 static void testing_is(const char *name, const list *l, uint32_t code) {
     khargovsun_testing got = khargovsun_test(PROBLEM(l), LENT(l[RECORD]));
     same(name, "the test's code", got.code, code);
@@ -110,6 +124,7 @@ static void problems(void) {
         for (int i = 0; i < LISTS; i++) l[i] = w->lists & BIT(i) ? longer(GOOD[i], (size_t)i * APART) : GOOD[i];
         listing_is(w->name, l, w->code == 15 ? 0 : w->code);
         if (w->lists == TREE) continue;
+        page_is(w->name, l, w->code);
         testing_is(w->name, l, w->code);
         making_is(w->name, l, w->code == 13 || w->code == 14 ? 0 : w->code);
     }
@@ -128,6 +143,15 @@ static void records_out(size_t more) {
     same("a long list for the records", "the ending", got.ending, 0);
     same("a long list for the records", "the records", got.records, 2);
     holds("a long list for the records", "out", region, BEHIND, RECORDS);
+}
+
+static void page_out(size_t more) {
+    marked_region();
+    khargovsun_listing got = khargovsun_list_after(PROBLEM(GOOD), LENT(GOOD[RECORD]), 1000, region, WIDE + more);
+    same("a long list for a page", "the code", got.code, 0);
+    same("a long list for a page", "the ending", got.ending, 0);
+    same("a long list for a page", "the records", got.records, 1);
+    holds("a long list for a page", "out", region, BEHIND, SECOND);
 }
 
 static void instance_out(void) {
@@ -226,6 +250,7 @@ int main(void) {
     }
     problems();
     records_out(0), records_out(4);
+    page_out(0), page_out(3);
     instance_out();
     rows_out();
     readings();

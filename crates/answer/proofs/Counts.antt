@@ -1,5 +1,5 @@
 -- The two counts that the exports narrow fit 32 bits: the lister's records and the instance maker's rows.
-use Prim.Native.Nat.{ℕ, zero, suc, _+_, _≤_, _<_, zero-le}
+use Prim.Native.Nat.{ℕ, zero, suc, _+_, _/_, _≤_, _<_, zero-le}
 use mathlib.Core.Path.{_≡_, ap, sym, subst}
 use mathlib.Core.Logic.{inl, inr}
 use mathlib.Core.Bool.{Bool, true, false}
@@ -10,6 +10,8 @@ use native.Mathlib.Decide.{ℕ-discrete}
 use Rattle.meaning.specs.Forest.{Term, size}
 use Rattle.meaning.specs.Pattern.{Pattern, Kind, Numbered}
 use Rattle.meaning.specs.Matcher.{Value}
+use Rattle.meaning.specs.Record.{IsRecord}
+use Rattle.meaning.specs.Order.{seconds}
 use Rattle.meaning.specs.Calls.{accept}
 use Rattle.meaning.proofs.Tame.{count}
 use Rattle.constraint.specs.Obeys.{Allowed}
@@ -18,11 +20,17 @@ use Rattle.problem.proofs.Posed.{posed}
 use Rattle.problem.specs.Problem as problem
 use Rattle.catalogue.specs.Answer.{Result, roomOf}
 use Rattle.catalogue.specs.Listing.{Meant}
+use Rattle.catalogue.specs.Page.{PageMeant}
+use Rattle.catalogue.proofs.Beyond.{beyond-few}
+use Rattle.catalogue.proofs.Later.{at-record, page-meant}
+use Rattle.catalogue.proofs.Pages.{one-page, page-leading}
 use Rattle.catalogue.proofs.Events.{Outcome, fail, need, done, Event, tried, matched, snoc, branch, after, events}
 use Rattle.catalogue.proofs.Run.{run}
 use Rattle.catalogue.proofs.Whole.{walked, meant}
 use Rattle.catalogue.proofs.Facts.{one-answer, leading, at-most-one}
 use Rattle.lister.specs.Listed as lister
+use Rattle.lister.specs.Page as page
+use Rattle.lister.proofs.Unique.{page-posed}
 use Rattle.lister.specs.declared.Listed.{Listed}
 use Rattle.instance.specs.Instance as instance
 use Rattle.instance.specs.declared.Made.{Made}
@@ -98,6 +106,33 @@ records-fit {l} {budget} {before} {r} low s = go (ℕ-discrete (r .code) 0)
         let p = posed l accept (r .code) e (s .code) in
         let x = s .listed e (p .T) (p .P) (p .Q) (p .es) (p .cs) (p .poses) in
         omega (arith, x .counts, meant-few (Allowed (p .cs)) (allowed? (p .cs)) 4294967296 (length before) (omega arith) low (p .Q) (p .poses .rest .pattern .numbered) (x .meant))
+    go (no n) = omega (arith, s .refused n .1)
+
+-- behind a match, of events that are paced, there are no more records than tries
+paced-behind : (front es : List Event) (v r : List ℕ) {b : Bool} → Paced b (front ++ (matched v r ∷ es)) → Paced false es
+paced-behind [] es v r (matching h) = h
+paced-behind (tried u ∷ front) es v r (trying h) = paced-behind front es v r h
+paced-behind (matched u q ∷ front) es v r (matching h) = paced-behind front es v r h
+
+page-few : (A : ℕ → Value → Type 0) (a? : (x : ℕ) (v : Value) → Dec (A x v)) {P : Pattern} {T : Term} {list : List ℕ} {budget : ℕ} {x : Result} (k n : ℕ) → 1 < k → budget < k → (Q : List Kind) → Numbered P Q
+    → IsRecord A Q P T list → PageMeant A Q P T list budget (roomOf n (length Q)) x → length (x .records) < k
+page-few A a? {list = list} {x = x} k n many low [] g i m =
+    let b = page-leading m in
+    omega (arith, at-most-one a? g (m .solutions-are), beyond-few seconds (seconds list) (m .solutions), ap length (b .is), length-append (x .records) (b .rest))
+page-few A a? {T = T} {budget = budget} k n many low (q ∷ Q) g i m =
+    let e = at-record A a? g T i in
+    let all : Paced true (events (walked A a? g T) (count (q ∷ Q)) []) = rw append-nil at (events-paced (walked A a? g T) (count (q ∷ Q)) [] [] ended) in
+    let paced = paced-behind (e .1 .passed) (e .0) _ _ (rw (e .1 .is) at all) in
+    rw (one-page m (page-meant A a? g T (e .1) budget _)) (omega (arith, run-few paced budget (n / (suc (length Q) + suc (length Q)))))
+
+pub page-records-fit : {l : problem.Lists} {list : List ℕ} {budget : ℕ} {before : List ℕ} {r : Listed} {new : List ℕ} → budget < 4294967296 → page.PageSettled l list budget before r new → r .records < 4294967296
+page-records-fit {l} {list} {budget} {before} {r} low s = go (ℕ-discrete (r .code) 0)
+  where
+    go : Dec (r .code ≡ 0) → r .records < 4294967296
+    go (yes e) =
+        let p = page-posed l list (r .code) e (s .code) in
+        let x = s .listed e (p .0 .T) (p .0 .P) (p .0 .Q) (p .0 .es) (p .0 .cs) (p .0 .poses) in
+        omega (arith, x .counts, page-few (Allowed (p .0 .cs)) (allowed? (p .0 .cs)) 4294967296 (length before) (omega arith) low (p .0 .Q) (p .0 .poses .rest .pattern .numbered) (p .1) (x .meant))
     go (no n) = omega (arith, s .refused n .1)
 
 -- the instance that is made is the one whose rows are few

@@ -4,17 +4,21 @@ use Prim.Native.Nat.{ℕ}
 use mathlib.Core.Path.{_≡_, ap, _∙_, sym}
 use mathlib.Core.List.{List}
 use Rattle.problem.specs.Problem as problem
-use Rattle.lister.proofs.Unique.{Same, one-listed}
+use Rattle.lister.proofs.Unique.{Same, one-listed, one-paged}
 use Rattle.test.specs.Tested.{codeOf, yesOf}
 use Rattle.test.specs.declared.Tested.{Tested}
 use Rattle.test.proofs.Unique.{one-tested}
 use Rattle.instance.specs.Instance as instance
 use Rattle.instance.proofs.Promises.{one-making}
-use Rattle.answer.specs.Answers.{number, Lists, Tests, Makes}
+use Rattle.answer.specs.Answers.{number, Lists, ListsAfter, Tests, Makes}
 
 pub one-listing : {l : problem.Lists} {budget : ℕ} {before : List ℕ} {c e r t d f s u : ℕ} {v w : List ℕ} → Lists l budget before c e r t v → Lists l budget before d f s u w
     → Same (record { code = c; ending = e; records = r; tries = t }) (record { code = d; ending = f; records = s; tries = u }) v w
 one-listing a b = one-listed (a .settled) (b .settled)
+
+pub one-paging : {l : problem.Lists} {numbers : List ℕ} {budget : ℕ} {before : List ℕ} {c e r t d f s u : ℕ} {v w : List ℕ} → ListsAfter l numbers budget before c e r t v → ListsAfter l numbers budget before d f s u w
+    → Same (record { code = c; ending = e; records = r; tries = t }) (record { code = d; ending = f; records = s; tries = u }) v w
+one-paging a b = one-paged (a .settled) (b .settled)
 
 pub one-testing : {l : problem.Lists} {numbers : List ℕ} {c y d z : ℕ} → Tests l numbers c y → Tests l numbers d z → (c ≡ d) × (y ≡ z)
 one-testing a b =

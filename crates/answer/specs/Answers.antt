@@ -6,6 +6,7 @@ use mathlib.Core.Bool.{Bool, true, false}
 use mathlib.Core.List.{List}
 use Rattle.problem.specs.Problem as problem
 use Rattle.lister.specs.Listed as lister
+use Rattle.lister.specs.Page as page
 use Rattle.test.specs.Tested as test
 use Rattle.test.specs.declared.Tested.{Tested}
 use Rattle.instance.specs.Instance as instance
@@ -19,6 +20,10 @@ number false = 0
 -- the four numbers are the lister's
 pub record Lists (l : problem.Lists) (budget : ℕ) (before : List ℕ) (code ending records tries : ℕ) (after : List ℕ) : Type 0 where
   pub settled : lister.Settled l budget before (record { code = code; ending = ending; records = records; tries = tries }) after
+
+-- the four numbers are those of a page after the record
+pub record ListsAfter (l : problem.Lists) (numbers : List ℕ) (budget : ℕ) (before : List ℕ) (code ending records tries : ℕ) (after : List ℕ) : Type 0 where
+  pub settled : page.PageSettled l numbers budget before (record { code = code; ending = ending; records = records; tries = tries }) after
 
 -- the two numbers are those of the test's answer
 pub record Tests (l : problem.Lists) (numbers : List ℕ) (code yes : ℕ) : Type 0 where

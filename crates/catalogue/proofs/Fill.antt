@@ -14,7 +14,7 @@ use native.Mathlib.Nat.{add-zero, suc-mul, sub-zero, add-assoc, mul-le-mul-right
 use native.Mathlib.Numerals.{add-one}
 use Rattle.meaning.specs.Order.{Mem}
 use Rattle.catalogue.specs.Answer.{Result}
-use Rattle.catalogue.specs.Listing.{joined}
+use Rattle.catalogue.specs.Listing.{joined, Shown}
 use Rattle.catalogue.proofs.Back.{BackTo, fitting}
 use Rattle.catalogue.proofs.Events.{Outcome, fail, need, done, Event, tried, matched, snoc, branch, events, sound}
 use Rattle.catalogue.proofs.Run.{run, stop, one-match, one-try, Tame}
@@ -99,24 +99,26 @@ module _ (budget room width : ℕ) where
       (fill-run es t (suc n) b q (splice out (n * width) x) hb (omega arith) (λ u r m. w u r (inr m)) (rw (length-splice out (n * width) x (omega arith)) h)
       ∙ finish-match t n out x (run es b q) lx (omega arith))
 
-tame-widths : (walk : List ℕ → Outcome) (bound limit width : ℕ) → Tame walk bound limit width → Widths width (events walk bound [])
+pub tame-widths : (walk : List ℕ → Outcome) (bound limit width : ℕ) → Tame walk bound limit width → Widths width (events walk bound [])
 tame-widths walk bound limit width t v r m = t .wide v r (sound walk bound [] (matched v r) m .kind)
 
--- a loop that ends with what the events fill has gone through them
-pub filled : (walk : List ℕ → Outcome) (bound limit width budget room : ℕ) (before after : List ℕ) (ending records tries : ℕ) → Tame walk bound limit width → room * width ≤ length before
-    → fill budget room width 0 0 before (events walk bound []) ≡ record { ending = ending; records = records; tries = tries; out = after }
-    → (ending ≡ run (events walk bound []) budget room .ending) × (records ≡ length (run (events walk bound []) budget room .records)) × (tries ≡ run (events walk bound []) budget room .tries)
-    × (after ≡ joined (run (events walk bound []) budget room .records) ++ drop (length (joined (run (events walk bound []) budget room .records))) before)
-filled walk bound limit width budget room before after ending records tries t h e =
-    let res = run (events walk bound []) budget room in
-    let k = fill-run budget room width (events walk bound []) 0 0 budget room before (omega arith) (omega arith) (tame-widths walk bound limit width t) h in (
-      ap (λ (f : Filled). f .ending) (sym e ∙ k),
-      ap (λ (f : Filled). f .records) (sym e ∙ k) ∙ zero-add (length (res .records)),
-      ap (λ (f : Filled). f .tries) (sym e ∙ k) ∙ zero-add (res .tries),
-      ap (λ (f : Filled). f .out) (sym e ∙ k)
+-- a loop that ends with what some events fill shows what they run to
+pub shown : (Means : Result → Type 0) (es : List Event) (width budget room : ℕ) (before after : List ℕ) (ending records tries : ℕ) → Widths width es → room * width ≤ length before
+    → fill budget room width 0 0 before es ≡ record { ending = ending; records = records; tries = tries; out = after } → Means (run es budget room) → Shown Means before ending records tries after
+shown Means es width budget room before after ending records tries w h e m =
+    let res = run es budget room in
+    let k = fill-run budget room width es 0 0 budget room before (omega arith) (omega arith) w h in
+    record {
+      result = res;
+      meant = m;
+      ends = ap (λ (f : Filled). f .ending) (sym e ∙ k);
+      counts = ap (λ (f : Filled). f .records) (sym e ∙ k) ∙ zero-add (length (res .records));
+      tried = ap (λ (f : Filled). f .tries) (sym e ∙ k) ∙ zero-add (res .tries);
+      written =
+          ap (λ (f : Filled). f .out) (sym e ∙ k)
           ∙ ap (λ (m : ℕ). splice before m (joined (res .records))) (zero-mul width)
-          ∙ ap (λ (m : ℕ). joined (res .records) ++ drop m before) (zero-add (length (joined (res .records)))),
-    )
+          ∙ ap (λ (m : ℕ). joined (res .records) ++ drop m before) (zero-add (length (joined (res .records))));
+    }
 
 -- so many tries that fail are one step
 pub fill-skip : (budget room width : ℕ) (f : List ℕ → List Event) (p : List ℕ) (k lo m n t count : ℕ) (out : List ℕ) (es : List Event) → k + m ≡ n → t + k ≤ budget

@@ -1,9 +1,11 @@
 -- The variables that are chosen.
-use Prim.Native.Nat.{ℕ, zero, suc, _≤_}
-use mathlib.Core.List.{List, [], _∷_}
-use lib.ListN.{take}
+use Prim.Native.Nat.{ℕ, zero, suc, _+_, _≤_}
+use mathlib.Core.Path.{_≡_, refl, sym, ap}
+use mathlib.Core.List.{List, [], _∷_, _++_}
+use lib.ListN.{length, getD, take}
 use native.Mathlib.Omega.{arith}
-use Rattle.meaning.specs.Pattern.{Kind, anIndividual, aSequence, aFunction, aContext}
+use Rattle.meaning.specs.Pattern.{Kind, anIndividual, aSequence, aFunction, aContext, old, look}
+use Rattle.meaning.specs.Order.{choices}
 use Rattle.meaning.proofs.Tame.{count}
 
 -- the kinds of variables that are chosen
@@ -18,3 +20,31 @@ count-less Q zero y h = omega arith
 count-less Q (suc x) zero h = absurd (omega arith)
 count-less [] (suc x) (suc y) h = omega arith
 count-less (k ∷ Q) (suc x) (suc y) h = omega (arith, count-less Q x y (omega arith))
+
+-- the choice of one variable among those of a record
+pub choices-at : (Q : List Kind) (list : List ℕ) (x : ℕ) (k : Kind) → look Q x ≡ old k → Chosen k → length list ≡ length Q + length Q
+    → (b : List ℕ) × (c : List ℕ) × (choices Q list ≡ b ++ (getD list (x + x + 1) 0 ∷ c)) × (length b ≡ count (take x Q))
+choices-at [] list zero k e c l = let z : _≡_ {A = ℕ} 0 1 = cc in absurd (omega arith)
+choices-at [] list (suc x) k e c l = let z : _≡_ {A = ℕ} 0 1 = cc in absurd (omega arith)
+choices-at (j ∷ Q) [] x k e c l = absurd (omega arith)
+choices-at (j ∷ Q) (a ∷ []) x k e c l = absurd (omega arith)
+choices-at (anIndividual ∷ Q) (a ∷ b ∷ list) zero k e c l = let z : anIndividual ≡ k = cc in absurd (rw (sym z) at c)
+choices-at (aSequence ∷ Q) (a ∷ b ∷ list) zero k e c l = ([], choices Q list, refl, refl)
+choices-at (aFunction ∷ Q) (a ∷ b ∷ list) zero k e c l = let z : aFunction ≡ k = cc in absurd (rw (sym z) at c)
+choices-at (aContext ∷ Q) (a ∷ b ∷ list) zero k e c l = ([], choices Q list, refl, refl)
+choices-at (anIndividual ∷ Q) (a ∷ b ∷ list) (suc x) k e c l =
+    let h = choices-at Q list x k e c (omega arith) in
+    let z : suc x + suc x + 1 ≡ suc (suc (x + x + 1)) = omega arith in
+    (h .0, h .1, rw z (h .2), omega (arith, h .3))
+choices-at (aSequence ∷ Q) (a ∷ b ∷ list) (suc x) k e c l =
+    let h = choices-at Q list x k e c (omega arith) in
+    let z : suc x + suc x + 1 ≡ suc (suc (x + x + 1)) = omega arith in
+    (b ∷ h .0, h .1, rw z (ap (λ (m : List ℕ). b ∷ m) (h .2)), omega (arith, h .3))
+choices-at (aFunction ∷ Q) (a ∷ b ∷ list) (suc x) k e c l =
+    let h = choices-at Q list x k e c (omega arith) in
+    let z : suc x + suc x + 1 ≡ suc (suc (x + x + 1)) = omega arith in
+    (h .0, h .1, rw z (h .2), omega (arith, h .3))
+choices-at (aContext ∷ Q) (a ∷ b ∷ list) (suc x) k e c l =
+    let h = choices-at Q list x k e c (omega arith) in
+    let z : suc x + suc x + 1 ≡ suc (suc (x + x + 1)) = omega arith in
+    (b ∷ h .0, h .1, rw z (ap (λ (m : List ℕ). b ∷ m) (h .2)), omega (arith, h .3))

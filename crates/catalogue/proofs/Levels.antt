@@ -1,7 +1,7 @@
 -- The levels of the search: each has asked for a variable and goes through its values.
 use Prim.Native.Nat.{ℕ, suc, _+_, _-_, _<_, _≤_}
 use mathlib.Core.Path.{_≡_, refl, ap, _∙_, sym}
-use mathlib.Core.List.{List}
+use mathlib.Core.List.{List, [], _∷_, _++_}
 use lib.ListN.{length, take, getD, set, length-set}
 use lib.Seq.{getD-set-same, getD-set-other, take-at, take-set-le, length-take-le}
 use native.Mathlib.Omega.{arith}
@@ -11,12 +11,13 @@ use Rattle.meaning.specs.Pattern.{Pattern, Kind, anIndividual, aSequence, aFunc
 use Rattle.meaning.specs.Matcher.{Value, kinds}
 use Rattle.meaning.specs.Record.{Entry}
 use Rattle.meaning.specs.Read.{values}
+use Rattle.meaning.specs.Order.{choices}
 use Rattle.meaning.specs.Reached.{Begins}
 use Rattle.meaning.proofs.Walk.{need, walk}
 use Rattle.meaning.proofs.Steps.{kinds-length, values-length}
 use Rattle.meaning.proofs.Asked.{asked-reached, asked-picked}
 use Rattle.meaning.proofs.Tame.{weight, count, asked-next, picked-many}
-use Rattle.catalogue.proofs.Given.{Chosen, count-less}
+use Rattle.catalogue.proofs.Given.{Chosen, count-less, choices-at}
 
 chosen : (k : Kind) → weight k ≡ 1 → Chosen k
 chosen anIndividual h = absurd (omega arith)
@@ -27,6 +28,13 @@ chosen aContext h = tt
 -- what a list begins with is what is taken of it
 begun : {A : Type 0} (b l : List A) → Begins b l → b ≡ take (length b) l
 begun b l p = rw (p .is) (sym (take-at b (p .rest) (length b) refl))
+
+-- two ways to cut a list at one place
+same-cut : (a b c d : List ℕ) → a ++ c ≡ b ++ d → length a ≡ length b → c ≡ d
+same-cut [] [] c d e l = e
+same-cut [] (y ∷ b) c d e l = absurd (omega arith)
+same-cut (x ∷ a) [] c d e l = absurd (omega arith)
+same-cut (x ∷ a) (y ∷ b) c d e l = same-cut a b c d (let z : a ++ c ≡ b ++ d = cc in z) (omega arith)
 
 module _ (Allowed : ℕ → Value → Type 0) (allowed? : (x : ℕ) (v : Value) → Dec (Allowed x v)) {Q : List Kind} {P : Pattern} (g : Numbered P Q) (T : Term) where
   -- after the choices cs the walk asks for the variable x, which starts at s; the values n, n + 1, .., m of them, are still to be tried
@@ -54,6 +62,13 @@ module _ (Allowed : ℕ → Value → Type 0) (allowed? : (x : ℕ) (v : Value) 
     -- as many choices were made as there are such variables before it
     pub level-count : length cs ≡ count (take x Q)
     level-count = ap length (asked-picked Allowed allowed? T g (v .asked)) ∙ picked-many (v .bound) ∙ ap count kinds-are
+
+    -- among the choices of a record the next one is the variable's own
+    pub level-choice : (list rs : List ℕ) → length list ≡ length Q + length Q → choices Q list ≡ cs ++ rs → (c : List ℕ) × (rs ≡ getD list (x + x + 1) 0 ∷ c)
+    level-choice list rs l e =
+        let k = level-kind in
+        let c = choices-at Q list x (k .0) (k .1) (k .2) l in
+        (c .1, same-cut cs (c .0) rs _ (sym e ∙ c .2) (level-count ∙ sym (c .3)))
 
   -- the levels below depth
   pub record Levels (vals variables starts nexts lefts : List ℕ) (depth : ℕ) : Type 0 where

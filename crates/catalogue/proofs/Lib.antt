@@ -9,6 +9,10 @@ pub mod Loop
 pub mod Given
 pub mod Levels
 pub mod Whole
-pub mod Facts
 pub mod Stays
+pub mod Cut
+pub mod Facts
 pub mod Different
+pub mod Beyond
+pub mod Later
+pub mod Pages

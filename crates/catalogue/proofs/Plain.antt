@@ -13,7 +13,8 @@ module _ (walk : List ℕ → Outcome) (honest : (q : List ℕ) (x : ℕ) → (w
   within-alive x (need lo n) w e = let z : _≡_ {A = ℕ} 0 1 = cc in omega arith
   within-alive x (done r) w e = w
 
-  alive : (p s : List ℕ) → (walk (p ++ s) ≡ fail → ⊥) → walk p ≡ fail → ⊥
+  -- what leads to an answer that is none does not fail on the way
+  pub alive : (p s : List ℕ) → (walk (p ++ s) ≡ fail → ⊥) → walk p ≡ fail → ⊥
   alive p [] h e = h (ap walk (append-nil p) ∙ e)
   alive p (x ∷ s) h e = within-alive x (walk p) (honest p x (alive (snoc p x) s (λ k. h (ap walk (sym (append-assoc p (x ∷ []) s)) ∙ k)))) e
 

@@ -1,18 +1,18 @@
 -- What is answered: by going through the events, and by arithmetic on the lists of all tries and all matches. The two agree.
 use mathlib.Core.Path.{_≡_, refl, sym, ap, _∙_}
-use mathlib.Core.Logic.{inl, inr, _↔_}
+use mathlib.Core.Logic.{_⊎_, inl, inr, ⊎-elim, _↔_}
 use mathlib.Core.List.{List, [], _∷_}
-use mathlib.Core.Bool.{Bool, true, false, cond}
+use mathlib.Core.Bool.{Bool, true, false, cond, true≢false}
 use Prim.Native.Nat.{ℕ, zero, suc, _+_, _≤_, _<_, zero-le}
 use native.Mathlib.Omega.{arith}
+use native.Mathlib.Decide.{ℕ-discrete, decLt}
 use lib.Dec.{leb, ltb, leb·suc-suc}
 use lib.ListN.{length, take}
 use borrow.Author.Tests.{le-leb, lt-leb, lt-ltb, le-ltb, eq-eqb, ne-eqb}
-use Rattle.meaning.specs.Reached.{Begins}
 use Rattle.meaning.specs.Order.{_⊏_, Mem, Ascending}
 use Rattle.catalogue.specs.Answer.{Result, upto, place}
 use Rattle.catalogue.proofs.Events.{Outcome, need, done, Event, tried, matched, events, Within, Leads, Some, sound, complete, short}
-use Rattle.catalogue.proofs.Ascent.{_≪_, ascending}
+use Rattle.catalogue.proofs.Ascent.{_≪_}
 
 abbrev pub stop : ℕ → Result
 stop n = record { records = []; ending = n; tries = 0 }
@@ -114,21 +114,32 @@ run-tag (tried v ∷ es) t (suc c) n b room hn hb =
 run-tag (matched v x ∷ es) t c n b zero hn hb = rw (le-leb t b (omega arith), lt-ltb 0 (suc (reached b (tag t es))) (omega arith)) (ap (λ k. record { records = []; ending = 1; tries = k }) (omega arith))
 run-tag (matched v x ∷ es) t c n b (suc room) hn hb = ap (one-match x) (run-tag es t c n b room hn hb) ∙ sym (answer-cons x t (tag t es) n b room (omega arith))
 
-upto-less : (v w : List ℕ) → v ⊏ w → upto v w ≡ true
+pub upto-less : (v w : List ℕ) → v ⊏ w → upto v w ≡ true
 upto-less v [] h = absurd h
 upto-less [] (y ∷ w) h = refl
 upto-less (x ∷ v) (y ∷ w) (inl h) = rw (lt-ltb x y h)
 upto-less (x ∷ v) (y ∷ w) (inr h) = rw (le-ltb x y (omega (arith, h .0)), eq-eqb x y (h .0), upto-less v w (h .1))
 
-upto-refl : (v : List ℕ) → upto v v ≡ true
+pub upto-refl : (v : List ℕ) → upto v v ≡ true
 upto-refl [] = refl
 upto-refl (x ∷ v) = rw (le-ltb x x (omega arith), eq-eqb x x refl, upto-refl v)
 
-upto-more : (v w : List ℕ) → v ⊏ w → upto w v ≡ false
+pub upto-more : (v w : List ℕ) → v ⊏ w → upto w v ≡ false
 upto-more v [] h = absurd h
 upto-more [] (y ∷ w) h = refl
 upto-more (x ∷ v) (y ∷ w) (inl h) = rw (le-ltb y x (omega arith), ne-eqb y x (λ e. omega arith))
 upto-more (x ∷ v) (y ∷ w) (inr h) = rw (le-ltb y x (omega (arith, h .0)), eq-eqb y x (sym (h .0)), upto-more v w (h .1))
+
+pub upto-only : (v w : List ℕ) → upto v w ≡ true → (v ⊏ w) ⊎ (v ≡ w)
+upto-only [] [] e = inr refl
+upto-only [] (y ∷ w) e = inl tt
+upto-only (x ∷ v) [] e = absurd (true≢false (sym e))
+upto-only (x ∷ v) (y ∷ w) e = go (decLt x y) (ℕ-discrete x y) (upto-only v w)
+  where
+    go : Dec (x < y) → Dec (x ≡ y) → (upto v w ≡ true → (v ⊏ w) ⊎ (v ≡ w)) → ((x ∷ v) ⊏ (y ∷ w)) ⊎ (x ∷ v ≡ y ∷ w)
+    go (yes h) d i = inl (inl h)
+    go (no h) (yes d) i = ⊎-elim (λ l. inl (inr (d, l))) (λ l. inr (cc)) (i (rw (le-ltb x y (omega arith), eq-eqb x y d) at e))
+    go (no h) (no d) i = absurd (true≢false (sym (rw (le-ltb x y (omega arith), ne-eqb x y d) at e)))
 
 place-none : (W : List (List ℕ)) (v : List ℕ) → ((u : List ℕ) → Mem u W → v ⊏ u) → place W v ≡ 0
 place-none [] v h = refl
@@ -172,7 +183,7 @@ of-matches (tried u ∷ es) s (inr m) = of-matches es s m
 of-matches (matched u r ∷ es) s (inl e) = inl (matched-inj s u r e)
 of-matches (matched u r ∷ es) s (inr m) = inr (of-matches es s m)
 
-upto-before : (v w r : List ℕ) → tried v ≪ matched w r → upto v w ≡ true
+pub upto-before : (v w r : List ℕ) → tried v ≪ matched w r → upto v w ≡ true
 upto-before v w r (inl h) = upto-less v w h
 upto-before v w r (inr h) = rw h (upto-refl w)
 
@@ -187,7 +198,7 @@ tag-placed (matched v x ∷ es) t W a h =
     let k : tag t es ≡ placed W (matches-of es) = tag-placed es t W (a .1) (λ w r m. h w r (inr m)) in
     λ i. record { values = x; tries = e i } ∷ k i
 
-run-answer : (es : List Event) (budget room : ℕ) → Ascending _≪_ es → run es budget room ≡ answer (placed (tries-of es) (matches-of es)) (length (tries-of es)) budget room
+pub run-answer : (es : List Event) (budget room : ℕ) → Ascending _≪_ es → run es budget room ≡ answer (placed (tries-of es) (matches-of es)) (length (tries-of es)) budget room
 run-answer es budget room a =
     ap (λ k. record { records = run es budget room .records; ending = run es budget room .ending; tries = k }) (omega arith)
     ∙ run-tag es 0 budget (length (tries-of es)) budget room (omega arith) (omega arith)
@@ -203,27 +214,17 @@ IsMatch walk s = Leads walk [] (s .choices) × (walk (s .choices) ≡ done (s .v
 abbrev pub _before_ : Match → Match → Type 0
 _before_ a b = a .choices ⊏ b .choices
 
-pub record Answer (walk : List ℕ → Outcome) (budget room : ℕ) (r : Result) : Type 0 where
-  -- all tries and all matches, each once, in order
-  pub tries : List (List ℕ)
-  pub matches : List Match
-  pub tries-order : Ascending _⊏_ tries
-  pub tries-all : (v : List ℕ) → Mem v tries ↔ IsTry walk v
-  pub matches-order : Ascending _before_ matches
-  pub matches-all : (s : Match) → Mem s matches ↔ IsMatch walk s
-  pub result : r ≡ answer (placed tries matches) (length tries) budget room
-
-tries-ascending : (es : List Event) → Ascending _≪_ es → Ascending _⊏_ (tries-of es)
+pub tries-ascending : (es : List Event) → Ascending _≪_ es → Ascending _⊏_ (tries-of es)
 tries-ascending [] a = tt
 tries-ascending (tried v ∷ es) a = (λ u m. a .0 (tried u) (in-tries es u m), tries-ascending es (a .1))
 tries-ascending (matched v r ∷ es) a = tries-ascending es (a .1)
 
-matches-ascending : (es : List Event) → Ascending _≪_ es → Ascending _before_ (matches-of es)
+pub matches-ascending : (es : List Event) → Ascending _≪_ es → Ascending _before_ (matches-of es)
 matches-ascending [] a = tt
 matches-ascending (tried v ∷ es) a = matches-ascending es (a .1)
 matches-ascending (matched v r ∷ es) a = (λ s m. a .0 (event-of s) (in-matches es s m), matches-ascending es (a .1))
 
--- what the events give is the answer
+-- the events are all tries and all matches
 module _ (walk : List ℕ → Outcome) (bound : ℕ) (stops : (v : List ℕ) (x : ℕ) → bound ≤ length v → Within x (walk v) → ⊥) where
   is-try : (v : List ℕ) → Mem (tried v) (events walk bound []) → IsTry walk v
   is-try v m = let f = sound walk bound [] (tried v) m in (rw (f .at) (f .kind), rw (f .at) (f .leads))
@@ -234,28 +235,15 @@ module _ (walk : List ℕ → Outcome) (bound : ℕ) (stops : (v : List ℕ) (x 
   fits : (v : List ℕ) → Leads walk [] v → length v ≤ bound
   fits v l = omega (arith, short walk bound stops [] v zero-le l)
 
-  pub answers : (budget room : ℕ) → Answer walk budget room (run (events walk bound []) budget room)
-  answers budget room =
+  pub all-tried : (v : List ℕ) → Mem v (tries-of (events walk bound [])) ↔ IsTry walk v
+  all-tried v =
       let es = events walk bound [] in
-      record {
-        tries = tries-of es;
-        matches = matches-of es;
-        tries-order = tries-ascending es (ascending walk bound []);
-        tries-all = λ v. (λ m. is-try v (in-tries es v m), λ h. of-tries es v (complete walk bound [] v (tried v) (fits v (h .1)) (h .1) refl (h .0)));
-        matches-order = matches-ascending es (ascending walk bound []);
-        matches-all = λ s. (λ m. is-match s (in-matches es s m), λ h. of-matches es s (complete walk bound [] (s .choices) (event-of s) (fits (s .choices) (h .0)) (h .0) refl (h .1)));
-        result = run-answer es budget room (ascending walk bound []);
-      }
+      (λ m. is-try v (in-tries es v m), λ h. of-tries es v (complete walk bound [] v (tried v) (fits v (h .1)) (h .1) refl (h .0)))
 
--- more budget or more room only lengthens the list
-pub more : (es : List Event) (b c r q : ℕ) → b ≤ c → r ≤ q → Begins (run es b r .records) (run es c q .records)
-more [] b c r q g h = record { rest = []; is = refl }
-more (tried v ∷ es) zero c r q g h = record { rest = run (tried v ∷ es) c q .records; is = refl }
-more (tried v ∷ es) (suc b) zero r q g h = absurd (omega arith)
-more (tried v ∷ es) (suc b) (suc c) r q g h = more es b c r q (omega arith) h
-more (matched v x ∷ es) b c zero q g h = record { rest = run (matched v x ∷ es) c q .records; is = refl }
-more (matched v x ∷ es) b c (suc r) zero g h = absurd (omega arith)
-more (matched v x ∷ es) b c (suc r) (suc q) g h = let i = more es b c r q g (omega arith) in record { rest = i .rest; is = ap (λ l. x ∷ l) (i .is) }
+  pub all-matched : (s : Match) → Mem s (matches-of (events walk bound [])) ↔ IsMatch walk s
+  all-matched s =
+      let es = events walk bound [] in
+      (λ m. is-match s (in-matches es s m), λ h. of-matches es s (complete walk bound [] (s .choices) (event-of s) (fits (s .choices) (h .0)) (h .0) refl (h .1)))
 
 -- what a walk has to be: it asks for a choice only after fewer than bound, of values below limit, and its records have the width
 pub record Tame (walk : List ℕ → Outcome) (bound limit width : ℕ) : Type 0 where

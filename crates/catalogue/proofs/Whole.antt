@@ -9,7 +9,7 @@ use native.Mathlib.Decide.{decLe}
 use Rattle.meaning.specs.Forest.{Term, size}
 use Rattle.meaning.specs.Pattern.{Pattern, Kind, Numbered}
 use Rattle.meaning.specs.Matcher.{Value, kinds, Solves}
-use Rattle.meaning.specs.Record.{numbers, recordOf}
+use Rattle.meaning.specs.Record.{numbers, recordOf, IsRecord}
 use Rattle.meaning.specs.Read.{values}
 use Rattle.meaning.specs.Order.{seconds, choices, _⊏_, Mem, Ascending}
 use Rattle.meaning.proofs.Walk as W
@@ -19,10 +19,11 @@ use Rattle.meaning.proofs.Theorems.{sound as walk-sound}
 use Rattle.meaning.proofs.Asked.{asked-reached, reached-asked}
 use Rattle.meaning.proofs.Honest.{Asked, honest}
 use Rattle.meaning.proofs.Tame.{count, tame-need, tame-ok}
-use Rattle.catalogue.specs.Listing.{Try, Meant}
+use Rattle.catalogue.specs.Listing.{Solutions, Try, Tries, Meant}
 use Rattle.catalogue.specs.Answer.{places, within, atMost, answer as answerOf}
-use Rattle.catalogue.proofs.Events.{Outcome, fail, need, done, snoc, events, Within}
-use Rattle.catalogue.proofs.Run.{run, Match, placed, reached, values-of, tries-at, answer, IsTry, IsMatch, answers, Tame, _before_}
+use Rattle.catalogue.proofs.Events.{Outcome, fail, need, done, Event, matched, snoc, events, Within, Leads, Some}
+use Rattle.catalogue.proofs.Ascent.{_≪_, ascending}
+use Rattle.catalogue.proofs.Run.{run, tries-of, Match, matches-of, placed, reached, values-of, tries-at, answer, IsTry, IsMatch, Tame, _before_, tries-ascending, matches-ascending, run-answer, in-matches, all-tried, all-matched}
 use Rattle.catalogue.proofs.Plain.{plain-try, plain-match, try-plain}
 use Rattle.catalogue.proofs.Ranks.{order}
 
@@ -34,7 +35,7 @@ record Matcher (Allowed : ℕ → Value → Type 0) (Q : List Kind) (P : Pattern
   records : s .values ≡ recordOf P matcher
 
 -- the records of matches, and their places among the tries
-abbrev records-of : List Match → List (List ℕ)
+abbrev pub records-of : List Match → List (List ℕ)
 records-of [] = []
 records-of (s ∷ S) = s .values ∷ records-of S
 
@@ -161,33 +162,87 @@ module _ (Allowed : ℕ → Value → Type 0) (allowed? : (x : ℕ) (v : Value) 
           let c = complete Allowed allowed? g (m .solves) in
           plain-match walked is-honest s (ap walked (m .chose) ∙ ap outcome (c .0) ∙ ap done (sym (m .records)))
 
-  -- the events of the walk give what is meant
-  pub meant : (budget room : ℕ) → Meant Allowed Q P T budget (atMost room) (run (events walked (count Q) []) budget room)
-  meant budget room =
-      let a = answers walked (count Q) stops budget room in
-      let is : (s : Match) → Mem s (a .matches) → Matcher Allowed Q P T s = λ s m. match-is s .0 (a .matches-all s .0 m) in
+  record-is : {r : List ℕ} → IsRecord Allowed Q P T r → IsMatch walked (record { choices = choices Q r; values = r })
+  record-is {r} i =
+      match-is (record { choices = choices Q r; values = r }) .1
+      (record { matcher = i .matcher; solves = i .solves; chose = ap (λ (q : List ℕ). choices Q q) (sym (i .its)); records = sym (i .its) })
+
+  -- the last try that leads to a matcher has all its choices; where a matcher has none, nothing is tried
+  pub last-try : {r : List ℕ} → IsRecord Allowed Q P T r → (choices Q r ≡ [] → ⊥) → Try Allowed Q P T (choices Q r)
+  last-try {r} i n = try-is (choices Q r) .0 (some (choices Q r) n, record-is i .0)
+    where
+      some : (v : List ℕ) → (v ≡ [] → ⊥) → Some v
+      some [] n = n refl
+      some (x ∷ v) n = tt
+
+  pub untried : {r v : List ℕ} → IsRecord Allowed Q P T r → choices Q r ≡ [] → Try Allowed Q P T v → ⊥
+  untried {r} {v} i e t = let h = try-is v .1 t in go v (h .0) (h .1)
+    where
+      go : (v : List ℕ) → Some v → Leads walked [] v → ⊥
+      go [] s l = s
+      go (x ∷ v) s l = rw (sym (ap walked e) ∙ record-is i .1) at (l .0)
+
+  -- the events of the walk
+  abbrev pub all : List Event
+  all = events walked (count Q) []
+
+  its-matcher : (s : Match) → Mem s (matches-of all) → Matcher Allowed Q P T s
+  its-matcher s m = match-is s .0 (all-matched walked (count Q) stops s .0 m)
+
+  pub all-solutions : Solutions Allowed Q P T (records-of (matches-of all))
+  all-solutions =
       record {
-        solutions = records-of (a .matches);
-        tries = a .tries;
-        solutions-are =
-            record {
-              ordered =
-                  records-ascending (λ r s. seconds r ⊏ seconds s) (a .matches) (a .matches-order)
-                  (λ s u m n h.
-                  let x = is s m in
-                  let y = is u n in
-                  rw (x .records, y .records) (order Allowed allowed? g (x .solves) (y .solves) (rw (x .chose, y .chose) at h)));
-              all = λ r. (
-                λ m.
-                    let k = in-records (a .matches) r m in
-                    let x = is (k .0) (k .1) in
-                    record { matcher = x .matcher; solves = x .solves; its = sym (x .records) ∙ k .2 },
-                λ i.
-                    let s : Match = record { choices = choices Q r; values = r } in
-                    of-records (a .matches) s
-                    (a .matches-all s .1 (match-is s .1 (record { matcher = i .matcher; solves = i .solves; chose = ap (λ (q : List ℕ). choices Q q) (sym (i .its)); records = sym (i .its) }))),
-              );
-            };
-        tries-are = record { ordered = a .tries-order; all = λ v. (λ m. try-is v .0 (a .tries-all v .0 m), λ h. a .tries-all v .1 (try-is v .1 h)) };
-        result = a .result ∙ answer-is Q (a .tries) budget room (a .matches) (λ s m. let x = is s m in x .chose ∙ ap (λ (q : List ℕ). choices Q q) (sym (x .records)));
+        ordered =
+            records-ascending (λ r s. seconds r ⊏ seconds s) (matches-of all) (matches-ascending all (ascending walked (count Q) []))
+            (λ s u m n h.
+            let x = its-matcher s m in
+            let y = its-matcher u n in
+            rw (x .records, y .records) (order Allowed allowed? g (x .solves) (y .solves) (rw (x .chose, y .chose) at h)));
+        all = λ r. (
+          λ m.
+              let k = in-records (matches-of all) r m in
+              let x = its-matcher (k .0) (k .1) in
+              record { matcher = x .matcher; solves = x .solves; its = sym (x .records) ∙ k .2 },
+          λ i.
+              let s : Match = record { choices = choices Q r; values = r } in
+              of-records (matches-of all) s (all-matched walked (count Q) stops s .1 (record-is i)),
+        );
+      }
+
+  -- they are in the order of their choices too
+  pub all-chosen : Ascending (λ r s. choices Q r ⊏ choices Q s) (records-of (matches-of all))
+  all-chosen =
+      records-ascending (λ r s. choices Q r ⊏ choices Q s) (matches-of all) (matches-ascending all (ascending walked (count Q) []))
+      (λ s u m n h.
+      let x = its-matcher s m in
+      let y = its-matcher u n in
+      rw (x .records, y .records, ← (x .chose), ← (y .chose)) h)
+
+  pub all-tries : Tries Allowed Q P T (tries-of all)
+  all-tries =
+      record {
+        ordered = tries-ascending all (ascending walked (count Q) []);
+        all = λ v. (λ m. try-is v .0 (all-tried walked (count Q) stops v .0 m), λ h. all-tried walked (count Q) stops v .1 (try-is v .1 h));
+      }
+
+  -- the event of a matcher
+  pub record-event : {r : List ℕ} → IsRecord Allowed Q P T r → Mem (matched (choices Q r) r) all
+  record-event {r} i = in-matches all (record { choices = choices Q r; values = r }) (all-matched walked (count Q) stops _ .1 (record-is i))
+
+  -- what is run from some of the events is answered by their tries and matches
+  pub run-is : (es : List Event) (budget room : ℕ) → Ascending _≪_ es → ((s : Match) → Mem s (matches-of es) → Mem s (matches-of all))
+      → run es budget room ≡ answerOf Q (records-of (matches-of es)) (tries-of es) budget (atMost room)
+  run-is es budget room a part =
+      run-answer es budget room a
+      ∙ answer-is Q (tries-of es) budget room (matches-of es) (λ s m. let x = its-matcher s (part s m) in x .chose ∙ ap (λ (q : List ℕ). choices Q q) (sym (x .records)))
+
+  -- the events of the walk give what is meant
+  pub meant : (budget room : ℕ) → Meant Allowed Q P T budget (atMost room) (run all budget room)
+  meant budget room =
+      record {
+        solutions = records-of (matches-of all);
+        tries = tries-of all;
+        solutions-are = all-solutions;
+        tries-are = all-tries;
+        result = run-is all budget room (ascending walked (count Q) []) (λ s m. m);
       }

@@ -50,11 +50,14 @@ abbrev pub joined : List (List ℕ) → List ℕ
 joined [] = []
 joined (r ∷ rs) = r ++ joined rs
 
--- the ending, the count of records and of tries, and the lent list before and after
-pub record Listing (Allowed : ℕ → Value → Type 0) (Q : List Kind) (P : Pattern) (T : Term) (budget : ℕ) (before : List ℕ) (ending records tries : ℕ) (after : List ℕ) : Type 0 where
+-- what a call answers and writes of a result that is meant so: the ending, the count of records and of tries, and the lent list before and after
+pub record Shown (Means : Result → Type 0) (before : List ℕ) (ending records tries : ℕ) (after : List ℕ) : Type 0 where
   pub result : Result
-  pub meant : Meant Allowed Q P T budget (roomOf (length before) (length Q)) result
+  pub meant : Means result
   pub ends : ending ≡ result .ending
   pub counts : records ≡ length (result .records)
   pub tried : tries ≡ result .tries
   pub written : Filled (joined (result .records)) before after
+
+abbrev pub Listing : (Allowed : ℕ → Value → Type 0) (Q : List Kind) (P : Pattern) (T : Term) (budget : ℕ) (before : List ℕ) (ending records tries : ℕ) (after : List ℕ) → Type 0
+Listing Allowed Q P T budget before ending records tries after = Shown (Meant Allowed Q P T budget (roomOf (length before) (length Q))) before ending records tries after

@@ -22,6 +22,26 @@ sixths-at (suc n) i levels (suc d) h =
     let z : 6 * d + (i + 6) ≡ 6 * suc d + i = omega arith in
     sixths-at n (i + 6) levels d (omega arith) ∙ ap (λ (j : ℕ). getD levels j 0) z
 
+-- the columns are as long as there may be levels
+pub record ColumnsLong (G X St U Nx F : List ℕ) : Type 0 where
+  pub places-long : length G ≡ 256
+  pub variables-long : length X ≡ 256
+  pub starts-long : length St ≡ 256
+  pub rows-long : length U ≡ 256
+  pub nexts-long : length Nx ≡ 256
+  pub lefts-long : length F ≡ 256
+
+pub columns-long : (levels : List ℕ) → ColumnsLong (places levels) (variables levels) (starts levels) (rows levels) (nexts levels) (lefts levels)
+columns-long levels =
+    record {
+      places-long = sixths-long 256 0 levels;
+      variables-long = sixths-long 256 1 levels;
+      starts-long = sixths-long 256 2 levels;
+      rows-long = sixths-long 256 3 levels;
+      nexts-long = sixths-long 256 4 levels;
+      lefts-long = sixths-long 256 5 levels;
+    }
+
 -- a level's numbers as they are read
 module _ {levels : List ℕ} {d : ℕ} (w : Inside levels d) where
   pub level-number : (k : ℕ) → getD levels (6 * d + k) 0 ≡ getD (sixths 256 k levels) d 0

@@ -5,22 +5,23 @@ use mathlib.Core.List.{List, [], _∷_, _++_, append-assoc}
 use lib.ListN.{length, getD, take, set}
 use lib.Seq.{take-suc-set}
 use native.Mathlib.Omega.{arith}
+use native.Mathlib.Decide.{ℕ-discrete}
 use Rattle.meaning.specs.Forest.{none, Term, _◂_, size}
 use Rattle.meaning.specs.Pattern.{Pattern, Kind, anIndividual, aSequence, aFunction, aContext, old, look, Numbered}
 use Rattle.meaning.specs.Matcher.{Value}
 use Rattle.meaning.specs.Read.{valueAt, Fits}
 use Rattle.meaning.specs.Record.{Entry, entry}
 use Rattle.meaning.proofs.Walk.{Res, fail, need, over, walkT, walk}
-use Rattle.meaning.proofs.Resume.{taken, onward}
+use Rattle.meaning.proofs.Resume.{taken, onward, least}
 use Rattle.meaning.proofs.Next.{Any, any?, next-fits, next-judged}
-use Rattle.meaning.proofs.Tame.{count, weight}
+use Rattle.meaning.proofs.Tame.{count, weight, tame-need}
 use Rattle.expression.specs.Expression.{Expression}
 use Rattle.constraint.specs.Obeys.{Constraint, Obeys, Allowed}
 use Rattle.constraint.specs.Pair.{Pair, no-pair, a-pair}
 use Rattle.constraint.proofs.Constraints.{pair-at}
 use Rattle.constraint.proofs.Allowed.{allowed?}
 use Rattle.variable.proofs.States.{count-bound}
-use Rattle.walk.specs.Above.{Unchanged}
+use Rattle.walk.specs.Above.{Marks, Unchanged}
 use Rattle.walk.specs.Cycle.{stop-at, Needs, Agree}
 use Rattle.walk.specs.Onward.{Lands}
 use Rattle.walk.specs.Taken.{TakeAsked, Answers, fails}
@@ -28,7 +29,7 @@ use Rattle.walk.proofs.Answered.{answers}
 use Rattle.walk.proofs.Views.{need-agree}
 use Rattle.walk.proofs.Marks.{needs-same}
 use Rattle.walk.proofs.Taken.{needs-onward, stands-kept}
-use Rattle.choice.specs.Stops.{many, StopAt, FurtherPre, FurtherPost, Before}
+use Rattle.choice.specs.Stops.{many, StopAt, LeastPost, LandingPost, FurtherPre, FurtherPost, Before}
 use Rattle.choice.specs.Runs.{LevelPre, SkipPost}
 use Rattle.choice.specs.Runs as runs
 use Rattle.choice.proofs.Stops.{many-range, at-row, at-room}
@@ -37,12 +38,12 @@ use Rattle.walk.specs.declared.Out.{Out}
 use Rattle.walk.specs.declared.Out.the-variants as out
 use Rattle.catalogue.proofs.Events.{Outcome}
 use Rattle.catalogue.proofs.Given.{Chosen}
-use Rattle.catalogue.proofs.Levels.{Level, level-kind, Levels, levels-next, levels-skip, variables-rise}
+use Rattle.catalogue.proofs.Levels.{Level, level-kind, Levels, levels-next, levels-skip, levels-need, variables-rise}
 use Rattle.catalogue.proofs.Run.{Tame}
 use Rattle.catalogue.proofs.Loop.{Fixed}
 use Rattle.catalogue.proofs.Whole.{walked, is-tame}
 use Rattle.levels.specs.Levels.{Search, AttemptPost, Pause, Pauses}
-use Rattle.levels.proofs.Pauses.{pauses-skip, pauses-next, pauses-kept}
+use Rattle.levels.proofs.Pauses.{pauses-skip, pauses-next, pauses-kept, pauses-need}
 
 -- individual and function variables have no constraint
 unjudged : {es : List Expression} (k : Kind) {a b : ℕ} {c : Constraint} (v : Value) → weight k ≡ 0 → Pair es k a b c → Obeys c v
@@ -94,15 +95,42 @@ module _ {L S M tables : List ℕ} {T : Term} {P : Pattern} {Q : List Kind} {es 
   abbrev pub Paused : List ℕ → List ℕ → List ℕ → List ℕ → List ℕ → List ℕ → List ℕ → List ℕ → List ℕ → ℕ → Type 0
   Paused R A vals G X St U Nx F depth = Pauses L S R A (w .K) (w .N) (w .Z) Q P T vals G X St U Nx F depth
 
-  -- after n choices the walk asks for the variable x at the row p of the pattern, behind the row g
-  pub record Asks (R A vals : List ℕ) (n g p x s : ℕ) : Type 0 where
-    pub later : g + 1 ≤ p
+  -- after n choices the walk asks for the variable x at the row p of the pattern, behind those of the n levels
+  pub record Asks (R A vals G : List ℕ) (n p x s : ℕ) : Type 0 where
+    pub later : (k : ℕ) → k < n → getD G k 0 < p
     pub lo : ℕ
     pub hi : ℕ
     pub needs : Needs L S R A (w .K) (w .N) (w .Z) Q [] (λ ds. walkT Any any? P T 0 [] (take n vals ++ ds)) p x s lo hi
     pub bound : List Entry
     pub asked : walk (Allowed cs) (allowed? cs) P T (take n vals) ≡ need bound s lo hi
     pub its : length bound ≡ x
+
+  module _ {R A vals G : List ℕ} {n p x s : ℕ} (a : Asks R A vals G n p x s) where
+    -- where the walk stopped
+    pub asks-stop : Marks (w .K) A → StopAt L S M A p s (w .K) (w .N) (w .Z) Q x (a .needs .stop) (a .needs .frames)
+    asks-stop marks = record { packed = w .packed; marks = marks; stands = a .needs .stands }
+
+    pub asks-range : (a .lo ≤ a .hi) × (length (take n vals) < count Q)
+    asks-range = let t = tame-need (Allowed cs) (allowed? cs) T (take n vals) numbered (a .asked) in (t .1, t .0)
+
+    -- the values that the code counts are those that the walk asks for
+    module _ {lo m : ℕ} (marks : Marks (w .K) A) (low : LeastPost M p s lo) (all : m ≡ many (a .needs .stop)) where
+      pub asks-values : (a .lo ≡ lo) × (suc (a .hi) - lo ≡ m)
+      asks-values =
+          let n = a .needs in
+          let l = low .is L S A (w .K) (w .N) (w .Z) Q x (n .stop) (n .frames) (asks-stop marks) in
+          (sym (n .low) ∙ sym l, omega (arith, l, all, many-range (n .stop) s, n .high))
+
+      -- a level more
+      pub asks-level : {X St U Nx F : List ℕ} → Leveled vals X St Nx F n → Paused R A vals G X St U Nx F n
+          → n < length vals → n < length G → n < length X → n < length St → n < length U → n < length Nx → n < length F
+          → Leveled vals (set X n x) (set St n s) (set Nx n lo) (set F n m) (suc n) × Paused R A vals (set G n p) (set X n x) (set St n s) (set U n s) (set Nx n lo) (set F n m) (suc n)
+      asks-level lv ps hc hg hx hs hu hn hf =
+          let v = asks-values in
+          let r = asks-range .0 in
+          let l = levels-need (Allowed cs) (allowed? cs) numbered T lv hc hx hs hn hf (a .asked) r in
+          let q = pauses-need ps hg hx hs hu hn hf (a .later) r (a .needs) in
+          (rw (v .0, v .1, a .its) at l, rw (v .0, v .1) at q)
 
   module _ {R A vals G X St U Nx F : List ℕ} {d : ℕ} (lv : Leveled vals X St Nx F (suc d)) (ps : Paused R A vals G X St U Nx F (suc d)) (live : 0 < getD F d 0) where
     top : Level (Allowed cs) (allowed? cs) numbered T (take d vals) (getD X d 0) (getD St d 0) (getD Nx d 0) (getD F d 0)
@@ -172,6 +200,21 @@ module _ {L S M tables : List ℕ} {T : Term} {P : Pattern} {Q : List Kind} {es 
             pauses-skip ps count (omega (arith, post .few)) ul nl fl (subst (λ (i : ℕ). Lands L S (getD St d 0) r i (last .needs .stop)) e (passed .0)),
           )
 
+    -- the level goes on to the value v, with which the walk goes on at the row u
+    pub jump-levels : {u v : ℕ} → getD Nx d 0 ≤ v → v < getD Nx d 0 + getD F d 0 → LandingPost S M (getD G d 0) (getD St d 0) v u → d < length U → d < length Nx → d < length F
+        → Leveled vals X St (set Nx d v) (set F d (getD F d 0 - (v - getD Nx d 0))) (suc d)
+        × Paused R A vals G X St (set U d u) (set Nx d v) (set F d (getD F d 0 - (v - getD Nx d 0))) (suc d)
+    unfolding last
+    jump-levels {u} {v} low high landing ul nl fl =
+        let n = last .needs in
+        let k = v - getD Nx d 0 in
+        let z : getD Nx d 0 + k ≡ v = omega arith in
+        let lands = landing .is L A (w .K) (w .N) (w .Z) Q (getD X d 0) (n .stop) (n .frames) stopped (omega (arith, n .low, last .low)) (omega (arith, n .high, last .high)) in
+        let e : v - least (n .stop) (getD St d 0) ≡ getD Nx d 0 + k - last .lo = omega (arith, n .low) in
+        let lv′ = levels-skip (Allowed cs) (allowed? cs) numbered T k lv (omega arith) nl fl in
+        let ps′ = pauses-skip ps k (omega arith) ul nl fl (subst (λ (i : ℕ). Lands L S (getD St d 0) u i (n .stop)) e lands) in
+        (rw z at lv′, rw z at ps′)
+
     -- what a try asks
     pub try-kind : (k : Kind) × (look Q (getD X d 0) ≡ old k) × Fits k (T ◂ none) (getD St d 0) (getD Nx d 0)
     try-kind =
@@ -194,7 +237,7 @@ module _ {L S M tables : List ℕ} {T : Term} {P : Pattern} {Q : List Kind} {es 
         × Leveled (set vals d (getD Nx d 0)) X St (set Nx d (getD Nx d 0 + 1)) (set F d (getD F d 0 - 1)) (suc d)
         × Paused R′ A′ (set vals d (getD Nx d 0)) G X St (set U d r) (set Nx d (getD Nx d 0 + 1)) (set F d (getD F d 0 - 1)) (suc d)
         × Before L S A′ (getD G d 0) (getD U d 0) (getD F d 0 - 1) (w .K) (w .N) (w .Z) Q
-        × ((p x s : ℕ) → o ≡ out.Need (stop-at p x s) → Asks R′ A′ (set vals d (getD Nx d 0)) (suc d) (getD G d 0) p x s)
+        × ((p x s : ℕ) → o ≡ out.Need (stop-at p x s) → Asks R′ A′ (set vals d (getD Nx d 0)) G (suc d) p x s)
     unfolding its-kind try-kind
     try-answered {o} {R′} {A′} {r} long ul nl fl further post = (answered .0, after, paused, before, answered .1)
       where
@@ -234,12 +277,16 @@ module _ {L S M tables : List ℕ} {T : Term} {P : Pattern} {Q : List Kind} {es 
               left-over = omega (arith, all);
             }
 
+        behind : {p : ℕ} (k : ℕ) → k < suc d → getD G d 0 + 1 ≤ p → Dec (k ≡ d) → getD G k 0 < p
+        behind k l h (yes e) = rw e (omega arith)
+        behind k l h (no m) = omega (arith, ps .rise k d (omega arith) (omega arith))
+
         answered : Answers R′ o (walk (Allowed cs) (allowed? cs) P T (take (suc d) (set vals d v)))
-            × ((p x s : ℕ) → o ≡ out.Need (stop-at p x s) → Asks R′ A′ (set vals d v) (suc d) (getD G d 0) p x s)
+            × ((p x s : ℕ) → o ≡ out.Need (stop-at p x s) → Asks R′ A′ (set vals d v) G (suc d) p x s)
         answered = go (allowed? cs (getD X d 0) (valueAt (its-kind .0) (T ◂ none) (getD St d 0) v))
           where
             go : Dec (Fitting v) → Answers R′ o (walk (Allowed cs) (allowed? cs) P T (take (suc d) (set vals d v)))
-                × ((p x s : ℕ) → o ≡ out.Need (stop-at p x s) → Asks R′ A′ (set vals d v) (suc d) (getD G d 0) p x s)
+                × ((p x s : ℕ) → o ≡ out.Need (stop-at p x s) → Asks R′ A′ (set vals d v) G (suc d) p x s)
             go (no n) =
                 let h = is .0 n in
                 let j = judged v (top .low) (omega (arith, top .high)) .1 n in
@@ -251,7 +298,7 @@ module _ {L S M tables : List ℕ} {T : Term} {P : Pattern} {Q : List Kind} {es 
                   λ p x s e.
                       let n = need-agree (subst (λ (o : Out). Agree L S R′ A′ (w .K) (w .N) (w .Z) Q (getD G d 0 + 1) (h .0) [] (λ ds. asking (v ∷ ds)) o) e (h .1)) in
                       record {
-                        later = n .0;
+                        later = λ k l. behind k l (n .0) (ℕ-discrete k d);
                         lo = n .1;
                         hi = n .2;
                         needs = needs-same (λ ds. ap (λ (c : List ℕ). walkT Any any? P T 0 [] (c ++ ds)) chosen ∙ ap (walkT Any any? P T 0 []) (append-assoc (take d vals) (v ∷ []) ds)) (n .3);

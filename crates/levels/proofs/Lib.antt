@@ -3,3 +3,4 @@ pub mod Pauses
 pub mod Tried
 pub mod Going
 mod Steps
+pub mod First

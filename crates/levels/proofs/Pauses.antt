@@ -91,66 +91,50 @@ module _ {L S K N Z : List ℕ} {Q : List Kind} {P : Pattern} {T : Term} where
         below k l (yes e) = rw e (omega arith)
         below k l (no n) = omega (arith, ps .rise k d (omega arith) (omega arith))
 
-    -- one level more: what the last one's value leads to asks for a variable further right
-    pub pauses-need : {p x s lo hi : ℕ} → suc d < length places → suc d < length X → suc d < length St → suc d < length U → suc d < length Nx → suc d < length F
-        → getD places d 0 + 1 ≤ p → lo ≤ hi → Needs L S R A K N Z Q [] (λ ds. walkT Any any? P T 0 [] (take (suc d) vals ++ ds)) p x s lo hi
-        → Pauses L S R A K N Z Q P T vals (set places (suc d) p) (set X (suc d) x) (set St (suc d) s) (set U (suc d) s) (set Nx (suc d) lo) (set F (suc d) (suc hi - lo)) (suc (suc d))
-    pauses-need {p} {x} {s} {lo} {hi} hp hx hs hu hv hf later range n =
-        record { marks = ps .marks; each = λ k l. each k l (ℕ-discrete k (suc d)); rise = λ j k m l. rise j k m l (ℕ-discrete k (suc d)) }
-      where
-        at-last : (k : ℕ) → k ≤ d → getD places k 0 < p
-        at-last k l = go (ℕ-discrete k d)
-          where
-            go : Dec (k ≡ d) → getD places k 0 < p
-            go (yes e) = rw e (omega arith)
-            go (no m) = omega (arith, ps .rise k d (omega arith) (omega arith))
+  -- no level yet
+  pub pauses-none : {R A vals places X St U Nx F : List ℕ} → Marks K A → Pauses L S R A K N Z Q P T vals places X St U Nx F 0
+  pauses-none marks = record { marks = marks; each = λ k l. absurd (omega arith); rise = λ j k m l. absurd (omega arith) }
 
-        rise : (j k : ℕ) → j < k → k < suc (suc d) → Dec (k ≡ suc d) → getD (set places (suc d) p) j 0 < getD (set places (suc d) p) k 0
-        rise j k m l (yes e) =
-            let z : j ≡ suc d → ⊥ = λ o. omega arith in
-            rw (e, getD-set-other places (suc d) j p 0 z, getD-set-same places (suc d) p 0 hp) (at-last j (omega arith))
-        rise j k m l (no n) =
-            let z : j ≡ suc d → ⊥ = λ o. omega arith in
-            rw (getD-set-other places (suc d) j p 0 z, getD-set-other places (suc d) k p 0 n) (ps .rise j k m (omega arith))
-
-        newest : Pause L S R A K N Z Q (λ ds. walkT Any any? P T 0 [] (take (suc d) vals ++ ds)) p x s s lo (suc hi - lo)
-        newest =
-            let z : 0 ≡ lo - lo = omega arith in
-            record { lo = lo; hi = hi; needs = n; low = omega arith; high = omega arith; lands = λ _. subst (λ (i : ℕ). Lands L S s s i (n .stop)) z (lands-first (n .stands)) }
-
-        each : (k : ℕ) → k < suc (suc d) → Dec (k ≡ suc d)
-            → Pause L S R A K N Z Q (λ ds. walkT Any any? P T 0 [] (take k vals ++ ds)) (getD (set places (suc d) p) k 0) (getD (set X (suc d) x) k 0) (getD (set St (suc d) s) k 0)
-            (getD (set U (suc d) s) k 0) (getD (set Nx (suc d) lo) k 0) (getD (set F (suc d) (suc hi - lo)) k 0)
-        each k l (yes e) =
-            rw (
-              e,
-              getD-set-same places (suc d) p 0 hp,
-              getD-set-same X (suc d) x 0 hx,
-              getD-set-same St (suc d) s 0 hs,
-              getD-set-same U (suc d) s 0 hu,
-              getD-set-same Nx (suc d) lo 0 hv,
-              getD-set-same F (suc d) (suc hi - lo) 0 hf,
-            ) newest
-        each k l (no n) =
-            rw (
-              getD-set-other places (suc d) k p 0 n,
-              getD-set-other X (suc d) k x 0 n,
-              getD-set-other St (suc d) k s 0 n,
-              getD-set-other U (suc d) k s 0 n,
-              getD-set-other Nx (suc d) k lo 0 n,
-              getD-set-other F (suc d) k (suc hi - lo) 0 n,
-            ) (ps .each k (omega arith))
-
-  -- the first level, before any choice
-  pub pauses-first : {R A : List ℕ} {p x s lo hi : ℕ} (vals places X St U Nx F : List ℕ) → Marks K A → lo ≤ hi → Needs L S R A K N Z Q [] (walkT Any any? P T 0 []) p x s lo hi
-      → getD places 0 0 ≡ p → getD X 0 0 ≡ x → getD St 0 0 ≡ s → getD U 0 0 ≡ s → getD Nx 0 0 ≡ lo → getD F 0 0 ≡ suc hi - lo → Pauses L S R A K N Z Q P T vals places X St U Nx F 1
-  pauses-first {R} {A} {p} {x} {s} {lo} {hi} vals places X St U Nx F marks range n ep ex es eu en ef =
-      record { marks = marks; each = λ k l. each k (omega arith); rise = λ j k m l. absurd (omega arith) }
+  -- one level more: what the choices so far lead to asks for a variable further right
+  pub pauses-need : {R A vals places X St U Nx F : List ℕ} {d p x s lo hi : ℕ} → Pauses L S R A K N Z Q P T vals places X St U Nx F d
+      → d < length places → d < length X → d < length St → d < length U → d < length Nx → d < length F
+      → ((k : ℕ) → k < d → getD places k 0 < p) → lo ≤ hi → Needs L S R A K N Z Q [] (λ ds. walkT Any any? P T 0 [] (take d vals ++ ds)) p x s lo hi
+      → Pauses L S R A K N Z Q P T vals (set places d p) (set X d x) (set St d s) (set U d s) (set Nx d lo) (set F d (suc hi - lo)) (suc d)
+  pauses-need {R} {A} {vals} {places} {X} {St} {U} {Nx} {F} {d} {p} {x} {s} {lo} {hi} ps hp hx hs hu hv hf later range n =
+      record { marks = ps .marks; each = λ k l. each k l (ℕ-discrete k d); rise = λ j k m l. rise j k m l (ℕ-discrete k d) }
     where
-      top : Pause L S R A K N Z Q (walkT Any any? P T 0 []) p x s s lo (suc hi - lo)
-      top =
+      rise : (j k : ℕ) → j < k → k < suc d → Dec (k ≡ d) → getD (set places d p) j 0 < getD (set places d p) k 0
+      rise j k m l (yes e) =
+          let z : j ≡ d → ⊥ = λ o. omega arith in
+          rw (e, getD-set-other places d j p 0 z, getD-set-same places d p 0 hp) (later j (omega arith))
+      rise j k m l (no n) =
+          let z : j ≡ d → ⊥ = λ o. omega arith in
+          rw (getD-set-other places d j p 0 z, getD-set-other places d k p 0 n) (ps .rise j k m (omega arith))
+
+      newest : Pause L S R A K N Z Q (λ ds. walkT Any any? P T 0 [] (take d vals ++ ds)) p x s s lo (suc hi - lo)
+      newest =
           let z : 0 ≡ lo - lo = omega arith in
           record { lo = lo; hi = hi; needs = n; low = omega arith; high = omega arith; lands = λ _. subst (λ (i : ℕ). Lands L S s s i (n .stop)) z (lands-first (n .stands)) }
 
-      each : (k : ℕ) → k ≡ 0 → Pause L S R A K N Z Q (λ ds. walkT Any any? P T 0 [] (take k vals ++ ds)) (getD places k 0) (getD X k 0) (getD St k 0) (getD U k 0) (getD Nx k 0) (getD F k 0)
-      each k e = rw (e, ep, ex, es, eu, en, ef) top
+      each : (k : ℕ) → k < suc d → Dec (k ≡ d)
+          → Pause L S R A K N Z Q (λ ds. walkT Any any? P T 0 [] (take k vals ++ ds)) (getD (set places d p) k 0) (getD (set X d x) k 0) (getD (set St d s) k 0)
+          (getD (set U d s) k 0) (getD (set Nx d lo) k 0) (getD (set F d (suc hi - lo)) k 0)
+      each k l (yes e) =
+          rw (
+            e,
+            getD-set-same places d p 0 hp,
+            getD-set-same X d x 0 hx,
+            getD-set-same St d s 0 hs,
+            getD-set-same U d s 0 hu,
+            getD-set-same Nx d lo 0 hv,
+            getD-set-same F d (suc hi - lo) 0 hf,
+          ) newest
+      each k l (no n) =
+          rw (
+            getD-set-other places d k p 0 n,
+            getD-set-other X d k x 0 n,
+            getD-set-other St d k s 0 n,
+            getD-set-other U d k s 0 n,
+            getD-set-other Nx d k lo 0 n,
+            getD-set-other F d k (suc hi - lo) 0 n,
+          ) (ps .each k (omega arith))

@@ -91,3 +91,9 @@ module _ {L S M tables R A : List ℕ} {p x s u v : ℕ}
             let y = walk .is (w .K) (w .N) (w .Z) Q f lo hi a in
             (λ n. absurd (n (says w l a post .is T Q es cs k (w .allowing) l g .0 e)), λ b. (y .0, y .1), y .2, y .3);
       }
+
+  -- the record keeps its length
+  pub try-long : {o : Out} {R′ A′ : List ℕ} → AttemptPost L S M tables R A p x s u v o R′ A′ → length R′ ≡ length R
+  try-long post =
+      let h = pre .some in
+      post .is (h .0) (h .1) (h .2) (h .3) (h .4) (h .5) (h .6) (h .7) (h .8) (h .9) (h .10) (h .11) (h .12) .2 .long

@@ -37,7 +37,7 @@ fn standing(levels: &[usize; 1536], d: usize) -> Level
 }
 
 // The level d goes on to its next value.
-fn advance(levels: &mut [usize; 1536], d: usize, row: usize, next: usize, left: usize)
+pub fn advance(levels: &mut [usize; 1536], d: usize, row: usize, next: usize, left: usize)
     requires { ⌜ Inside (now levels) d ⌝ }
     ensures { λ _. ⌜ Moved (now (levels .entry)) d row next left (now (levels .exit)) ⌝ }
 {

@@ -1,3 +1,3 @@
-pub mod Begun
 pub mod Whole
+pub mod Pages
 pub mod Unique

@@ -19,28 +19,35 @@ use Rattle.problem.specs.Answer.{Answered}
 use Rattle.problem.specs.declared.Problem.{Problem}
 use Rattle.problem.proofs.Posed.{codes-high, the, known}
 use Rattle.walk.specs.Packed.{Packed, Bounds}
-use Rattle.catalogue.specs.Answer.{Result, atMost, roomOf}
+use Rattle.catalogue.specs.Answer.{Result, Room, atMost, unlimited, roomOf}
 use Rattle.catalogue.specs.Listing.{Meant}
 use Rattle.catalogue.proofs.Back.{fitting, fitting-some}
 use Rattle.catalogue.proofs.Events.{events}
 use Rattle.catalogue.proofs.Run.{Tame, run}
-use Rattle.catalogue.proofs.Fill.{filled, room-fits}
+use Rattle.catalogue.proofs.Fill.{tame-widths, shown, room-fits}
 use Rattle.catalogue.proofs.Whole.{walked, meant}
 use Rattle.catalogue.proofs.Facts.{meant-unlimited}
 use Rattle.search.specs.declared.Found.{Found}
 use Rattle.levels.proofs.Going.{is-fixed}
-use Rattle.lister.specs.Begun.{BeginAsked, BeginPre, BeginPost}
+use Rattle.entry.specs.Begun.{BeginAsked, BeginPre, BeginPost}
+use Rattle.lister.specs.Inside.{nothing, whole}
 use Rattle.lister.specs.Listed.{Settled}
 
 -- the room of the code is the room of the rules
+pub by-room : (M : Room → Type 0) (n : ℕ) (Q : List Kind) → (Q ≡ [] → M (atMost 1) → M unlimited) → M (atMost (fitting n (length Q + length Q))) → M (roomOf n (length Q))
+by-room M n [] one m = one refl m
+by-room M n (k ∷ Q) one m = subst (λ (r : ℕ). M (atMost r)) (sym (fitting-some n (suc (length Q) + suc (length Q)) (λ e. omega arith))) m
+
 pub in-room : {A : ℕ → Value → Type 0} (a? : (x : ℕ) (v : Value) → Dec (A x v)) {P : Pattern} {T : Term} {budget : ℕ} {x : Result} (n : ℕ) (Q : List Kind) → Numbered P Q
     → Meant A Q P T budget (atMost (fitting n (length Q + length Q))) x → Meant A Q P T budget (roomOf n (length Q)) x
-in-room a? n [] g m = meant-unlimited a? g m
-in-room {A} a? {P} {T} {budget} {x} n (k ∷ Q) g m =
-    subst (λ (r : ℕ). Meant A (k ∷ Q) P T budget (atMost r) x) (sym (fitting-some n (suc (length Q) + suc (length Q)) (λ e. omega arith))) m
+in-room {A} a? {P} {T} {budget} {x} n Q g = by-room (λ (r : Room). Meant A Q P T budget r x) n Q (all-room Q g)
+  where
+    all-room : (Q : List Kind) → Numbered P Q → Q ≡ [] → Meant A Q P T budget (atMost 1) x → Meant A Q P T budget unlimited x
+    all-room [] g e m = meant-unlimited a? g m
+    all-room (k ∷ Q) g e m = absurd (omega (arith, ap length e))
 
 module _ (l : Lists) {r : Problem} (a : Answered l r) (budget : ℕ) (before : List ℕ) where
-  pub list-refused : (r .code ≡ 0 → ⊥) → Settled l budget before (record { code = r .code; ending = 0; records = 0; tries = 0 }) before
+  pub list-refused : (r .code ≡ 0 → ⊥) → Settled l budget before (nothing (r .code)) before
   list-refused n = record { code = a .code; listed = λ e. absurd (n e); refused = λ e. (refl, refl, refl, refl) }
 
   module _ (z : r .code ≡ 0) where
@@ -53,9 +60,9 @@ module _ (l : Lists) {r : Problem} (a : Answered l r) (budget : ℕ) (before : L
     module _ {M tables : List ℕ} {room width : ℕ}
         (read : (es : List Expression) → GoodTable (l .expressionKind) (l .expressionName) (l .expressionSize) es → TablesOf es tables)
         (packed : Packed (l .kind) (l .name) (l .patternSize) M × Bounds (l .kind) (l .name) (l .constraint) M) (wide : width ≡ r .variables + r .variables) (fits : room ≡ fitting (length before) width) where
-      asked : {T : Term} {P : Pattern} {Q : List Kind} {es : List Expression} {cs : List Constraint} → Poses l T P Q es cs
+      pub searched : {T : Term} {P : Pattern} {Q : List Kind} {es : List Expression} {cs : List Constraint} → Poses l T P Q es cs
           → BeginAsked (l .label) (l .size) M tables room width before T P Q es cs
-      asked {es = es} w =
+      searched {es = es} w =
           let k = known a z (w .rest .pattern) in
           record {
             search =
@@ -75,27 +82,23 @@ module _ (l : Lists) {r : Problem} (a : Answered l r) (budget : ℕ) (before : L
           }
 
       pub begin-asked : BeginPre (l .label) (l .size) M tables room width before
-      begin-asked = record { some = (the a z .T, the a z .P, the a z .Q, the a z .es, the a z .cs, asked (the a z .poses)) }
+      begin-asked = record { some = (the a z .T, the a z .P, the a z .Q, the a z .es, the a z .cs, searched (the a z .poses)) }
 
       pub list-done : {f : Found} {after : List ℕ} → BeginPost (l .label) (l .size) M tables budget room width before f after
-          → Settled l budget before (record { code = 0; ending = f .ending; records = f .records; tries = f .tries }) after
+          → Settled l budget before (whole f) after
       list-done {f} {after} post =
           record {
             code = codes-high l accept 0 (the a z) refl;
             listed = λ e T P Q es cs w.
-                let b = asked w in
+                let b = searched w in
                 let g = b .search .pattern .numbered in
                 let walk = walked (Allowed cs) (allowed? cs) g T in
                 let tame : Tame walk (count Q) (size T) width = is-fixed (b .search) {before = before} (b .wide) (b .fits) .is-tame in
-                let h = filled walk (count Q) (size T) width budget room before after (f .ending) (f .records) (f .tries) tame (b .fits) (post .all T P Q es cs b) in
+                let res = run (events walk (count Q) []) budget room in
                 let y : room ≡ fitting (length before) (length Q + length Q) = fits ∙ ap (fitting (length before)) (b .wide) in
-                record {
-                  result = run (events walk (count Q) []) budget room;
-                  meant = in-room (allowed? cs) (length before) Q g (subst (λ (n : ℕ). Meant (Allowed cs) Q P T budget (atMost n) (run (events walk (count Q) []) budget room)) y (meant (Allowed cs) (allowed? cs) g T budget room));
-                  ends = h .0;
-                  counts = h .1;
-                  tried = h .2;
-                  written = h .3;
-                };
+                shown (Meant (Allowed cs) Q P T budget (roomOf (length before) (length Q))) (events walk (count Q) []) width budget room before after (f .ending) (f .records) (f .tries)
+                (tame-widths walk (count Q) (size T) width tame) (b .fits) (post .all T P Q es cs b)
+                (in-room (allowed? cs) (length before) Q g
+                (subst (λ (n : ℕ). Meant (Allowed cs) Q P T budget (atMost n) res) y (meant (Allowed cs) (allowed? cs) g T budget room)));
             refused = λ e. absurd (e refl);
           }

@@ -1,2 +1,3 @@
-pub mod Begun
+pub mod Inside
 pub mod Listed
+pub mod Page

@@ -12,3 +12,5 @@ pub const RECORD: u32 = 15;
 pub const TOO_LARGE: u32 = 16;
 
 pub const NO_ROOM: u32 = 17;
+
+pub const NO_MATCHER: u32 = 20;

@@ -1,5 +1,5 @@
 -- Demand 3 holds.
-use Prim.Native.Nat.{ℕ, _+_, _≤_}
+use Prim.Native.Nat.{ℕ, _+_}
 use mathlib.Core.Path.{_≡_, refl, ap, _∙_, sym}
 use mathlib.Core.List.{List, [], _∷_}
 use lib.ListN.{length}
@@ -23,14 +23,12 @@ use Rattle.catalogue.specs.Answer.{Result, roomOf}
 use Rattle.catalogue.specs.Listing.{Meant}
 use Rattle.catalogue.proofs.Back.{fitting}
 use Rattle.catalogue.proofs.Events.{events, mem-left}
-use Rattle.catalogue.proofs.Run.{run, more}
+use Rattle.catalogue.proofs.Run.{run}
 use Rattle.catalogue.proofs.Whole.{walked, meant}
-use Rattle.catalogue.proofs.Facts.{one-answer, leading, whole, empty-none, none-empty, tries-bound}
-use Rattle.catalogue.proofs.Stays.{fitting-more}
+use Rattle.catalogue.proofs.Facts.{leading, whole, lengthens, empty-none, none-empty, tries-bound}
 use Rattle.catalogue.proofs.Different.{different}
-use Rattle.lister.specs.declared.Listed.{Listed}
 use Rattle.lister.proofs.Whole.{in-room}
-use Rattle.promises.specs.Lists.{ListIs, Listings}
+use Rattle.promises.specs.Lists.{Listings}
 
 module _ {Q : List Kind} {P : Pattern} (g : Numbered P Q) (T : Term) (cs : List Constraint) where
   -- the answer by going through the events, with the room of a lent list
@@ -40,24 +38,14 @@ module _ {Q : List Kind} {P : Pattern} (g : Numbered P Q) (T : Term) (cs : List 
   pub ran-meant : (budget lent : ℕ) → Meant (Allowed cs) Q P T budget (roomOf lent (length Q)) (ran budget lent)
   ran-meant budget lent = in-room (allowed? cs) lent Q g (meant (Allowed cs) (allowed? cs) g T budget (fitting lent (length Q + length Q)))
 
-  is-ran : {budget : ℕ} (lent : ℕ) {x : Result} → Meant (Allowed cs) Q P T budget (roomOf lent (length Q)) x → x ≡ ran budget lent
-  is-ran {budget} lent m = one-answer m (ran-meant budget lent)
-
-  bounded : {budget : ℕ} (lent : ℕ) {x : Result} → Meant (Allowed cs) Q P T budget (roomOf lent (length Q)) x → x .tries ≤ budget
-  bounded {budget} lent m = rw (is-ran lent m) (tries-bound (Allowed cs) (allowed? cs) g T (meant (Allowed cs) (allowed? cs) g T budget (fitting lent (length Q + length Q))))
-
 -- a problem that is well formed is not refused
 accepted : {l : Lists} {T : Term} {P : Pattern} {Q : List Kind} {es : List Expression} {cs : List Constraint} {c : ℕ} → Poses l T P Q es cs → Codes l accept c → c ≡ 0
 accepted {l} {T} {P} {Q} {es} {cs} {c} w o =
     one-codes l accept one-accept c 0 o (codes-high l accept 0 (record { T = T; P = P; Q = Q; es = es; cs = cs; poses = w }) refl)
 
-no-records : (l : List (List ℕ)) → length l ≡ 0 → l ≡ []
+pub no-records : (l : List (List ℕ)) → length l ≡ 0 → l ≡ []
 no-records [] e = refl
 no-records (a ∷ l) e = absurd (omega arith)
-
-module _ {Q : List Kind} {P : Pattern} {T : Term} {cs : List Constraint} {budget : ℕ} {before after : List ℕ} {r : Listed} (x : ListIs Q P T cs budget before r after) where
-  is-ran-list : (g : Numbered P Q) → x .listing .result .records ≡ ran g T cs budget (length before) .records
-  is-ran-list g = ap (λ (z : Result). z .records) (is-ran g T cs (length before) (x .listing .meant))
 
 pub listings : Listings
 listings = record {
@@ -70,7 +58,7 @@ listings = record {
         accepted = e;
         listing = h;
         leading = leading m;
-        within = rw (h .tried) (bounded g T cs (length before) m);
+        within = rw (h .tried) (tries-bound (Allowed cs) (allowed? cs) g T m);
         every = λ z σ o. rw (whole m (sym (h .ends) ∙ z)) (m .solutions-are .all (recordOf P σ) .1 (record { matcher = σ; solves = o; its = refl }));
         only = λ x i.
             let b = leading m in
@@ -88,10 +76,5 @@ listings = record {
   empty-is-none = λ l budget before after r T P Q es cs s z w.
       let h = s .listed (accepted w (s .code)) T P Q es cs w in
       (λ n. empty-none (h .meant) (sym (h .ends) ∙ z) (no-records (h .result .records) (sym (h .counts) ∙ n)), λ n. h .counts ∙ ap length (none-empty (h .meant) n));
-  more-lengthens = λ l b c before after before' after' r s T P Q es cs h k w x y.
-      let g = w .rest .pattern .numbered in
-      let e = is-ran-list x g in
-      let f = is-ran-list y g in
-      let d = more (events (walked (Allowed cs) (allowed? cs) g T) (count Q) []) b c (fitting (length before) (length Q + length Q)) (fitting (length before') (length Q + length Q)) h (fitting-more (length before) (length before') (length Q + length Q) k) in
-      rw (e, f) d;
+  more-lengthens = λ l b c before after before' after' r s T P Q es cs h k w x y. lengthens (length before) (length before') h k (x .listing .meant) (y .listing .meant);
 }

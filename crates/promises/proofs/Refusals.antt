@@ -17,7 +17,7 @@ use Rattle.problem.specs.declared.Problem.{Problem}
 use Rattle.problem.proofs.Posed.{the, one-codes}
 use Rattle.test.proofs.Unique.{one-tested}
 use Rattle.lister.specs.declared.Listed.{Listed}
-use Rattle.lister.proofs.Unique.{Same, one-listed}
+use Rattle.lister.proofs.Unique.{Same, one-listed, one-paged}
 use Rattle.instance.proofs.Promises.{one-making}
 use Rattle.promises.specs.Refusals.{Refusals}
 
@@ -48,7 +48,7 @@ one-answer-listed o = (λ i. record { code = o .code i; ending = o .ending i; re
 pub refusals : Refusals
 refusals = record {
   reader = record { read = λ x. x .answer; unchanged = λ x. x .kept; check = λ x. (x .code, x .place, x .rows, x .answer, x .is); check-is-read = check-is-read };
-  matcher = record { list = λ s. s .code; test = λ s. s .code; instance = λ s. s .coded };
+  matcher = record { list = λ s. s .code; list-after = λ s. s .code; test = λ s. s .code; instance = λ s. s .coded };
   one =
       record {
         read = λ x y. one-answer _ _ _ _ _ _ _ _ _ _ _ _ _ _ _ _ _ _ _ _ x y;
@@ -61,8 +61,9 @@ refusals = record {
         problem = one-problem;
         test = λ {l} {list} {r} {s} a b. one-tested r s a b;
         list = λ a b. one-answer-listed (one-listed a b);
+        list-after = λ a b. one-answer-listed (one-paged a b);
         instance = λ x y. one-making _ _ _ _ _ _ _ _ _ x y;
         yes-or-no = λ {a} {b} h k. one-yes a b h k;
       };
-  nothing-written = record { list = λ s z. let f = s .refused z in (f .3, f .0, f .1, f .2); instance = λ s z. let f = s .refused z in (f .1, f .2, f .0) };
+  nothing-written = record { list = λ s z. let f = s .refused z in (f .3, f .0, f .1, f .2); list-after = λ s z. let f = s .refused z in (f .3, f .0, f .1, f .2); instance = λ s z. let f = s .refused z in (f .1, f .2, f .0) };
 }

@@ -3,6 +3,7 @@
 use Rattle.promises.specs.Refusals.{Refusals}
 use Rattle.promises.specs.Answers.{Answers}
 use Rattle.promises.specs.Lists.{Listings}
+use Rattle.promises.specs.Pages.{Pages}
 use Rattle.promises.specs.Table.{TableHolds}
 
 pub record Demands : Type 1 where
@@ -12,5 +13,7 @@ pub record Demands : Type 1 where
   pub answers : Answers
   -- 3: every solution once, in order, cut short exactly by the rules
   pub listings : Listings
+  -- 3, page by page: all that follow a record, and the pages joined are the list
+  pub pages : Pages
   -- and 01's examples
   pub examples : TableHolds

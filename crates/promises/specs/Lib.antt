@@ -2,4 +2,5 @@ pub mod Demands
 pub mod Refusals
 pub mod Answers
 pub mod Lists
+pub mod Pages
 pub mod Table

@@ -18,6 +18,7 @@ use Rattle.problem.specs.declared.Problem.{Problem as ProblemChecked}
 use Rattle.test.specs.Tested.{codeOf, Fifteen, TestSettled}
 use Rattle.test.specs.declared.Tested.{Tested}
 use Rattle.lister.specs.Listed.{Settled}
+use Rattle.lister.specs.Page.{PageCodes, PageSettled}
 use Rattle.lister.specs.declared.Listed.{Listed}
 use Rattle.instance.specs.Instance.{codeGiven, rowsGiven, InstanceLists, InstanceCodes, InstanceSettled}
 use Rattle.instance.specs.declared.Made.{Made}
@@ -31,9 +32,11 @@ pub record ReaderRefuses : Type 0 where
   pub check-is-read : (d w l s b n l' s' b' n' : List ℕ) (code place rows r : ℕ) → 2048 ≤ shortest l s b n → Read d w l s b n l' s' b' n' code place rows → DocumentChecked d w r
       → r ≡ code * 4294967296 + (place + rows)
 
--- the lister, the test and the instance maker give the lowest code whose rule is broken, and 0 where none is
+-- the lister, the test and the instance maker give the lowest code whose rule is broken, and 0 where none is; a page the first in the order
+-- of 02, #105
 pub record MatcherRefuses : Type 0 where
   pub list : {l : Lists} {budget : ℕ} {before after : List ℕ} {r : Listed} → Settled l budget before r after → Codes l accept (r .code)
+  pub list-after : {l : Lists} {list : List ℕ} {budget : ℕ} {before after : List ℕ} {r : Listed} → PageSettled l list budget before r after → PageCodes l list (r .code)
   pub test : {l : Lists} {list : List ℕ} {r : Tested} → TestSettled l list r → Codes l (Fifteen l list) (codeOf r)
   pub instance : {l : InstanceLists} {L S L' S' : List ℕ} {r : Made} → InstanceSettled l L S r L' S' → InstanceCodes l (length L) (length S) (codeGiven r)
 
@@ -51,6 +54,8 @@ pub record OnlyOne : Type 1 where
   pub test : {l : Lists} {list : List ℕ} {r s : Tested} → TestSettled l list r → TestSettled l list s → r ≡ s
   pub list : {l : Lists} {budget : ℕ} {before after after' : List ℕ} {r s : Listed} → Settled l budget before r after → Settled l budget before s after'
       → (r ≡ s) × (after ≡ after')
+  pub list-after : {l : Lists} {list : List ℕ} {budget : ℕ} {before after after' : List ℕ} {r s : Listed} → PageSettled l list budget before r after → PageSettled l list budget before s after'
+      → (r ≡ s) × (after ≡ after')
   pub instance : {l : InstanceLists} {L S L₁ S₁ L₂ S₂ : List ℕ} {r s : Made} → InstanceSettled l L S r L₁ S₁ → InstanceSettled l L S s L₂ S₂ → (r ≡ s) × (L₁ ≡ L₂) × (S₁ ≡ S₂)
   -- the other checks answer yes or no
   pub yes-or-no : {a b : Bool} {P : Type 0} → Says a P → Says b P → a ≡ b
@@ -58,6 +63,8 @@ pub record OnlyOne : Type 1 where
 -- a refusal by the lister or the instance maker changes no lent list, and its other numbers are 0
 pub record NothingWritten : Type 0 where
   pub list : {l : Lists} {budget : ℕ} {before after : List ℕ} {r : Listed} → Settled l budget before r after → (r .code ≡ 0 → ⊥)
+      → (after ≡ before) × (r .ending ≡ 0) × (r .records ≡ 0) × (r .tries ≡ 0)
+  pub list-after : {l : Lists} {list : List ℕ} {budget : ℕ} {before after : List ℕ} {r : Listed} → PageSettled l list budget before r after → (r .code ≡ 0 → ⊥)
       → (after ≡ before) × (r .ending ≡ 0) × (r .records ≡ 0) × (r .tries ≡ 0)
   pub instance : {l : InstanceLists} {L S L' S' : List ℕ} {r : Made} → InstanceSettled l L S r L' S' → (codeGiven r ≡ 0 → ⊥) → (L' ≡ L) × (S' ≡ S) × (rowsGiven r ≡ 0)
 

@@ -1,2 +1,3 @@
 pub mod Good
 pub mod Pairs
+pub mod Copied

@@ -1,7 +1,11 @@
+ghost use mathlib.Core.Path.{_≡_};
+ghost use Prim.Native.Nat.{_≤_};
+ghost use lib.ListN.{length};
 ghost use Rattle.meaning.specs.Calls.{Says};
 ghost use Rattle.meaning.specs.Pattern.{anIndividual, aSequence, aFunction, aContext};
 ghost use Rattle.record.specs.Good.{GoodRecordList};
 ghost use Rattle.record.specs.Pairs.{RowsPre, FitsPost, PairPost, RecordPre, RecordPost};
+ghost use Rattle.record.specs.Copied.{Copied};
 use meaning::kinds::CONTEXT;
 use meaning::kinds::SEQUENCE;
 
@@ -74,6 +78,21 @@ pub fn fits(size: &[u32], kinds: &[u32; 16], variables: usize, record: &[u32]) -
             return false;
         }
         x += 1;
+    }
+    true
+}
+
+// Whether the first numbers of found are those of the list.
+pub fn equal(found: &[u32; 32], list: &[u32]) -> bool
+    requires { ⌜ (length (now found) ≡ 32) × (length (now list) ≤ 32) ⌝ }
+    ensures { λ r. ⌜ Says r (Copied (now (list .entry)) (now (found .entry))) ⌝ }
+{
+    let mut i = 0;
+    while i < list.len() {
+        if found[i] != list[i] {
+            return false;
+        }
+        i += 1;
     }
     true
 }

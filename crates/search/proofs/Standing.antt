@@ -68,4 +68,4 @@ module _ {i : Input} {out R A W : List ℕ} {depth cnt tries : ℕ}
         entered d =
             let w = d .entered in
             rw (w .new-places, w .new-variables, w .new-starts, w .new-rows, w .new-nexts, w .new-lefts)
-            (tried-need tried needs (d .least-is) (rw same-place (d .many-is)) pre (ready .some))
+            (tried-need tried needs (d .least-is) (rw same-place (d .many-is)) pre)

@@ -1,7 +1,7 @@
 -- The search's loop: what holds at each turn, for every problem that the lists mean.
 use Prim.Native.Nat.{ℕ, suc, _+_, _-_, _*_, _<_, _≤_}
-use mathlib.Core.Path.{_≡_, refl, ap, _∙_, sym, subst}
-use mathlib.Core.List.{List, [], _++_}
+use mathlib.Core.Path.{_≡_, refl, ap, _∙_, subst}
+use mathlib.Core.List.{List, []}
 use lib.ListN.{length, getD, take, set, length-set}
 use lib.Seq.{paste, set-set, getD-set-same}
 use native.Mathlib.Omega.{arith}
@@ -9,33 +9,33 @@ use native.Mathlib.Numerals.{add-one}
 use Rattle.meaning.specs.Forest.{Term, size, rows}
 use Rattle.meaning.specs.Pattern.{Pattern, Kind}
 use Rattle.meaning.specs.Record.{Entry, numbers}
-use Rattle.meaning.proofs.Walk.{ok, walkT, walk}
-use Rattle.meaning.proofs.Next.{Any, any?}
+use Rattle.meaning.proofs.Walk.{ok, walk}
 use Rattle.meaning.proofs.Tame.{count, tame-need}
 use Rattle.tree.specs.Rows.{GoodTree}
 use Rattle.tree.proofs.Unique.{good-lengths}
 use Rattle.expression.specs.Expression.{Expression}
 use Rattle.constraint.specs.Obeys.{Constraint, Allowed}
 use Rattle.constraint.proofs.Allowed.{allowed?}
-use Rattle.walk.specs.Cycle.{stop-at, Needs}
+use Rattle.walk.specs.Cycle.{stop-at}
 use Rattle.walk.specs.Taken.{Answers}
 use Rattle.walk.specs.declared.Out.{Out}
 use Rattle.walk.specs.declared.Out.the-variants as answer
 use Rattle.walk.proofs.Answered.{failed, matched}
-use Rattle.choice.specs.Stops.{StopAt, LeastPost, FurtherPre, FurtherPost, Before, MorePre, MorePost}
+use Rattle.choice.specs.Stops.{many, StopAt, LeastPost, FurtherPre, FurtherPost, Before, MorePre, MorePost}
 use Rattle.choice.specs.Runs.{LevelPre, SkipPost}
-use Rattle.choice.proofs.Stops.{many-range, at-room}
+use Rattle.choice.proofs.Stops.{at-room}
 use Rattle.catalogue.proofs.Events as events
 use Rattle.catalogue.proofs.Back.{BackTo}
 use Rattle.catalogue.proofs.Fill.{Filled, fill, rest, ahead}
-use Rattle.catalogue.proofs.Levels.{levels-back, levels-need}
+use Rattle.catalogue.proofs.Levels.{levels-back}
 use Rattle.catalogue.proofs.Loop.{Fixed, At, at-rest, at-back, all-done, at-spent, at-skip, at-next, at-fail, at-need, at-match, no-room, room-left, need-deep}
 use Rattle.catalogue.proofs.Whole.{outcome}
 use Rattle.levels.specs.Levels.{AttemptPre, AttemptPost}
 use Rattle.search.specs.Search.{GoAsked, GoPre, GoPost}
 use Rattle.search.specs.declared.Found.{Found}
-use Rattle.levels.proofs.Going.{few, Walked, is-fixed, Leveled, Paused, Asks, skip-asked, skip-fails, skip-levels, try-kind, try-taken, try-answered, further-asked}
-use Rattle.levels.proofs.Pauses.{pauses-back, pauses-need}
+use Rattle.levels.proofs.Going.{few, Walked, is-fixed, Leveled, Paused, Asks, asks-stop, asks-values, asks-level, skip-asked, skip-fails, skip-levels, try-kind, try-taken, try-answered, further-asked}
+use Rattle.levels.proofs.Pauses.{pauses-back}
+use Rattle.levels.proofs.Tried.{try-long}
 
 pub tree-small : {L S : List ℕ} {T : Term} → GoodTree L S T → size T ≤ 2048
 unfolding rows
@@ -167,7 +167,7 @@ module _ (i : Input) where
         → (vals : List ℕ) × Stand a out (ahead (Walked (a .search)) (count Q) vals N F depth) vals N F depth cnt tries
         × Answers R o (walk (Allowed cs) (allowed? cs) P T (take depth vals)) × Leveled (a .search) vals X St N F depth × Paused (a .search) R A vals G X St U N F depth
         × Before (i .L) (i .S) A (getD G (depth - 1) 0) u left (a .search .K) (a .search .N) (a .search .Z) Q
-        × ((p x s : ℕ) → o ≡ answer.Need (stop-at p x s) → Asks (a .search) R A vals depth (getD G (depth - 1) 0) p x s)
+        × ((p x s : ℕ) → o ≡ answer.Need (stop-at p x s) → Asks (a .search) R A vals G depth p x s)
 
 module _ {i : Input} where
   pub going-start : Pre i → Going i (i .before) (i .R) (i .A) (i .G) (i .X) (i .St) (i .U) (i .N) (i .F) (i .start) 0 0
@@ -322,7 +322,7 @@ module _ {i : Input} where
     going-try {o} {R′} {A′} {u} p b further post =
         record {
           long = record {
-            record-long = kept ∙ g .long .record-long;
+            record-long = try-long (attempt-asked p) post ∙ g .long .record-long;
             places-long = g .long .places-long;
             variables-long = g .long .variables-long;
             starts-long = g .long .starts-long;
@@ -347,16 +347,7 @@ module _ {i : Input} where
         Answered {T} {P} {Q} {es} {cs} a vals n =
             Answers R′ o (walk (Allowed cs) (allowed? cs) P T (take n vals)) × Leveled (a .search) vals X St N′ F′ n × Paused (a .search) R′ A′ vals G X St (set U (depth - 1) u) N′ F′ n
             × Before (i .L) (i .S) A′ (getD G (depth - 1) 0) (getD U (depth - 1) 0) (getD F (depth - 1) 0 - 1) (a .search .K) (a .search .N) (a .search .Z) Q
-            × ((p x s : ℕ) → o ≡ answer.Need (stop-at p x s) → Asks (a .search) R′ A′ vals n (getD G (depth - 1) 0) p x s)
-
-        kept : length R′ ≡ length R
-        kept =
-            let h = p .some in
-            let a = h .6 in
-            let b = below a in
-            let k = try-kind (a .search) (b .0) (b .1) (r .live) in
-            let t = try-taken (a .search) (b .0) (b .1) (r .live) (g .long .record-long) in
-            post .is (h .0) (h .1) (h .2) (h .3) (h .4) (k .0) (t .0) (t .1) (t .2) (a .search) (k .1) (k .2) (t .3) .2 .long
+            × ((p x s : ℕ) → o ≡ answer.Need (stop-at p x s) → Asks (a .search) R′ A′ vals G n p x s)
 
   module _ {out R A G X St U N F : List ℕ} {depth cnt tries limit failed u : ℕ} (g : Passing i out R A G X St U N F depth cnt tries limit failed u) where
     ready : Ready i out R A G X St (set U (depth - 1) u) (set N (depth - 1) (getD N (depth - 1) 0 + failed)) (set F (depth - 1) (getD F (depth - 1) 0 - failed)) depth cnt (tries + failed)
@@ -403,23 +394,21 @@ module _ {i : Input} where
 
     module _ {p₁ x s : ℕ} (e : o ≡ answer.Need (stop-at p₁ x s)) where
       asks : {T : Term} {P : Pattern} {Q : List Kind} {es : List Expression} {cs : List Constraint} {vals₀ : List ℕ} (a : Asked i T P Q es cs vals₀)
-          → Asks (a .search) R A (t .each a .0) depth (getD G (depth - 1) 0) p₁ x s
+          → Asks (a .search) R A (t .each a .0) G depth p₁ x s
       asks a = t .each a .6 p₁ x s e
 
-      need-range : {T : Term} {P : Pattern} {Q : List Kind} {es : List Expression} {cs : List Constraint} {vals₀ : List ℕ} (a : Asked i T P Q es cs vals₀) → (asks a .lo ≤ asks a .hi) × (depth < count Q)
-      need-range {T} {cs = cs} a =
-          let n = asks a in
-          (tame-need (Allowed cs) (allowed? cs) T _ (a .search .pattern .numbered) (n .asked) .1, need-deep (fixed i a) (t .each a .1) (n .lo) (suc (n .hi) - n .lo) (ap outcome (n .asked)) .0)
+      need-few : {T : Term} {P : Pattern} {Q : List Kind} {es : List Expression} {cs : List Constraint} {vals₀ : List ℕ} (a : Asked i T P Q es cs vals₀) → depth < count Q
+      need-few a = let n = asks a in need-deep (fixed i a) (t .each a .1) (n .lo) (suc (n .hi) - n .lo) (ap outcome (n .asked)) .0
 
       pub need-fits : Pre i → depth < 256
       need-fits p =
           let a = p .some .6 in
-          omega (arith, need-range a .1, few (p .some .2), a .search .allowing .few)
+          omega (arith, need-few a, few (p .some .2), a .search .allowing .few)
 
       -- where the walk stopped
       need-stops : {T : Term} {P : Pattern} {Q : List Kind} {es : List Expression} {cs : List Constraint} {vals₀ : List ℕ} (a : Asked i T P Q es cs vals₀)
           → StopAt (i .L) (i .S) (i .M) A p₁ s (a .search .K) (a .search .N) (a .search .Z) Q x (asks a .needs .stop) (asks a .needs .frames)
-      need-stops a = record { packed = a .search .packed; marks = t .each a .4 .marks; stands = asks a .needs .stands }
+      need-stops a = asks-stop (a .search) (asks a) (t .each a .4 .marks)
 
       pub need-room : Pre i → 6 * p₁ + 5 < length (i .M)
       need-room p = at-room (need-stops (p .some .6)) .1
@@ -432,16 +421,13 @@ module _ {i : Input} where
 
       module _ {lo n : ℕ} (low : LeastPost (i .M) p₁ s lo) (more : MorePost (i .S) (i .M) A (getD G (depth - 1) 0) u left p₁ s n) where
         -- they are the values that the walk asked for
-        need-values : {T : Term} {P : Pattern} {Q : List Kind} {es : List Expression} {cs : List Constraint} {vals₀ : List ℕ} (a : Asked i T P Q es cs vals₀)
-            → (asks a .lo ≡ lo) × (suc (asks a .hi) - lo ≡ n)
-        need-values a =
+        need-many : {T : Term} {P : Pattern} {Q : List Kind} {es : List Expression} {cs : List Constraint} {vals₀ : List ℕ} (a : Asked i T P Q es cs vals₀) → n ≡ many (asks a .needs .stop)
+        need-many a =
             let w = asks a .needs in
-            let l = low .is (i .L) (i .S) A (a .search .K) (a .search .N) (a .search .Z) _ x (w .stop) (w .frames) (need-stops a) in
-            let m = more .is (i .L) (a .search .K) (a .search .N) (a .search .Z) _ x (w .stop) (w .frames) (need-stops a) (t .each a .5) in
-            (sym (w .low) ∙ sym l, omega (arith, l, m, many-range (w .stop) s, w .high))
+            more .is (i .L) (a .search .K) (a .search .N) (a .search .Z) _ x (w .stop) (w .frames) (need-stops a) (t .each a .5)
 
-        pub tried-need : Pre i → 0 < depth → Going i out R A (set G depth p₁) (set X depth x) (set St depth s) (set U depth s) (set N depth lo) (set F depth n) (depth + 1) cnt tries
-        tried-need p some =
+        pub tried-need : Pre i → Going i out R A (set G depth p₁) (set X depth x) (set St depth s) (set U depth s) (set N depth lo) (set F depth n) (depth + 1) cnt tries
+        tried-need p =
             let q = need-fits p in
             record {
               long = record {
@@ -454,26 +440,16 @@ module _ {i : Input} where
                 lefts-long = length-set F depth n ∙ t .long .lefts-long;
               };
               charged = t .charged;
-              each = λ {T} {P} {Q} {es} {cs} {vals₀} a.
+              each = λ a.
                   let h = t .each a in
                   let b = asks a in
-                  let v = need-values a in
-                  let r = need-range a .0 in
-                  let m = levels-need (Allowed cs) (allowed? cs) (a .search .pattern .numbered) T (h .3) (omega (arith, h .1 .vals-long)) (omega (arith, t .long .variables-long))
-                  (omega (arith, t .long .starts-long)) (omega (arith, t .long .nexts-long)) (omega (arith, t .long .lefts-long)) (b .asked) r in
-                  let z : suc (depth - 1) ≡ depth = omega arith in
-                  let c : More a (h .0) (b .lo) (suc (b .hi) - b .lo) depth =
-                  subst (More a (h .0) (b .lo) (suc (b .hi) - b .lo)) z
-                  (pauses-need (subst (λ (k : ℕ). Paused (a .search) R A (h .0) G X St U N F k) (sym z) (h .4)) (omega (arith, t .long .places-long)) (omega (arith, t .long .variables-long))
-                  (omega (arith, t .long .starts-long)) (omega (arith, t .long .rows-long)) (omega (arith, t .long .nexts-long)) (omega (arith, t .long .lefts-long)) (b .later) r
-                  (subst (λ (k : ℕ). Needs (i .L) (i .S) R A (a .search .K) (a .search .N) (a .search .Z) Q [] (λ ds. walkT Any any? P T 0 [] (take k (h .0) ++ ds)) p₁ x s (b .lo) (b .hi)) (sym z) (b .needs)))
-                  in
+                  let v = asks-values (a .search) b (h .4 .marks) low (need-many a) in
+                  let c =
+                  asks-level (a .search) b (h .4 .marks) low (need-many a) (h .3) (h .4) (omega (arith, h .1 .vals-long)) (omega (arith, t .long .places-long)) (omega (arith, t .long .variables-long))
+                  (omega (arith, t .long .starts-long)) (omega (arith, t .long .rows-long)) (omega (arith, t .long .nexts-long)) (omega (arith, t .long .lefts-long)) in
                   let d = at-need (fixed i a) (h .1) (b .lo) (suc (b .hi) - b .lo) (ap outcome (b .asked)) in
-                  (h .0, rw (v .0, v .1) at d, rw (v .0, v .1, b .its, ← (add-one depth)) at m, rw (v .0, v .1, ← (add-one depth)) at c);
+                  (h .0, rw (v .0, v .1) at d, rw (← (add-one depth)) at (c .0), rw (← (add-one depth)) at (c .1));
             }
-          where
-            More : {T : Term} {P : Pattern} {Q : List Kind} {es : List Expression} {cs : List Constraint} {vals₀ : List ℕ} (a : Asked i T P Q es cs vals₀) → List ℕ → ℕ → ℕ → ℕ → Type 0
-            More a vals lo n k = Paused (a .search) R A vals (set G k p₁) (set X k x) (set St k s) (set U k s) (set N k lo) (set F k n) (suc k)
 
     module _ {n : ℕ} (e : o ≡ answer.Ok n) where
       done-said : {T : Term} {P : Pattern} {Q : List Kind} {es : List Expression} {cs : List Constraint} {vals₀ : List ℕ} (a : Asked i T P Q es cs vals₀)

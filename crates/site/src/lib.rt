@@ -2,7 +2,7 @@
 ghost use Rattle.document.specs.Reading.{DocumentChecked, Read};
 ghost use Rattle.dictionary.specs.Spelling.{PartAnswered};
 ghost use Rattle.instance.specs.Instance.{lists};
-ghost use Rattle.answer.specs.Answers.{Lists, Tests, Makes};
+ghost use Rattle.answer.specs.Answers.{Lists, ListsAfter, Tests, Makes};
 use answer::Listing;
 use answer::Making;
 use answer::Part;
@@ -73,6 +73,49 @@ pub extern "C" fn khargovsun_list(
         constraint,
         budget,
         out,
+    ))
+}
+
+#[no_mangle]
+pub extern "C" fn khargovsun_list_after(
+    label: &[u32],
+    size: &[u32],
+    kind: &[u32],
+    name: &[u32],
+    pattern_size: &[u32],
+    expression_kind: &[u32],
+    expression_name: &[u32],
+    expression_size: &[u32],
+    constraint: &[u32],
+    record: &[u32],
+    budget: u32,
+    page: &mut [u32],
+) -> Listing
+    ensures { λ r. ⌜ ListsAfter (record {
+      label = now (label .entry);
+      size = now (size .entry);
+      kind = now (kind .entry);
+      name = now (name .entry);
+      patternSize = now («pattern_size» .entry);
+      expressionKind = now («expression_kind» .entry);
+      expressionName = now («expression_name» .entry);
+      expressionSize = now («expression_size» .entry);
+      constraint = now (constraint .entry);
+    }) (now («record» .entry)) budget (now (page .entry)) (r .code) (r .ending) (r .records) (r .tries) (now (page .exit)) ⌝ }
+{
+    answer::of_lister(lister::list_after(
+        label,
+        size,
+        kind,
+        name,
+        pattern_size,
+        expression_kind,
+        expression_name,
+        expression_size,
+        constraint,
+        record,
+        budget,
+        page,
     ))
 }
 

@@ -1,19 +1,19 @@
 -- The walk with the choices of a record: each variable that is asked for takes its own second number.
-use Prim.Native.Nat.{ℕ, zero, suc, _+_, _-_, _*_, _<_, _≤_}
+use Prim.Native.Nat.{ℕ, suc, _+_, _-_, _*_, _<_, _≤_}
 use mathlib.Core.Path.{_≡_, refl, ap, _∙_, sym, subst}
 use mathlib.Core.Bool.{true, false}
 use mathlib.Core.List.{List, [], _∷_, _++_, append-assoc, append-nil}
-use lib.ListN.{length, getD, take, length-append}
+use lib.ListN.{length, getD, length-append}
 use native.Mathlib.Omega.{arith}
 use native.Mathlib.Decide.{decLe}
 use Rattle.meaning.specs.Forest.{none, Term, _◂_}
-use Rattle.meaning.specs.Pattern.{Pattern, Kind, anIndividual, aSequence, aFunction, aContext, old, look}
+use Rattle.meaning.specs.Pattern.{Pattern, Kind}
 use Rattle.meaning.specs.Record.{numbers}
 use Rattle.meaning.specs.Order.{choices}
 use Rattle.meaning.proofs.Walk.{Res, fail, over, when, walkT, walk}
 use Rattle.meaning.proofs.Resume.{least, largest, then-done}
 use Rattle.meaning.proofs.Next.{Any, any?}
-use Rattle.meaning.proofs.Tame.{count, choices-few, numbers-double, tame-ok, tame-need}
+use Rattle.meaning.proofs.Tame.{choices-few, numbers-double, tame-ok, tame-need}
 use Rattle.meaning.proofs.Steps.{values-length}
 use Rattle.record.proofs.Each.{good-long}
 use Rattle.variable.proofs.States.{count-bound}
@@ -26,45 +26,9 @@ use Rattle.walk.specs.declared.Out.the-variants as out
 use Rattle.walk.proofs.Views.{fail-agree, need-agree, ok-agree, agree-same}
 use Rattle.choice.specs.Stops.{StopAt, AtStop, LeastPost, ValuesPost, LandingPre, LandingPost}
 use Rattle.choice.proofs.Stops.{many-range, at-room}
-use Rattle.catalogue.proofs.Given.{Chosen}
-use Rattle.catalogue.proofs.Levels.{Level, level-kind, level-count}
+use Rattle.catalogue.proofs.Levels.{Level, level-choice}
 use Rattle.test.specs.Inside.{Walkable}
 use Rattle.test.specs.Followed.{FollowPre, FollowPost, lost, found}
-
--- the choice of one variable among those of a record
-choices-at : (Q : List Kind) (list : List ℕ) (x : ℕ) (k : Kind) → look Q x ≡ old k → Chosen k → length list ≡ length Q + length Q
-    → (b : List ℕ) × (c : List ℕ) × (choices Q list ≡ b ++ (getD list (x + x + 1) 0 ∷ c)) × (length b ≡ count (take x Q))
-choices-at [] list zero k e c l = let z : _≡_ {A = ℕ} 0 1 = cc in absurd (omega arith)
-choices-at [] list (suc x) k e c l = let z : _≡_ {A = ℕ} 0 1 = cc in absurd (omega arith)
-choices-at (j ∷ Q) [] x k e c l = absurd (omega arith)
-choices-at (j ∷ Q) (a ∷ []) x k e c l = absurd (omega arith)
-choices-at (anIndividual ∷ Q) (a ∷ b ∷ list) zero k e c l = let z : anIndividual ≡ k = cc in absurd (rw (sym z) at c)
-choices-at (aSequence ∷ Q) (a ∷ b ∷ list) zero k e c l = ([], choices Q list, refl, refl)
-choices-at (aFunction ∷ Q) (a ∷ b ∷ list) zero k e c l = let z : aFunction ≡ k = cc in absurd (rw (sym z) at c)
-choices-at (aContext ∷ Q) (a ∷ b ∷ list) zero k e c l = ([], choices Q list, refl, refl)
-choices-at (anIndividual ∷ Q) (a ∷ b ∷ list) (suc x) k e c l =
-    let h = choices-at Q list x k e c (omega arith) in
-    let z : suc x + suc x + 1 ≡ suc (suc (x + x + 1)) = omega arith in
-    (h .0, h .1, rw z (h .2), omega (arith, h .3))
-choices-at (aSequence ∷ Q) (a ∷ b ∷ list) (suc x) k e c l =
-    let h = choices-at Q list x k e c (omega arith) in
-    let z : suc x + suc x + 1 ≡ suc (suc (x + x + 1)) = omega arith in
-    (b ∷ h .0, h .1, rw z (ap (λ (m : List ℕ). b ∷ m) (h .2)), omega (arith, h .3))
-choices-at (aFunction ∷ Q) (a ∷ b ∷ list) (suc x) k e c l =
-    let h = choices-at Q list x k e c (omega arith) in
-    let z : suc x + suc x + 1 ≡ suc (suc (x + x + 1)) = omega arith in
-    (h .0, h .1, rw z (h .2), omega (arith, h .3))
-choices-at (aContext ∷ Q) (a ∷ b ∷ list) (suc x) k e c l =
-    let h = choices-at Q list x k e c (omega arith) in
-    let z : suc x + suc x + 1 ≡ suc (suc (x + x + 1)) = omega arith in
-    (b ∷ h .0, h .1, rw z (ap (λ (m : List ℕ). b ∷ m) (h .2)), omega (arith, h .3))
-
--- two ways to cut a list at one place
-same-cut : (a b c d : List ℕ) → a ++ c ≡ b ++ d → length a ≡ length b → c ≡ d
-same-cut [] [] c d e l = e
-same-cut [] (y ∷ b) c d e l = absurd (omega arith)
-same-cut (x ∷ a) [] c d e l = absurd (omega arith)
-same-cut (x ∷ a) (y ∷ b) c d e l = same-cut a b c d (let z : a ++ c ≡ b ++ d = cc in z) (omega arith)
 
 -- how many rows of the pattern are left where the walk asks
 abbrev pub left-over : Out → ℕ
@@ -169,10 +133,9 @@ module _ {L S M list R A : List ℕ} {o : Out} (w : Following L S M list R A o) 
         let v : Level Any any? g T (h .ds) x t (n .0) (suc (n .1) - n .0) =
         record { bound = n .2 .bound; lo = n .0; hi = n .1; asked = asked; its = values-length (n .2 .bound) ∙ count-bound (n .2 .state); low = omega arith; high = omega (arith, r .1) }
         in
-        let k = level-kind Any any? g T v in
         let l = good-long Q (T ◂ none) list (a .good) in
-        let c = choices-at Q list x (k .0) (k .1) (k .2) (omega (arith, l)) in
-        (c .1, same-cut (h .ds) (c .0) (h .rs) _ (sym (h .all) ∙ c .2) (level-count Any any? g T v ∙ sym (c .3)), omega (arith, l, n .2 .within))
+        let c = level-choice Any any? g T v list (h .rs) l (h .all) in
+        (c .0, c .1, omega (arith, l, n .2 .within))
 
     -- where the walk stopped
     stops : {K N Z : List ℕ} {T : Term} {P : Pattern} {Q : List Kind} → Walkable L S K N Z list T P Q → Packed K N Z M → (h : Made L S R A K N Z list T P Q o)

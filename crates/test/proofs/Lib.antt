@@ -1,4 +1,3 @@
-pub mod Same
 pub mod Obeying
 pub mod Following
 pub mod Refound

@@ -19,7 +19,8 @@ use Rattle.meaning.proofs.Answers.{says-no}
 use Rattle.record.proofs.Each.{good-long}
 use Rattle.walk.specs.Packed.{Packed}
 use Rattle.test.specs.Followed.{FollowPre, FollowPost, Followed, lost, found}
-use Rattle.test.specs.Inside.{Copied, Walkable, WalkablePre, PlacedPost}
+use Rattle.record.specs.Copied.{Copied}
+use Rattle.test.specs.Inside.{Walkable, WalkablePre, PlacedPost}
 
 module _ {L S K N Z list : List ℕ} where
   pub list-short : {variables : ℕ} → WalkablePre L S K N Z variables list → length list ≤ 32

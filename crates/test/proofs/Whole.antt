@@ -12,18 +12,17 @@ use Rattle.meaning.specs.Pattern.{Pattern, Kind, old, look, Numbered}
 use Rattle.meaning.specs.Matcher.{Value}
 use Rattle.meaning.specs.Read.{valueAt, readOff, GoodRecord}
 use Rattle.meaning.specs.Record.{IsRecord}
-use Rattle.meaning.proofs.Means.{means-read, read-means}
 use Rattle.meaning.proofs.Lists.{look-old, look-some}
 use Rattle.meaning.proofs.Steps.{kinds-length}
 use Rattle.meaning.proofs.Next.{Any, any?}
 use Rattle.meaning.proofs.Round.{round}
 use Rattle.meaning.proofs.Answers.{says-yes, says-no, said-no}
-use Rattle.tree.specs.Rows.{GoodTree}
 use Rattle.pattern.specs.Rows.{GoodPattern}
 use Rattle.pattern.specs.Known.{KindsAre}
 use Rattle.record.specs.Pairs.{RecordPre, RecordPost}
 use Rattle.record.proofs.Each.{read-look}
-use Rattle.record.proofs.Whole.{tree-at}
+use Rattle.record.specs.Good.{GoodRecordList}
+use Rattle.record.proofs.Whole.{fits-asked, fits-says, fits-judged}
 use Rattle.expression.specs.Expression.{Expression}
 use Rattle.constraint.specs.Obeys.{Constraint, Allowed}
 use Rattle.constraint.proofs.Allowed.{allowed?}
@@ -72,16 +71,16 @@ module _ (l : Lists) {r : Problem} (a : Answered l r) where
 
   module _ (z : r .code ≡ 0) where
     pub record-asked : RecordPre (l .size) (r .kinds) (r .variables)
-    record-asked = record { rows = record { some = (l .label, _, tree-at (the a z .poses .tree)) }; kinded = (the a z .Q, known a z (the a z .poses .rest .pattern)) }
+    record-asked = fits-asked (the a z .poses .tree) (known a z (the a z .poses .rest .pattern))
 
     module _ (list : List ℕ) {b : Bool} (post : RecordPost (l .size) (r .kinds) (r .variables) list b) where
-      fits-for : {T : Term} {P : Pattern} {Q : List Kind} → GoodTree (l .label) (l .size) T → GoodPattern (l .kind) (l .name) (l .patternSize) P Q → Says b (GoodRecord Q (T ◂ none) list)
-      fits-for {Q = Q} t p = post .is (l .label) _ Q (tree-at t) (known a z p)
+      pub says-good : Says b (GoodRecordList (l .label) (l .size) (l .kind) (l .name) (l .patternSize) list)
+      says-good = fits-judged (the a z .poses .tree) (the a z .poses .rest .pattern) (λ P Q g. known a z g) post
 
       pub test-bad-record : b ≡ false → TestSettled l list (Refused 15)
       test-bad-record e =
           record {
-            code = codes-high l (Fifteen l list) 15 (the a z) (inl (λ g. said-no (fits-for (g .4) (g .5)) e (means-read (g .6) .0), refl));
+            code = codes-high l (Fifteen l list) 15 (the a z) (inl (said-no says-good e, refl));
             yes-or-no = λ h. absurd (omega arith);
             numbered = λ h. let y : _≡_ {A = ℕ} 15 0 = cc in omega arith;
           }
@@ -100,12 +99,10 @@ module _ {l : Lists} {r : Problem} {list : List ℕ} (fitted : Fitted l r list) 
   kinds-for g = known (fitted .answered) (fitted .passed) g
 
   walkable : {T : Term} {P : Pattern} {Q : List Kind} {es : List Expression} {cs : List Constraint} → Poses l T P Q es cs → Walkable (l .label) (l .size) (l .kind) (l .name) (l .patternSize) list T P Q
-  walkable w = record { tree = w .tree; pattern = w .rest .pattern; good = fits-for l (fitted .answered) (fitted .passed) list (fitted .fits) (w .tree) (w .rest .pattern) .0 refl }
+  walkable w = record { tree = w .tree; pattern = w .rest .pattern; good = fits-says (w .tree) (kinds-for (w .rest .pattern)) (fitted .fits) .0 refl }
 
   accepted : Codes l (Fifteen l list) 0
-  accepted =
-      let w = posed-for .poses in
-      codes-high l (Fifteen l list) 0 posed-for (inr ((posed-for .T, posed-for .P, posed-for .Q, _, w .tree, w .rest .pattern, read-means (posed-for .T) (posed-for .Q) list (walkable w .good)), refl))
+  accepted = codes-high l (Fifteen l list) 0 posed-for (inr (says-good l (fitted .answered) (fitted .passed) list (fitted .fits) .0 refl, refl))
 
   pub placed-asked : WalkablePre (l .label) (l .size) (l .kind) (l .name) (l .patternSize) (r .variables) list
   placed-asked = record { some = (posed-for .T, posed-for .P, posed-for .Q, walkable (posed-for .poses), kinds-for (posed-for .poses .rest .pattern) .many) }

@@ -3,7 +3,7 @@ use Prim.Native.Nat.{ℕ, _+_, _<_, _≤_}
 use mathlib.Core.Path.{_≡_}
 use mathlib.Core.Bool.{Bool}
 use mathlib.Core.List.{List}
-use lib.ListN.{length, getD, take}
+use lib.ListN.{length, getD}
 use Rattle.meaning.specs.Calls.{Says}
 use Rattle.meaning.specs.Forest.{none, Term, _◂_}
 use Rattle.meaning.specs.Pattern.{Pattern, Kind, old, look}
@@ -18,11 +18,6 @@ use Rattle.expression.specs.Rows.{GoodTable}
 use Rattle.constraint.specs.Obeys.{Constraint, Allowed}
 use Rattle.constraint.specs.Good.{GoodConstraints}
 use Rattle.problem.specs.Allowing.{Allowing}
-
--- the first numbers of a list are those of another
-pub record Copied (list found : List ℕ) : Type 0 where
-  pub long : length found ≡ 32
-  pub same : take (length list) found ≡ list
 
 -- a good tree, a good pattern, and a list of two numbers a variable
 pub record Walkable (L S K N Z list : List ℕ) (T : Term) (P : Pattern) (Q : List Kind) : Type 0 where

@@ -4,7 +4,7 @@ ghost use lib.ListN.{length};
 ghost use Rattle.meaning.specs.Calls.{Says};
 ghost use Rattle.test.specs.Tested.{TestSettled};
 ghost use Rattle.test.specs.Followed.{FollowPre, FollowPost};
-ghost use Rattle.test.specs.Inside.{Copied, WalkablePre, PlacedPost, ConstrainedPre, ObeyedPost, AllPre, AllPost};
+ghost use Rattle.test.specs.Inside.{WalkablePre, PlacedPost, ConstrainedPre, ObeyedPost, AllPre, AllPost};
 use meaning::codes::RECORD;
 
 // What the test of one record answers.
@@ -12,21 +12,6 @@ pub enum Tested {
     Refused(u32),
     Yes,
     No,
-}
-
-// Whether the first numbers of found are those of the list.
-fn equal(found: &[u32; 32], list: &[u32]) -> bool
-    requires { ⌜ (length (now found) ≡ 32) × (length (now list) ≤ 32) ⌝ }
-    ensures { λ r. ⌜ Says r (Copied (now (list .entry)) (now (found .entry))) ⌝ }
-{
-    let mut i = 0;
-    while i < list.len() {
-        if found[i] != list[i] {
-            return false;
-        }
-        i += 1;
-    }
-    true
 }
 
 // The walk with the choices of the list: a variable that is asked for takes the second number that the list has for it.
@@ -83,7 +68,7 @@ fn placed(
     walk::pack(kind, name, pattern_size, constraint, &mut packed);
     let mut found = [0u32; 32];
     if follow(label, size, &packed, record, &mut found) {
-        return equal(&found, record);
+        return record::equal(&found, record);
     }
     false
 }

@@ -20,8 +20,11 @@ accepted t = t .before .before
 check-requires : tie.Need-check-requires
 check-requires c κs = search needs
 
+refused-requires : tie.Need-refused-requires
+refused-requires c κs = search needs
+
 returns : tie.Need-returns
-returns c = list-refused _ (c .before .check .ensures) _ _ (c .if1 .taken)
+returns c = rw (c .refused .ensures) (list-refused _ (c .before .before .check .ensures) _ _ (c .before .if1 .taken))
 
 tables-of-requires : tie.Need-tables-of-requires
 tables-of-requires c κs = (length-replicate {A = ℕ} 320 0, tables-asked _ (c .before .before .check .ensures) 0 [] (c .before .if1 .left))
@@ -50,23 +53,28 @@ begin-requires c κs =
     let z = accepted t in
     begin-asked _ (z .before .check .ensures) 0 _ (z .if1 .left) (t .tables-of .ensures) (k .pack .ensures) refl (w .room-for .ensures)
 
+accepted-requires : tie.Need-accepted-requires
+accepted-requires c κs = search needs
+
 same-length : tie.Need-same-length
 same-length c = search needs
 
 returns-2 : tie.Need-returns-2
 returns-2 c =
-    let w = c .before .before .before .before .before .before in
+    let w = c .before .before .before .before .before .before .before in
     let k = w .before .before in
     let t = tabled k in
     let z = accepted t in
-    list-done _ (z .before .check .ensures) _ _ (z .if1 .left) (t .tables-of .ensures) (k .pack .ensures) refl (w .room-for .ensures)
-    (c .before .before .begin .ensures)
+    rw (c .accepted .ensures)
+    (list-done _ (z .before .check .ensures) _ _ (z .if1 .left) (t .tables-of .ensures) (k .pack .ensures) refl (w .room-for .ensures)
+    (c .before .before .before .begin .ensures))
 
 pub list-spec : {M : Type 1} → statement M
 list-spec =
     tie.close
     (tie.spec
     check-requires
+    refused-requires
     returns
     tables-of-requires
     slice-aggregate-pack
@@ -74,5 +82,6 @@ list-spec =
     add-width
     room-for-requires
     begin-requires
+    accepted-requires
     same-length
     returns-2)

@@ -9,7 +9,7 @@ use native.Mathlib.Omega.{arith}
 use native.Mathlib.Numerals.{add-one}
 use Rattle.meaning.specs.Calls.{Says}
 use Rattle.meaning.proofs.Answers.{says-no}
-use Rattle.test.specs.Inside.{Copied}
+use Rattle.record.specs.Copied.{Copied}
 
 -- the first i numbers are the same
 pub record Same (list found : List ℕ) (i : ℕ) : Type 0 where

@@ -2,9 +2,9 @@ use Prim.Native.Nat.{_-_}
 use native.Mathlib.Omega.{arith}
 use lib.ListN.{length}
 use Rattle.meaning.proofs.Answers.{says-yes}
-use Rattle.test.proofs.Same.{Same, same-none, same-more, same-all, not-same}
-use Rattle.test.proofs.equal.Statement.{statement}
-use Rattle.test.proofs.equal.Tie as tie
+use Rattle.record.proofs.Same.{Same, same-none, same-more, same-all, not-same}
+use Rattle.record.proofs.equal.Statement.{statement}
+use Rattle.record.proofs.equal.Tie as tie
 
 abbrev Inv-loop : tie.InvT-loop
 Inv-loop found list i₀ i = Same list found i

@@ -1,20 +1,11 @@
-use Rattle.lister.proofs.Begun.{Begun, first-asked, begun-fail, begun-full, begun-put, begun-done, at-stop, need-room, go-asked, begun-need}
+use Rattle.entry.proofs.Begun.{Begun, walk-asked, begun-fail, begun-full, begun-put, begun-done, at-stop, need-room, go-asked, begun-need}
 use lib.ListN.{replicate, length-replicate}
 use native.Mathlib.Omega.{arith}
 use mathlib.Core.Path.{refl, _∙_}
 use Prim.Native.Nat.{ℕ}
 use borrow.Author.Needs.{needs}
-use Rattle.lister.proofs.begin.Statement.{statement}
-use Rattle.lister.proofs.begin.Tie as tie
-use Rattle.lister.proofs.begin.Reads as reads
-use Rattle.lister.proofs.begin.Lts as lts
-use Rattle.choice.proofs.least.Reads as least-reads
-use Rattle.choice.proofs.values.Reads as values-reads
-use Rattle.levels.proofs.enter.Reads as enter-reads
-use Rattle.search.proofs.ended.Reads as ended-reads
-use Rattle.search.proofs.go.Reads as go-reads
-use Rattle.search.proofs.put.Reads as put-reads
-use Rattle.walk.proofs.begin.Reads as begin-reads
+use Rattle.entry.proofs.begin.Statement.{statement}
+use Rattle.entry.proofs.begin.Tie as tie
 
 -- the first walk, from a record of zeros
 begun : (c : tie.After-begin) →
@@ -25,7 +16,7 @@ begun c = record { R = replicate 32 0; A = replicate 256 0; long = refl; rows-lo
 
 -- src/lib.rt:40:11
 begin-requires : tie.Need-begin-requires
-begin-requires c κs = first-asked (c .before .before .before .before .before .pre) refl refl
+begin-requires c κs = walk-asked (c .before .before .before .before .before .pre) refl refl
 
 -- src/lib.rt:41:28
 enum-told : tie.Need-enum-told
