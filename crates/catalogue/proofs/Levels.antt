@@ -68,7 +68,7 @@ module _ (Allowed : ℕ → Value → Type 0) (allowed? : (x : ℕ) (v : Value) 
     level-choice list rs l e =
         let k = level-kind in
         let c = choices-at Q list x (k .0) (k .1) (k .2) l in
-        (c .1, same-cut cs (c .0) rs _ (sym e ∙ c .2) (level-count ∙ sym (c .3)))
+        (c .behind, same-cut cs (c .before) rs _ (sym e ∙ c .is) (level-count ∙ sym (c .many)))
 
   -- the levels below depth
   pub record Levels (vals variables starts nexts lefts : List ℕ) (depth : ℕ) : Type 0 where

@@ -2,7 +2,7 @@
 use Prim.Native.Nat.{ℕ, _+_, _*_, _<_, _≤_}
 use mathlib.Core.Path.{_≡_, ap, _∙_}
 use mathlib.Core.List.{List, []}
-use lib.ListN.{length, take, set, replicate, length-set, length-replicate}
+use lib.ListN.{length, take, set, replicate, length-replicate}
 use lib.Seq.{paste}
 use native.Mathlib.Omega.{arith}
 use Rattle.meaning.specs.Forest.{Term, size}
@@ -143,22 +143,10 @@ module _ {L S M tables : List ℕ} {room width : ℕ} {before : List ℕ} where
               pauses = m .1;
             }
 
-        level-long : (k : ℕ) → length (level k) ≡ 256
-        level-long k = length-set none 0 k ∙ length-replicate {A = ℕ} 256 0
-
         first-asked-of : GoPre L S M tables room width R′ A′ (level p) (level x) (level s) (level s) (level lo) (level n) 1 before
         first-asked-of =
             let h = b .pre .some in
-            record {
-              record-long = walked-long;
-              places-long = level-long p;
-              variables-long = level-long x;
-              starts-long = level-long s;
-              rows-long = level-long s;
-              nexts-long = level-long lo;
-              lefts-long = level-long n;
-              some = (h .0, h .1, h .2, h .3, h .4, none, asked (h .5));
-            }
+            record { record-long = walked-long; some = (h .0, h .1, h .2, h .3, h .4, none, asked (h .5)) }
 
         -- the levels in one list
         module _ {W : List ℕ} (w : Entered (replicate 1536 0) 0 p x s lo n W) where

@@ -8,7 +8,6 @@ use Rattle.meaning.specs.Pattern.{Pattern, Kind}
 use Rattle.expression.specs.Expression.{Expression}
 use Rattle.constraint.specs.Obeys.{Constraint}
 use Rattle.levels.specs.Columns.{places, variables, starts, rows, nexts, lefts}
-use Rattle.levels.proofs.Columns.{columns-long}
 use Rattle.page.specs.Page.{ReachPre, Arrived, ReachPost, nowhere, reached}
 use Rattle.page.specs.declared.Reached.{Reached}
 use Rattle.page.specs.declared.Reached.the-variants.{Nowhere, At}
@@ -46,17 +45,7 @@ module _ {L S M tables list : List ℕ} {room width : ℕ} {before R A W : List 
   pub resumed-asked : ResumePre L S M tables list room width before → GoPre L S M tables room width R A (places W) (variables W) (starts W) (rows W) (nexts W) (lefts W) depth before
   resumed-asked p =
       let s = p .some in
-      let c = columns-long W in
-      record {
-        record-long = at .record-long;
-        places-long = c .places-long;
-        variables-long = c .variables-long;
-        starts-long = c .starts-long;
-        rows-long = c .rows-long;
-        nexts-long = c .nexts-long;
-        lefts-long = c .lefts-long;
-        some = (s .0, s .1, s .2, s .3, s .4, _, asked (s .5));
-      }
+      record { record-long = at .record-long; some = (s .0, s .1, s .2, s .3, s .4, _, asked (s .5)) }
 
   pub resumed-page : {budget : ℕ} {f : Found} {after : List ℕ} → GoPost L S M tables budget room width R A (places W) (variables W) (starts W) (rows W) (nexts W) (lefts W) depth before f after
       → ResumePost L S M tables list budget room width before after (Page f)

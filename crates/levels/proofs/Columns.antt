@@ -42,6 +42,18 @@ columns-long levels =
       lefts-long = sixths-long 256 5 levels;
     }
 
+-- a level that goes on keeps their lengths
+pub columns-moved : {G X St U Nx F : List ℕ} (d row next left : ℕ) → ColumnsLong G X St U Nx F → ColumnsLong G X St (set U d row) (set Nx d next) (set F d left)
+columns-moved {U = U} {Nx = Nx} {F = F} d row next left c =
+    record {
+      places-long = c .places-long;
+      variables-long = c .variables-long;
+      starts-long = c .starts-long;
+      rows-long = length-set U d row ∙ c .rows-long;
+      nexts-long = length-set Nx d next ∙ c .nexts-long;
+      lefts-long = length-set F d left ∙ c .lefts-long;
+    }
+
 -- a level's numbers as they are read
 module _ {levels : List ℕ} {d : ℕ} (w : Inside levels d) where
   pub level-number : (k : ℕ) → getD levels (6 * d + k) 0 ≡ getD (sixths 256 k levels) d 0

@@ -1,6 +1,6 @@
 -- The next page, whole: what the search fills from a record on is the page after it.
 use Prim.Native.Nat.{ℕ, _+_}
-use mathlib.Core.Path.{_≡_, refl, ap, _∙_, subst}
+use mathlib.Core.Path.{_≡_, refl}
 use mathlib.Core.Logic.{inl, inr}
 use mathlib.Core.Bool.{Bool, false}
 use mathlib.Core.List.{List, [], _∷_}
@@ -8,8 +8,7 @@ use lib.ListN.{length}
 use native.Mathlib.Omega.{arith}
 use Rattle.meaning.specs.Calls.{Says}
 use Rattle.meaning.specs.Forest.{Term, size}
-use Rattle.meaning.specs.Pattern.{Pattern, Kind, Numbered}
-use Rattle.meaning.specs.Matcher.{Value}
+use Rattle.meaning.specs.Pattern.{Pattern, Kind}
 use Rattle.meaning.specs.Order.{choices}
 use Rattle.meaning.specs.Record.{IsRecord}
 use Rattle.meaning.proofs.Means.{matcher-means}
@@ -29,14 +28,13 @@ use Rattle.problem.specs.Answer.{Answered}
 use Rattle.problem.specs.declared.Problem.{Problem}
 use Rattle.problem.proofs.Posed.{codes-low, codes-high, the, known}
 use Rattle.walk.specs.Packed.{Packed, Bounds}
-use Rattle.catalogue.specs.Answer.{Result, Room, atMost, unlimited, roomOf}
 use Rattle.catalogue.specs.Page.{PageMeant}
 use Rattle.catalogue.proofs.Events as events
 use Rattle.catalogue.proofs.Back.{fitting}
-use Rattle.catalogue.proofs.Fill.{tame-widths, shown}
+use Rattle.catalogue.proofs.Fill.{tame-widths}
 use Rattle.catalogue.proofs.Later.{later-more, later-widths, page-meant}
 use Rattle.catalogue.proofs.Pages.{page-unlimited}
-use Rattle.catalogue.proofs.Run.{Tame, run}
+use Rattle.catalogue.proofs.Run.{Tame}
 use Rattle.catalogue.proofs.Whole.{walked}
 use Rattle.search.specs.declared.Found.{Found}
 use Rattle.levels.proofs.Going.{is-fixed}
@@ -46,16 +44,7 @@ use Rattle.lister.specs.Inside.{nothing, whole, NoPage, bad, of-none}
 use Rattle.lister.specs.declared.Listed.{Listed}
 use Rattle.entry.specs.declared.Paged.{Paged}
 use Rattle.entry.specs.declared.Paged.the-variants.{NoMatcher, Page}
-use Rattle.lister.proofs.Whole.{searched, by-room}
-
--- the room of the code is the room of the rules
-in-room : {A : ℕ → Value → Type 0} (a? : (x : ℕ) (v : Value) → Dec (A x v)) {P : Pattern} {T : Term} {list : List ℕ} {budget : ℕ} {x : Result} (n : ℕ) (Q : List Kind) → Numbered P Q
-    → PageMeant A Q P T list budget (atMost (fitting n (length Q + length Q))) x → PageMeant A Q P T list budget (roomOf n (length Q)) x
-in-room {A} a? {P} {T} {list} {budget} {x} n Q g = by-room (λ (r : Room). PageMeant A Q P T list budget r x) n Q (all-room Q g)
-  where
-    all-room : (Q : List Kind) → Numbered P Q → Q ≡ [] → PageMeant A Q P T list budget (atMost 1) x → PageMeant A Q P T list budget unlimited x
-    all-room [] g e m = page-unlimited a? g m
-    all-room (k ∷ Q) g e m = absurd (omega (arith, ap length e))
+use Rattle.lister.proofs.Whole.{searched, shown-in-room}
 
 -- the record of a matcher is good, and so it is not refused
 pub record-accepted : {l : Lists} {T : Term} {P : Pattern} {Q : List Kind} {es : List Expression} {cs : List Constraint} {list : List ℕ} → Poses l T P Q es cs → IsRecord (Allowed cs) Q P T list → RecordCodes l list 0
@@ -126,11 +115,8 @@ module _ (l : Lists) {r : Problem} (a : Answered l r) (list : List ℕ) (budget 
                       let v = each T P Q es cs b in
                       let walk = walked (Allowed cs) (allowed? cs) g T in
                       let tame : Tame walk (count Q) (size T) width = is-fixed s {before = before} (b .wide) (b .fits) .is-tame in
-                      let res = run (v .events) budget room in
-                      let y : room ≡ fitting (length before) (length Q + length Q) = fits ∙ ap (fitting (length before)) (b .wide) in
-                      shown (PageMeant (Allowed cs) Q P T list budget (roomOf (length before) (length Q))) (v .events) width budget room before after (f .ending) (f .records) (f .tries)
+                      shown-in-room (λ x K r. PageMeant (Allowed cs) K P T list budget r x) (v .events) Q width budget room before after f g (λ x n m. page-unlimited (allowed? cs) n m) (b .wide) fits
                       (later-widths (later-more (events.matched (choices Q list) list ∷ []) (v .events) refl (v .later)) (tame-widths walk (count Q) (size T) width tame)) (b .fits) (v .fills)
-                      (in-room (allowed? cs) (length before) Q g
-                      (subst (λ (n : ℕ). PageMeant (Allowed cs) Q P T list budget (atMost n) res) y (page-meant (Allowed cs) (allowed? cs) g T (v .later) budget room)));
+                      (page-meant (Allowed cs) (allowed? cs) g T (v .later) budget room);
                   refused = λ e. absurd (e refl);
                 }

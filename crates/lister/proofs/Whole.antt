@@ -1,12 +1,11 @@
 -- The lister, whole: what the search fills is what is meant.
-use Prim.Native.Nat.{ℕ, suc, _+_, _≤_}
+use Prim.Native.Nat.{ℕ, suc, _+_, _*_, _≤_}
 use mathlib.Core.Path.{_≡_, refl, ap, _∙_, sym, subst}
 use mathlib.Core.List.{List, [], _∷_}
 use lib.ListN.{length}
 use native.Mathlib.Omega.{arith}
 use Rattle.meaning.specs.Forest.{Term, size}
 use Rattle.meaning.specs.Pattern.{Pattern, Kind, Numbered}
-use Rattle.meaning.specs.Matcher.{Value}
 use Rattle.meaning.specs.Calls.{accept}
 use Rattle.meaning.proofs.Tame.{count}
 use Rattle.expression.specs.Expression.{Expression}
@@ -20,11 +19,11 @@ use Rattle.problem.specs.declared.Problem.{Problem}
 use Rattle.problem.proofs.Posed.{codes-high, the, known}
 use Rattle.walk.specs.Packed.{Packed, Bounds}
 use Rattle.catalogue.specs.Answer.{Result, Room, atMost, unlimited, roomOf}
-use Rattle.catalogue.specs.Listing.{Meant}
+use Rattle.catalogue.specs.Listing.{Meant, Shown}
 use Rattle.catalogue.proofs.Back.{fitting, fitting-some}
-use Rattle.catalogue.proofs.Events.{events}
+use Rattle.catalogue.proofs.Events.{Event, events}
 use Rattle.catalogue.proofs.Run.{Tame, run}
-use Rattle.catalogue.proofs.Fill.{tame-widths, shown, room-fits}
+use Rattle.catalogue.proofs.Fill.{Widths, fill, tame-widths, shown, room-fits}
 use Rattle.catalogue.proofs.Whole.{walked, meant}
 use Rattle.catalogue.proofs.Facts.{meant-unlimited}
 use Rattle.search.specs.declared.Found.{Found}
@@ -34,17 +33,21 @@ use Rattle.lister.specs.Inside.{nothing, whole}
 use Rattle.lister.specs.Listed.{Settled}
 
 -- the room of the code is the room of the rules
-pub by-room : (M : Room → Type 0) (n : ℕ) (Q : List Kind) → (Q ≡ [] → M (atMost 1) → M unlimited) → M (atMost (fitting n (length Q + length Q))) → M (roomOf n (length Q))
-by-room M n [] one m = one refl m
-by-room M n (k ∷ Q) one m = subst (λ (r : ℕ). M (atMost r)) (sym (fitting-some n (suc (length Q) + suc (length Q)) (λ e. omega arith))) m
+pub in-room : (M : List Kind → Room → Type 0) {P : Pattern} (n : ℕ) (Q : List Kind) → Numbered P Q → (Numbered P [] → M [] (atMost 1) → M [] unlimited)
+    → M Q (atMost (fitting n (length Q + length Q))) → M Q (roomOf n (length Q))
+in-room M n [] g one m = one g m
+in-room M n (k ∷ Q) g one m = subst (λ (r : ℕ). M (k ∷ Q) (atMost r)) (sym (fitting-some n (suc (length Q) + suc (length Q)) (λ e. omega arith))) m
 
-pub in-room : {A : ℕ → Value → Type 0} (a? : (x : ℕ) (v : Value) → Dec (A x v)) {P : Pattern} {T : Term} {budget : ℕ} {x : Result} (n : ℕ) (Q : List Kind) → Numbered P Q
-    → Meant A Q P T budget (atMost (fitting n (length Q + length Q))) x → Meant A Q P T budget (roomOf n (length Q)) x
-in-room {A} a? {P} {T} {budget} {x} n Q g = by-room (λ (r : Room). Meant A Q P T budget r x) n Q (all-room Q g)
-  where
-    all-room : (Q : List Kind) → Numbered P Q → Q ≡ [] → Meant A Q P T budget (atMost 1) x → Meant A Q P T budget unlimited x
-    all-room [] g e m = meant-unlimited a? g m
-    all-room (k ∷ Q) g e m = absurd (omega (arith, ap length e))
+-- what is filled with the room of the code is what is meant with the room of the rules, for a list and for a page
+pub shown-in-room : (M : Result → List Kind → Room → Type 0) {P : Pattern} (es : List Event) (Q : List Kind) (width budget room : ℕ) (before after : List ℕ) (f : Found)
+    → Numbered P Q → ((x : Result) → Numbered P [] → M x [] (atMost 1) → M x [] unlimited) → width ≡ length Q + length Q → room ≡ fitting (length before) width
+    → Widths width es → room * width ≤ length before → fill budget room width 0 0 before es ≡ record { ending = f .ending; records = f .records; tries = f .tries; out = after }
+    → M (run es budget room) Q (atMost room) → Shown (λ x. M x Q (roomOf (length before) (length Q))) before (f .ending) (f .records) (f .tries) after
+shown-in-room M es Q width budget room before after f g one wide fits w h e m =
+    let x = run es budget room in
+    let y : room ≡ fitting (length before) (length Q + length Q) = fits ∙ ap (fitting (length before)) wide in
+    shown (λ x. M x Q (roomOf (length before) (length Q))) es width budget room before after (f .ending) (f .records) (f .tries) w h e
+    (in-room (M x) (length before) Q g (one x) (subst (λ (n : ℕ). M x Q (atMost n)) y m))
 
 module _ (l : Lists) {r : Problem} (a : Answered l r) (budget : ℕ) (before : List ℕ) where
   pub list-refused : (r .code ≡ 0 → ⊥) → Settled l budget before (nothing (r .code)) before
@@ -94,11 +97,7 @@ module _ (l : Lists) {r : Problem} (a : Answered l r) (budget : ℕ) (before : L
                 let g = b .search .pattern .numbered in
                 let walk = walked (Allowed cs) (allowed? cs) g T in
                 let tame : Tame walk (count Q) (size T) width = is-fixed (b .search) {before = before} (b .wide) (b .fits) .is-tame in
-                let res = run (events walk (count Q) []) budget room in
-                let y : room ≡ fitting (length before) (length Q + length Q) = fits ∙ ap (fitting (length before)) (b .wide) in
-                shown (Meant (Allowed cs) Q P T budget (roomOf (length before) (length Q))) (events walk (count Q) []) width budget room before after (f .ending) (f .records) (f .tries)
-                (tame-widths walk (count Q) (size T) width tame) (b .fits) (post .all T P Q es cs b)
-                (in-room (allowed? cs) (length before) Q g
-                (subst (λ (n : ℕ). Meant (Allowed cs) Q P T budget (atMost n) res) y (meant (Allowed cs) (allowed? cs) g T budget room)));
+                shown-in-room (λ x K r. Meant (Allowed cs) K P T budget r x) (events walk (count Q) []) Q width budget room before after f g (λ x n m. meant-unlimited (allowed? cs) n m) (b .wide) fits
+                (tame-widths walk (count Q) (size T) width tame) (b .fits) (post .all T P Q es cs b) (meant (Allowed cs) (allowed? cs) g T budget room);
             refused = λ e. absurd (e refl);
           }

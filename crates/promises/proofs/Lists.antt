@@ -25,7 +25,7 @@ use Rattle.catalogue.proofs.Back.{fitting}
 use Rattle.catalogue.proofs.Events.{events, mem-left}
 use Rattle.catalogue.proofs.Run.{run}
 use Rattle.catalogue.proofs.Whole.{walked, meant}
-use Rattle.catalogue.proofs.Facts.{leading, whole, lengthens, empty-none, none-empty, tries-bound}
+use Rattle.catalogue.proofs.Facts.{meant-unlimited, leading, whole, lengthens, empty-none, none-empty, tries-bound}
 use Rattle.catalogue.proofs.Different.{different}
 use Rattle.lister.proofs.Whole.{in-room}
 use Rattle.promises.specs.Lists.{Listings}
@@ -36,7 +36,9 @@ module _ {Q : List Kind} {P : Pattern} (g : Numbered P Q) (T : Term) (cs : List 
   ran budget lent = run (events (walked (Allowed cs) (allowed? cs) g T) (count Q) []) budget (fitting lent (length Q + length Q))
 
   pub ran-meant : (budget lent : ℕ) → Meant (Allowed cs) Q P T budget (roomOf lent (length Q)) (ran budget lent)
-  ran-meant budget lent = in-room (allowed? cs) lent Q g (meant (Allowed cs) (allowed? cs) g T budget (fitting lent (length Q + length Q)))
+  ran-meant budget lent =
+      in-room (λ K r. Meant (Allowed cs) K P T budget r (ran budget lent)) lent Q g (λ n m. meant-unlimited (allowed? cs) n m)
+      (meant (Allowed cs) (allowed? cs) g T budget (fitting lent (length Q + length Q)))
 
 -- a problem that is well formed is not refused
 accepted : {l : Lists} {T : Term} {P : Pattern} {Q : List Kind} {es : List Expression} {cs : List Constraint} {c : ℕ} → Poses l T P Q es cs → Codes l accept c → c ≡ 0

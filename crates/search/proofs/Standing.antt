@@ -9,6 +9,7 @@ use Rattle.walk.specs.declared.Out.{Out}
 use Rattle.walk.specs.declared.Out.the-variants as answer
 use Rattle.levels.specs.Columns.{places, variables, starts, rows, nexts, lefts, LevelAt}
 use Rattle.levels.specs.Levels.{AttemptPre, AttemptPost}
+use Rattle.levels.proofs.Columns.{columns-long}
 use Rattle.levels.specs.Steps.{NextPre, NextPost, DeeperPre, DeeperPost}
 use Rattle.search.proofs.Turns.{Input, Pre, Going, Ready, Passing, Tried, placed, level-asked, passed-asked, passed-further, passed-tried, need-fits, need-room, more-asked, tried-need}
 
@@ -24,7 +25,7 @@ module _ {i : Input} {out R A W : List ℕ} {depth cnt tries : ℕ}
         afford = omega (arith, more, ready .going .charged);
         asked = λ limit fewer afford. (
           level-asked ready pre fewer,
-          λ failed u post. passed-further (record { pre = pre; ready = ready; fewer = fewer; afford = afford; post = post }),
+          λ failed u post. passed-further (record { pre = pre; columns = columns-long W; ready = ready; fewer = fewer; afford = afford; post = post }),
         );
       }
 
@@ -34,7 +35,7 @@ module _ {i : Input} {out R A W : List ℕ} {depth cnt tries : ℕ}
     e = n .level
 
     passing : Passing i out R A (places W) (variables W) (starts W) (rows W) (nexts W) (lefts W) depth cnt tries (n .limit) failed u
-    passing = record { pre = pre; ready = ready; fewer = rw (e .left) at (n .fewer); afford = n .afford; post = rw (e .place, e .row, e .left) at (n .passed) }
+    passing = record { pre = pre; columns = columns-long W; ready = ready; fewer = rw (e .left) at (n .fewer); afford = n .afford; post = rw (e .place, e .row, e .left) at (n .passed) }
 
     pub charged : tries + failed < i .budget
     charged = omega (arith, n .afford, n .passed .few)
@@ -68,4 +69,4 @@ module _ {i : Input} {out R A W : List ℕ} {depth cnt tries : ℕ}
         entered d =
             let w = d .entered in
             rw (w .new-places, w .new-variables, w .new-starts, w .new-rows, w .new-nexts, w .new-lefts)
-            (tried-need tried needs (d .least-is) (rw same-place (d .many-is)) pre)
+            (tried-need tried needs (d .least-is) (rw same-place (d .many-is)) pre (columns-long W′))

@@ -2,7 +2,7 @@
 use Prim.Native.Nat.{ℕ, suc, _+_, _-_, _*_, _<_, _≤_}
 use mathlib.Core.Path.{_≡_, refl, ap, _∙_, subst}
 use mathlib.Core.List.{List, []}
-use lib.ListN.{length, getD, take, set, length-set}
+use lib.ListN.{length, getD, take, set}
 use lib.Seq.{paste, set-set, getD-set-same}
 use native.Mathlib.Omega.{arith}
 use native.Mathlib.Numerals.{add-one}
@@ -34,6 +34,7 @@ use Rattle.levels.specs.Levels.{AttemptPre, AttemptPost}
 use Rattle.search.specs.Search.{GoAsked, GoPre, GoPost}
 use Rattle.search.specs.declared.Found.{Found}
 use Rattle.levels.proofs.Going.{few, Walked, is-fixed, Leveled, Paused, Asks, asks-stop, asks-values, asks-level, skip-asked, skip-fails, skip-levels, try-kind, try-taken, try-answered, further-asked}
+use Rattle.levels.proofs.Columns.{ColumnsLong, columns-moved}
 use Rattle.levels.proofs.Pauses.{pauses-back}
 use Rattle.levels.proofs.Tried.{try-long}
 
@@ -86,16 +87,6 @@ given L S M tables budget room width R A G X St U N F start before =
       before = before;
     }
 
--- the lengths that the record and the levels' lists keep
-pub record Long (R G X St U N F : List ℕ) : Type 0 where
-  pub record-long : length R ≡ 32
-  pub places-long : length G ≡ 256
-  pub variables-long : length X ≡ 256
-  pub starts-long : length St ≡ 256
-  pub rows-long : length U ≡ 256
-  pub nexts-long : length N ≡ 256
-  pub lefts-long : length F ≡ 256
-
 -- the last level has its place and a value left, and its values are small
 pub record Placed (N F : List ℕ) (depth : ℕ) : Type 0 where
   pub some : 0 < depth
@@ -139,7 +130,7 @@ module _ (i : Input) where
 
   -- at the loop's head
   pub record Going (out R A G X St U N F : List ℕ) (depth cnt tries : ℕ) : Type 0 where
-    pub long : Long R G X St U N F
+    pub long : length R ≡ 32
     pub charged : tries ≤ i .budget
     pub each : {T : Term} {P : Pattern} {Q : List Kind} {es : List Expression} {cs : List Constraint} {vals₀ : List ℕ} (a : Asked T P Q es cs vals₀)
         → (vals : List ℕ) × Stand a out (rest (Walked (a .search)) (count Q) vals N F depth) vals N F depth cnt tries × Leveled (a .search) vals X St N F depth
@@ -154,6 +145,7 @@ module _ (i : Input) where
   -- a turn that has passed over values that fail: the next one's row is u
   pub record Passing (out R A G X St U N F : List ℕ) (depth cnt tries limit failed u : ℕ) : Type 0 where
     pub pre : Pre
+    pub columns : ColumnsLong G X St U N F
     pub ready : Ready out R A G X St U N F depth cnt tries
     pub fewer : limit < getD F (depth - 1) 0
     pub afford : tries + limit < i .budget
@@ -161,7 +153,7 @@ module _ (i : Input) where
 
   -- a try was made, with which the walk went on at the row u, and left values come after it: the answer o, and the record R
   pub record Tried (out R A G X St U N F : List ℕ) (depth cnt tries u left : ℕ) (o : Out) : Type 0 where
-    pub long : Long R G X St U N F
+    pub long : length R ≡ 32
     pub charged : tries ≤ i .budget
     pub each : {T : Term} {P : Pattern} {Q : List Kind} {es : List Expression} {cs : List Constraint} {vals₀ : List ℕ} (a : Asked T P Q es cs vals₀)
         → (vals : List ℕ) × Stand a out (ahead (Walked (a .search)) (count Q) vals N F depth) vals N F depth cnt tries
@@ -170,23 +162,15 @@ module _ (i : Input) where
         × ((p x s : ℕ) → o ≡ answer.Need (stop-at p x s) → Asks (a .search) R A vals G depth p x s)
 
 module _ {i : Input} where
-  pub going-start : Pre i → Going i (i .before) (i .R) (i .A) (i .G) (i .X) (i .St) (i .U) (i .N) (i .F) (i .start) 0 0
-  going-start p =
+  pub going-start : ColumnsLong (i .G) (i .X) (i .St) (i .U) (i .N) (i .F) → Pre i → Going i (i .before) (i .R) (i .A) (i .G) (i .X) (i .St) (i .U) (i .N) (i .F) (i .start) 0 0
+  going-start k p =
       record {
-        long = record {
-          record-long = p .record-long;
-          places-long = p .places-long;
-          variables-long = p .variables-long;
-          starts-long = p .starts-long;
-          rows-long = p .rows-long;
-          nexts-long = p .nexts-long;
-          lefts-long = p .lefts-long;
-        };
+        long = p .record-long;
         charged = omega arith;
         each = λ {T} {P} {Q} {es} {cs} {vals₀} a. (
           vals₀,
           at-rest (fixed i a) vals₀ (i .N) (i .F) (i .start) refl
-              (record { deep = a .deep; vals-long = a .vals-long; nexts-long = p .nexts-long; lefts-long = p .lefts-long; small = level-small i a (a .levels) }),
+              (record { deep = a .deep; vals-long = a .vals-long; nexts-long = k .nexts-long; lefts-long = k .lefts-long; small = level-small i a (a .levels) }),
           a .levels,
           a .pauses,
         );
@@ -239,29 +223,21 @@ module _ {i : Input} where
         skip-asked (a .search) (b .0) (b .1) (r .live) fewer
 
     -- values that fail are passed over, fewer than are left and than the budget allows
-    pub going-skip : {limit failed u : ℕ} → Pre i → limit < getD F (depth - 1) 0 → tries + limit < i .budget
+    pub going-skip : {limit failed u : ℕ} → Pre i → ColumnsLong G X St U N F → limit < getD F (depth - 1) 0 → tries + limit < i .budget
         → SkipPost (i .L) (i .S) (i .M) A (getD G (depth - 1) 0) (getD U (depth - 1) 0) (getD F (depth - 1) 0) limit failed u
         → Ready i out R A G X St (set U (depth - 1) u) (set N (depth - 1) (getD N (depth - 1) 0 + failed)) (set F (depth - 1) (getD F (depth - 1) 0 - failed)) depth cnt (tries + failed)
-    going-skip {limit} {failed} {u} p fewer afford post =
+    going-skip {limit} {failed} {u} p k fewer afford post =
         record {
           going =
               record {
-                long = record {
-                  record-long = g .long .record-long;
-                  places-long = g .long .places-long;
-                  variables-long = g .long .variables-long;
-                  starts-long = g .long .starts-long;
-                  rows-long = length-set U (depth - 1) u ∙ g .long .rows-long;
-                  nexts-long = length-set N (depth - 1) (getD N (depth - 1) 0 + failed) ∙ g .long .nexts-long;
-                  lefts-long = length-set F (depth - 1) (getD F (depth - 1) 0 - failed) ∙ g .long .lefts-long;
-                };
+                long = g .long;
                 charged = omega (arith, post .few);
                 each = λ {T} {P} {Q} {es} {cs} {vals₀} a.
                     let h = g .each a in
                     let e : suc (depth - 1) ≡ depth = omega (arith, r .some) in
                     let deep = going-depth g p in
                     let l = below a in
-                    let s = skip-levels (a .search) (l .0) (l .1) (r .live) fewer post (omega (arith, g .long .rows-long)) (omega (arith, g .long .nexts-long)) (omega (arith, g .long .lefts-long)) in (
+                    let s = skip-levels (a .search) (l .0) (l .1) (r .live) fewer post (omega (arith, k .rows-long)) (omega (arith, k .nexts-long)) (omega (arith, k .lefts-long)) in (
                       h .0,
                       at-skip (fixed i a) (h .1) (r .some) (r .live) failed (omega (arith, post .few)) (omega (arith, post .few))
                           (λ j o. ap outcome (skip-fails (a .search) (l .0) (l .1) (r .live) fewer post j o))
@@ -273,7 +249,7 @@ module _ {i : Input} where
           some = r .some;
           live =
               let deep = going-depth g p in
-              rw (getD-set-same F (depth - 1) (getD F (depth - 1) 0 - failed) 0 (omega (arith, g .long .lefts-long, r .some))) (omega (arith, post .few));
+              rw (getD-set-same F (depth - 1) (getD F (depth - 1) 0 - failed) 0 (omega (arith, k .lefts-long, r .some))) (omega (arith, post .few));
         }
 
     pub attempt-asked : Pre i
@@ -284,9 +260,9 @@ module _ {i : Input} where
         let a = h .6 in
         let b = below a in
         let k = try-kind (a .search) (b .0) (b .1) (r .live) in
-        let t = try-taken (a .search) (b .0) (b .1) (r .live) (g .long .record-long) in
+        let t = try-taken (a .search) (b .0) (b .1) (r .live) (g .long) in
         record {
-          long = g .long .record-long;
+          long = g .long;
           some = (h .0, h .1, h .2, h .3, h .4, k .0, t .0, t .1, t .2, a .search, k .1, k .2, t .3);
         }
 
@@ -314,22 +290,14 @@ module _ {i : Input} where
     abbrev F′ : List ℕ
     F′ = set F (depth - 1) (getD F (depth - 1) 0 - 1)
 
-    pub going-try : {o : Out} {R′ A′ : List ℕ} {u : ℕ} → Pre i → (tries ≡ i .budget → ⊥)
+    pub going-try : {o : Out} {R′ A′ : List ℕ} {u : ℕ} → Pre i → ColumnsLong G X St U N F → (tries ≡ i .budget → ⊥)
         → FurtherPost (i .S) (i .M) (getD G (depth - 1) 0) (getD U (depth - 1) 0) (getD F (depth - 1) 0 - 1) u
         → AttemptPost (i .L) (i .S) (i .M) (i .tables) R A
         (getD G (depth - 1) 0) (getD X (depth - 1) 0) (getD St (depth - 1) 0) (getD U (depth - 1) 0) (getD N (depth - 1) 0) o R′ A′
         → Tried i out R′ A′ G X St (set U (depth - 1) u) N′ F′ depth cnt (tries + 1) (getD U (depth - 1) 0) (getD F (depth - 1) 0 - 1) o
-    going-try {o} {R′} {A′} {u} p b further post =
+    going-try {o} {R′} {A′} {u} p k b further post =
         record {
-          long = record {
-            record-long = try-long (attempt-asked p) post ∙ g .long .record-long;
-            places-long = g .long .places-long;
-            variables-long = g .long .variables-long;
-            starts-long = g .long .starts-long;
-            rows-long = length-set U (depth - 1) u ∙ g .long .rows-long;
-            nexts-long = length-set N (depth - 1) (getD N (depth - 1) 0 + 1) ∙ g .long .nexts-long;
-            lefts-long = length-set F (depth - 1) (getD F (depth - 1) 0 - 1) ∙ g .long .lefts-long;
-          };
+          long = try-long (attempt-asked p) post ∙ g .long;
           charged = omega (arith, g .charged);
           each = λ {T} {P} {Q} {es} {cs} {vals₀} a.
               let h = g .each a in
@@ -337,7 +305,7 @@ module _ {i : Input} where
               let e : suc (depth - 1) ≡ depth = omega (arith, r .some) in
               let deep = going-depth g p in
               let l = below a in
-              let t = try-answered (a .search) (l .0) (l .1) (r .live) (g .long .record-long) (omega (arith, g .long .rows-long)) (omega (arith, g .long .nexts-long)) (omega (arith, g .long .lefts-long)) further post in
+              let t = try-answered (a .search) (l .0) (l .1) (r .live) (g .long) (omega (arith, k .rows-long)) (omega (arith, k .nexts-long)) (omega (arith, k .lefts-long)) further post in
               let t′ : Answered a vals depth = subst (λ (n : ℕ). Answered a vals n) e t in
               (vals, at-next (fixed i a) (h .1) (r .some) (r .live) b vals N′ F′ refl refl refl, t′ .0, t′ .1, t′ .2, t′ .3, t′ .4);
         }
@@ -351,19 +319,19 @@ module _ {i : Input} where
 
   module _ {out R A G X St U N F : List ℕ} {depth cnt tries limit failed u : ℕ} (g : Passing i out R A G X St U N F depth cnt tries limit failed u) where
     ready : Ready i out R A G X St (set U (depth - 1) u) (set N (depth - 1) (getD N (depth - 1) 0 + failed)) (set F (depth - 1) (getD F (depth - 1) 0 - failed)) depth cnt (tries + failed)
-    ready = going-skip (g .ready) (g .pre) (g .fewer) (g .afford) (g .post)
+    ready = going-skip (g .ready) (g .pre) (g .columns) (g .fewer) (g .afford) (g .post)
 
     inside : depth - 1 < 256
     inside = omega (arith, going-depth (g .ready .going) (g .pre), g .ready .some)
 
     row-is : getD (set U (depth - 1) u) (depth - 1) 0 ≡ u
-    row-is = getD-set-same U (depth - 1) u 0 (omega (arith, inside, g .ready .going .long .rows-long))
+    row-is = getD-set-same U (depth - 1) u 0 (omega (arith, inside, g .columns .rows-long))
 
     next-is : getD (set N (depth - 1) (getD N (depth - 1) 0 + failed)) (depth - 1) 0 ≡ getD N (depth - 1) 0 + failed
-    next-is = getD-set-same N (depth - 1) (getD N (depth - 1) 0 + failed) 0 (omega (arith, inside, g .ready .going .long .nexts-long))
+    next-is = getD-set-same N (depth - 1) (getD N (depth - 1) 0 + failed) 0 (omega (arith, inside, g .columns .nexts-long))
 
     left-is : getD (set F (depth - 1) (getD F (depth - 1) 0 - failed)) (depth - 1) 0 ≡ getD F (depth - 1) 0 - failed
-    left-is = getD-set-same F (depth - 1) (getD F (depth - 1) 0 - failed) 0 (omega (arith, inside, g .ready .going .long .lefts-long))
+    left-is = getD-set-same F (depth - 1) (getD F (depth - 1) 0 - failed) 0 (omega (arith, inside, g .columns .lefts-long))
 
     pub passed-asked : AttemptPre (i .L) (i .S) (i .M) (i .tables) R A
         (getD G (depth - 1) 0) (getD X (depth - 1) 0) (getD St (depth - 1) 0) u (getD N (depth - 1) 0 + failed)
@@ -381,7 +349,7 @@ module _ {i : Input} where
         let n = getD N (depth - 1) 0 + failed in
         let l = getD F (depth - 1) 0 - failed in
         rw (row-is, next-is, left-is, set-set U (depth - 1) u r, set-set N (depth - 1) n (n + 1), set-set F (depth - 1) l (l - 1)) at
-        (going-try ready {o = o} {R′ = R′} {A′ = A′} {u = r} (g .pre) (λ e. omega (arith, g .afford, g .post .few)) (rw (row-is, left-is) further) (rw (row-is, next-is) post))
+        (going-try ready {o = o} {R′ = R′} {A′ = A′} {u = r} (g .pre) (columns-moved (depth - 1) u n l (g .columns)) (λ e. omega (arith, g .afford, g .post .few)) (rw (row-is, left-is) further) (rw (row-is, next-is) post))
 
   module _ {out R A G X St U N F : List ℕ} {depth cnt tries u left : ℕ} {o : Out} (t : Tried i out R A G X St U N F depth cnt tries u left o) where
     pub tried-fail : o ≡ answer.Fail → Going i out R A G X St U N F depth cnt tries
@@ -426,27 +394,19 @@ module _ {i : Input} where
             let w = asks a .needs in
             more .is (i .L) (a .search .K) (a .search .N) (a .search .Z) _ x (w .stop) (w .frames) (need-stops a) (t .each a .5)
 
-        pub tried-need : Pre i → Going i out R A (set G depth p₁) (set X depth x) (set St depth s) (set U depth s) (set N depth lo) (set F depth n) (depth + 1) cnt tries
-        tried-need p =
+        pub tried-need : Pre i → ColumnsLong G X St U N F → Going i out R A (set G depth p₁) (set X depth x) (set St depth s) (set U depth s) (set N depth lo) (set F depth n) (depth + 1) cnt tries
+        tried-need p k =
             let q = need-fits p in
             record {
-              long = record {
-                record-long = t .long .record-long;
-                places-long = length-set G depth p₁ ∙ t .long .places-long;
-                variables-long = length-set X depth x ∙ t .long .variables-long;
-                starts-long = length-set St depth s ∙ t .long .starts-long;
-                rows-long = length-set U depth s ∙ t .long .rows-long;
-                nexts-long = length-set N depth lo ∙ t .long .nexts-long;
-                lefts-long = length-set F depth n ∙ t .long .lefts-long;
-              };
+              long = t .long;
               charged = t .charged;
               each = λ a.
                   let h = t .each a in
                   let b = asks a in
                   let v = asks-values (a .search) b (h .4 .marks) low (need-many a) in
                   let c =
-                  asks-level (a .search) b (h .4 .marks) low (need-many a) (h .3) (h .4) (omega (arith, h .1 .vals-long)) (omega (arith, t .long .places-long)) (omega (arith, t .long .variables-long))
-                  (omega (arith, t .long .starts-long)) (omega (arith, t .long .rows-long)) (omega (arith, t .long .nexts-long)) (omega (arith, t .long .lefts-long)) in
+                  asks-level (a .search) b (h .4 .marks) low (need-many a) (h .3) (h .4) (omega (arith, h .1 .vals-long)) (omega (arith, k .places-long)) (omega (arith, k .variables-long))
+                  (omega (arith, k .starts-long)) (omega (arith, k .rows-long)) (omega (arith, k .nexts-long)) (omega (arith, k .lefts-long)) in
                   let d = at-need (fixed i a) (h .1) (b .lo) (suc (b .hi) - b .lo) (ap outcome (b .asked)) in
                   (h .0, rw (v .0, v .1) at d, rw (← (add-one depth)) at (c .0), rw (← (add-one depth)) at (c .1));
             }

@@ -28,12 +28,6 @@ pub record GoAsked (L S M tables : List ℕ) (room width : ℕ) (R A places vari
 
 pub record GoPre (L S M tables : List ℕ) (room width : ℕ) (R A places variables starts rows nexts lefts : List ℕ) (depth : ℕ) (before : List ℕ) : Type 0 where
   pub record-long : length R ≡ 32
-  pub places-long : length places ≡ 256
-  pub variables-long : length variables ≡ 256
-  pub starts-long : length starts ≡ 256
-  pub rows-long : length rows ≡ 256
-  pub nexts-long : length nexts ≡ 256
-  pub lefts-long : length lefts ≡ 256
   pub some : (T : Term) × (P : Pattern) × (Q : List Kind) × (es : List Expression) × (cs : List Constraint) × (vals : List ℕ)
       × GoAsked L S M tables room width R A places variables starts rows nexts lefts depth before T P Q es cs vals
 

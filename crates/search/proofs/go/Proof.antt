@@ -3,6 +3,7 @@ use Rattle.memory.proofs.Numbers.{blank}
 use Rattle.memory.specs.Memory.{Both}
 use Rattle.walk.specs.Packed.{rootOf}
 use Rattle.levels.specs.Columns.{places, variables, starts, rows, nexts, lefts}
+use Rattle.levels.proofs.Columns.{columns-long}
 use Rattle.search.proofs.Standing.{next-pre, charged, attempt-pre, tried, deeper-pre, entered}
 use Rattle.search.proofs.Turns.{tried-fail, need-fits, tried-full, put-asked, tried-match, tried-counted}
 use Rattle.search.proofs.Turns.{going-start, going-depth, going-long, going-back, going-end, going-ready, going-spent}
@@ -94,7 +95,7 @@ room-left : (c : tie.Else3 Inv-loop μ-loop) →
 room-left c = put-asked (after (c .before .before .before)) (c .before .enum-told2 .given .1) (begun (head (passed (c .before .before .before))) .pre .0) (c .if3 .left)
 
 loop-holds : tie.Need-loop-holds Inv-loop μ-loop
-loop-holds c = (going-start (c .before .before .before .pre .0), record { sequences = blank _ _ _ _; contexts = paths.blank _ _ _ _ }, c .before .before .before .pre .1)
+loop-holds c = (going-start (columns-long (c .before .before .before .args .levels .now)) (c .before .before .before .pre .0), record { sequences = blank _ _ _ _; contexts = paths.blank _ _ _ _ }, c .before .before .before .pre .1)
 
 back-requires : tie.Need-back-requires Inv-loop μ-loop
 back-requires c κs = (going-depth (c .before .loop .inv .0) (c .before .before .before .before .before .pre .0), c .before .loop .inv .2)
@@ -172,7 +173,7 @@ mul-put : tie.Need-mul-put Inv-loop μ-loop
 mul-put c = omega (arith, room-left (c .before), kept (c .before .before .before .before .before .before .before .before .before .before .before .before .before .before .before .before .before), c .before .before .before .before .before .before .before .before .before .before .before .before .before .before .before .before .before .before .before .before .before .good)
 
 put-requires : tie.Need-put-requires Inv-loop μ-loop
-put-requires c κs = let r = room-left (c .before .before) in (r .0, after (c .before .before .before .before .before) .long .record-long, r .1)
+put-requires c κs = let r = room-left (c .before .before) in (r .0, after (c .before .before .before .before .before) .long, r .1)
 
 add-count : tie.Need-add-count Inv-loop μ-loop
 add-count c = omega (arith, tried-counted (after (c .before .before .before .before .before .before .before .before)) (c .before .before .before .before .before .before .before .before .before .before .before .before .before .before .before .before .before .before .before .before .before .before .before .before .before .pre .0), c .before .before .before .before .before .if3 .left, c .before .before .before .before .before .before .before .before .before .before .before .before .before .before .before .before .before .before .before .before .before .before .before .before .before .pre .3)
