@@ -53,6 +53,6 @@ Means No Allowed Q P T budget = Absent Allowed Q P T budget
 Means Open Allowed Q P T budget = Unknown Allowed Q P T budget
 
 pub record Settled (l : Lists) (budget : ℕ) (r : Answer) : Type 0 where
-  -- the lowest code that applies
+  -- the first code whose rule is broken
   pub code : Codes l accept (codeOf r)
   pub answered : codeOf r ≡ 0 → (T : Term) (P : Pattern) (Q : List Kind) (es : List Expression) (cs : List Constraint) → Poses l T P Q es cs → Means r (Allowed cs) Q P T budget

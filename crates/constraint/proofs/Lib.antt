@@ -8,4 +8,6 @@ pub mod Passed
 pub mod Readings
 pub mod Obeyed
 pub mod Meant
+pub mod Names
+pub mod Most
 pub mod Values

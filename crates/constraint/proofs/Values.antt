@@ -59,7 +59,7 @@ module _ {L S : List ℕ} {n : ℕ} {R : Forest} (all : TermsAt L S 0 n R) where
   value-at aContext a b f = context-at a b (f .0) (f .1) (f .2)
 
 -- a good table's expressions start below 64
-pair-low : {kind name size : List ℕ} {es : List Expression} {k : Kind} {first flag : ℕ} {c : Constraint} → GoodTable kind name size es → Pair es k first flag c → first ≤ 64
+pub pair-low : {kind name size : List ℕ} {es : List Expression} {k : Kind} {first flag : ℕ} {c : Constraint} → GoodTable kind name size es → Pair es k first flag c → first ≤ 64
 pair-low g no-pair = omega arith
 pair-low g (a-pair m s f) = start-below g s
 

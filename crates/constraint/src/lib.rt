@@ -10,11 +10,13 @@ ghost use Rattle.expression.specs.Columns.{sizeRows};
 ghost use Rattle.constraint.specs.Obeys.{heads, path, Constraint};
 ghost use Rattle.constraint.specs.Good.{GoodConstraints, GoodConstraintList};
 ghost use Rattle.pattern.specs.Known.{KindsAre};
-ghost use Rattle.constraint.specs.Pair.{Pair, GivenPre};
+ghost use Rattle.constraint.specs.Pair.{Pair, GivenPre, NamedPre};
+ghost use Rattle.constraint.specs.Named.{AllNamed};
 ghost use Rattle.constraint.specs.Reading.{HeadsPre, MorePre, ReadTo, ReadOn, PathPre, After, ObeysPre, ObeysPost, ForbiddenPost};
 use meaning::kinds::FUNCTION;
 use meaning::kinds::INDIVIDUAL;
 use meaning::kinds::SEQUENCE;
+use meaning::wide;
 
 // Whether a variable of this kind may have these two numbers.
 fn paired(kind: u32, size: &[u32], first: u32, flag: u32) -> bool
@@ -77,6 +79,29 @@ pub fn good(
     }
     let kinds = checked.kinds;
     given(checked.variables, &kinds, expression_size, constraint)
+}
+
+// Code 19, where the list is good: whether a variable names each whole expression of the table. A mark for each number that
+// may stand in the list, so that every list is gone through once.
+pub fn all_named(variables: usize, size: &[u32], constraint: &[u32]) -> bool
+    requires { ⌜ NamedPre variables (now size) (now constraint) ⌝ }
+    ensures { λ r. ⌜ ((es : List Expression) → now (size .entry) ≡ sizeRows es → Says r (AllNamed es (now (constraint .entry)))) ⌝ }
+{
+    let mut marks = [false; 65];
+    let mut x = 0;
+    while x < variables {
+        let first = wide(constraint[x + x]);
+        marks[first] = true;
+        x += 1;
+    }
+    let mut row = 0;
+    while row < size.len() {
+        if !marks[row + 1] {
+            return false;
+        }
+        row += wide(size[row]);
+    }
+    true
 }
 
 // A reading of heads: the row where it stands, and its state.

@@ -17,7 +17,7 @@ use Rattle.expression.specs.Rule.{numberAt}
 pub place-total : {es : List Expression} {e : Expression} {row : ℕ} (s : StartsAt es e row) → row ≡ total (s .before)
 place-total s = s .place ∙ table-long (s .before) ∙ all-many rows (s .before)
 
-total-append : (ds es : List Expression) → total (ds ++ es) ≡ total ds + total es
+pub total-append : (ds es : List Expression) → total (ds ++ es) ≡ total ds + total es
 total-append [] es = sym (zero-add (total es))
 total-append (d ∷ ds) es = omega (arith, total-append ds es)
 

@@ -10,7 +10,7 @@ use Rattle.meaning.specs.Record.{IsRecord}
 use Rattle.constraint.specs.Obeys.{Allowed}
 use Rattle.meaning.proofs.OneCode.{one-refuse, one-accept}
 use Rattle.problem.specs.Problem.{Lists}
-use Rattle.problem.proofs.Posed.{Posed, posed, one-codes}
+use Rattle.problem.proofs.Posed.{Posed, posed, posed-then, one-codes}
 use Rattle.catalogue.proofs.Facts.{one-shown, one-answer}
 use Rattle.catalogue.proofs.Pages.{one-page}
 use Rattle.lister.specs.Listed.{Settled}
@@ -42,13 +42,12 @@ one-page-code l list = one-codes l (RecordCodes l list) (λ i j. one-refuse 15 _
 
 -- where no code is given, the record is that of a matcher of the problem
 pub page-posed : (l : Lists) (list : List ℕ) (c : ℕ) → c ≡ 0 → PageCodes l list c → (p : Posed l) × IsRecord (Allowed (p .cs)) (p .Q) (p .P) (p .T) list
-page-posed l list c z (inl a) = absurd (omega (arith, a .1))
-page-posed l list c z (inr (t, inl a)) = absurd (omega (arith, a .1))
-page-posed l list c z (inr (t, inr (p, inl a))) = absurd (omega (arith, a .1))
-page-posed l list c z (inr (t, inr (p, inr (e, inl a)))) = absurd (omega (arith, a .1))
-page-posed l list c z (inr (t, inr (p, inr (e, inr (k, inl a))))) = absurd (omega (arith, a .1))
-page-posed l list c z (inr (t, inr (p, inr (e, inr (k, inr (g, inl a)))))) = absurd (omega (arith, a .1))
-page-posed l list c z (inr (t, inr (p, inr (e, inr (k, inr (g, inr (m, o))))))) = (record { T = m .0; P = m .1; Q = m .2; es = m .3; cs = m .4; poses = m .5 }, m .6)
+page-posed l list c z h = go (posed-then l (RecordCodes l list) c z h .1)
+  where
+    go : RecordCodes l list c → (p : Posed l) × IsRecord (Allowed (p .cs)) (p .Q) (p .P) (p .T) list
+    go (inl a) = absurd (omega (arith, a .1))
+    go (inr (g, inl a)) = absurd (omega (arith, a .1))
+    go (inr (g, inr (m, o))) = (record { T = m .0; P = m .1; Q = m .2; es = m .3; cs = m .4; poses = m .5 }, m .6)
 
 module _ {l : Lists} {budget : ℕ} {before : List ℕ} {r s : Listed} {v w : List ℕ} where
   pub one-listed : Settled l budget before r v → Settled l budget before s w → Same r s v w

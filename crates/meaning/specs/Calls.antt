@@ -1,5 +1,5 @@
 -- What holds of every call. 01, "Numbers and order of checks": "The lowest that applies is given; .. Code 0 is no refusal." All codes are
--- put by `refuse` and `accept`: each code with the rule that it stands for, from the lowest up.
+-- put by `refuse` and `accept`: each code with the rule that it stands for, 01's from the lowest up, 02's where 02 puts them.
 use Prim.Native.Nat.{ℕ}
 use mathlib.Core.Path.{_≡_}
 use mathlib.Core.Logic.{_⊎_, _↔_}

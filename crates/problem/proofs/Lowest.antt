@@ -17,6 +17,9 @@ use Rattle.expression.specs.Columns.{sizeRows}
 use Rattle.constraint.specs.Obeys.{Constraint}
 use Rattle.constraint.specs.Good.{GoodConstraints, GoodConstraintList}
 use Rattle.pattern.specs.Known.{KindsAre}
+use Rattle.expression.proofs.Columns.{sizes-are}
+use Rattle.constraint.specs.Pair.{NamedPre}
+use Rattle.constraint.specs.Named.{AllNamed}
 use Rattle.constraint.proofs.Meant.{list-judged}
 use Rattle.problem.specs.Problem.{Lists, Codes}
 use Rattle.problem.specs.Answer.{Answered}
@@ -45,6 +48,9 @@ Given l checked b =
     (es : List Expression) (Q : List Kind) → KindsAre Q (checked .variables) (checked .kinds) → l .expressionSize ≡ sizeRows es
     → Says b ((cs : List Constraint) × GoodConstraints es Q (l .constraint) cs)
 
+abbrev Names : Lists → Bool → Type 0
+Names l b = (es : List Expression) → l .expressionSize ≡ sizeRows es → Says b (AllNamed es (l .constraint))
+
 module _ (l : Lists) where
   pub no-tree : {r : Problem} {t : Bool} → Tree l t → t ≡ false → Empty r 11 → Answered l r
   no-tree s e o = answered-no {l = l} 11 (λ z. omega arith) o (inl (said-no s e, o .0))
@@ -67,11 +73,28 @@ module _ (l : Lists) where
             answered-no {l = l} 14 (λ z. omega arith) o
             (inr (tree .0 has-tree, inr (checks .judged .0 has-pattern, inr (table .0 has-table, inl (said-no judged e, o .0)))))
 
-        pub all-good : {r : Problem} → c ≡ true → r ≡ record { code = 0; variables = checked .variables; kinds = checked .kinds } → Answered l r
-        all-good e o =
-            rw o
-            (record {
-              code = inr (tree .0 has-tree, inr (checks .judged .0 has-pattern, inr (table .0 has-table, inr (judged .0 e, refl))));
-              found = λ z P Q g. checks .found P Q g;
-              refused = λ z. absurd (z refl);
-            })
+        module _ (has-constraints : c ≡ true) where
+          pub names-asked : NamedPre (checked .variables) (l .expressionSize) (l .constraint)
+          names-asked =
+              let (P, Q, es, cs, m) = judged .0 has-constraints in
+              record { some = (l .expressionKind, l .expressionName, es, Q, cs, m .table, m .constraints, checks .found P Q (m .pattern) .0) }
+
+          module _ {n : Bool} (names : Names l n) where
+            named : Says n ((es : List Expression) × GoodTable (l .expressionKind) (l .expressionName) (l .expressionSize) es × AllNamed es (l .constraint))
+            named =
+                let t = table .0 has-table in
+                (λ e. (t .0, t .1, names (t .0) (sizes-are (t .0) (t .1)) .0 e), λ a. names (a .0) (sizes-are (a .0) (a .1)) .1 (a .2))
+
+            pub forgotten : {r : Problem} → n ≡ false → Empty r 19 → Answered l r
+            forgotten e o =
+                answered-no {l = l} 19 (λ z. omega arith) o
+                (inr (tree .0 has-tree, inr (checks .judged .0 has-pattern, inr (table .0 has-table, inr (judged .0 has-constraints, inl (said-no named e, o .0))))))
+
+            pub all-good : {r : Problem} → n ≡ true → r ≡ record { code = 0; variables = checked .variables; kinds = checked .kinds } → Answered l r
+            all-good e o =
+                rw o
+                (record {
+                  code = inr (tree .0 has-tree, inr (checks .judged .0 has-pattern, inr (table .0 has-table, inr (judged .0 has-constraints, inr (named .0 e, refl)))));
+                  found = λ z P Q g. checks .found P Q g;
+                  refused = λ z. absurd (z refl);
+                })

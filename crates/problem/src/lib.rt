@@ -5,6 +5,7 @@ ghost use Rattle.pattern.specs.Answer.{listed};
 ghost use mathlib.Core.List.{[]};
 use meaning::codes::CONSTRAINTS;
 use meaning::codes::EXPRESSIONS;
+use meaning::codes::FORGOTTEN;
 use meaning::codes::PATTERN;
 use meaning::codes::TREE;
 
@@ -25,7 +26,7 @@ fn refused(code: u32) -> Problem
     }
 }
 
-// The lowest of the codes 11 to 14 that applies, or 0.
+// The first of the codes 11 to 14 and 19 that applies, in this order, or 0.
 pub fn check(
     label: &[u32],
     size: &[u32],
@@ -63,6 +64,9 @@ pub fn check(
     let variables = checked.variables;
     if !constraint::given(variables, &kinds, expression_size, constraint) {
         return refused(CONSTRAINTS);
+    }
+    if !constraint::all_named(variables, expression_size, constraint) {
+        return refused(FORGOTTEN);
     }
     Problem {
         code: 0,

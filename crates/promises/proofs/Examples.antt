@@ -15,6 +15,7 @@ use Rattle.expression.specs.Expression as E
 use Rattle.expression.specs.Rows.{GoodTable}
 use Rattle.constraint.specs.Obeys.{Constraint, free, bound}
 use Rattle.constraint.specs.Good.{GoodConstraints, all-given, none-given, one-given}
+use Rattle.constraint.proofs.Names.{none-forgotten, one-named}
 use Rattle.problem.specs.Problem.{Poses}
 use Rattle.promises.specs.Table.{queryOnTree, twoSequences, inChoice, sameSequence, inRepetition, sameContext, noTermLeft, functionOverIndividual, ground}
 
@@ -46,7 +47,7 @@ no-table = record { kinds = refl; names = refl; sizes = refl; most = omega arith
 -- without expressions no variable is constrained
 poses : {L S K N Z C : List ℕ} {T : Term} {P : Pattern} {Q : List Kind} {cs : List Constraint} → GoodTree L S T → GoodPattern K N Z P Q → GoodConstraints [] Q C cs
     → Poses (record { label = L; size = S; kind = K; name = N; patternSize = Z; expressionKind = []; expressionName = []; expressionSize = []; constraint = C }) T P Q [] cs
-poses t p c = record { tree = t; rest = record { pattern = p; table = no-table; constraints = c } }
+poses {C = C} t p c = record { tree = t; rest = record { pattern = p; table = no-table; constraints = c }; named = none-forgotten C }
 
 -- g(f(a), f, a), and Q
 abbrev pub tree : Term
@@ -68,7 +69,7 @@ query-on-tree =
 abbrev pub twoLeaves : Term
 twoLeaves = term 2 (some 7 none (some 7 none none))
 
-two-leaves : GoodTree (2 ∷ 7 ∷ 7 ∷ []) (3 ∷ 1 ∷ 1 ∷ []) twoLeaves
+pub two-leaves : GoodTree (2 ∷ 7 ∷ 7 ∷ []) (3 ∷ 1 ∷ 1 ∷ []) twoLeaves
 unfolding labels sizes rows depth
 two-leaves = good-tree refl refl (omega arith) (omega arith) (one-label (omega arith) (one-label (omega arith) (one-label (omega arith) no-label)))
 
@@ -96,6 +97,7 @@ in-choice =
             table = record { kinds = refl; names = refl; sizes = refl; most = omega arith; small = each-at 65536 (0 ∷ 7 ∷ 7 ∷ []) (omega arith, (omega arith, (omega arith, tt))) };
             constraints = one-given {flag = 0} tt (record { before = []; behind = []; among = refl; place = refl }) (omega arith) (none-given all-given);
           };
+      named = one-named letter (1 ∷ 0 ∷ 0 ∷ 0 ∷ []) 0 refl;
     }
 
 abbrev pub twice : Pattern
@@ -111,20 +113,24 @@ same-sequence =
 abbrev pub once : Pattern
 once = symbol 2 (sequence 0 nil)
 
+pub good-once : GoodPattern (0 ∷ 2 ∷ []) (2 ∷ 0 ∷ []) (2 ∷ 1 ∷ []) once (aSequence ∷ [])
+unfolding labels sizes rows depth treeT treeF GoodT GoodF afterT afterF
+good-once = good-pattern refl refl refl (omega arith) (omega arith) (omega arith, (omega arith, tt)) (comes (omega arith) refl, tt) refl (omega arith)
+
 abbrev pub nothing : Expression
 nothing = repetition E.empty
 
 pub in-repetition : Poses inRepetition twoLeaves once (aSequence ∷ []) (nothing ∷ []) (bound nothing 1 ∷ [])
-unfolding labels sizes rows depth treeT treeF GoodT GoodF afterT afterF
 in-repetition =
     record {
       tree = two-leaves;
       rest =
           record {
-            pattern = good-pattern refl refl refl (omega arith) (omega arith) (omega arith, (omega arith, tt)) (comes (omega arith) refl, tt) refl (omega arith);
+            pattern = good-once;
             table = record { kinds = refl; names = refl; sizes = refl; most = omega arith; small = each-at 65536 (0 ∷ 0 ∷ []) (omega arith, (omega arith, tt)) };
             constraints = one-given {flag = 1} tt (record { before = []; behind = []; among = refl; place = refl }) (omega arith) all-given;
           };
+      named = one-named nothing (1 ∷ 1 ∷ []) 0 refl;
     }
 
 -- f(f(a)), and context 0 over (context 0 over a)

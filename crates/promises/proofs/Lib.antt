@@ -6,3 +6,4 @@ pub mod Examples
 pub mod Table
 pub mod Demands
 pub mod Wrong
+pub mod Forgotten

@@ -16,6 +16,8 @@ use Rattle.meaning.proofs.Means.{means-read, matcher-means, one-meaning}
 use Rattle.meaning.proofs.Tame.{count}
 use Rattle.constraint.specs.Obeys.{Constraint, Allowed}
 use Rattle.constraint.proofs.Allowed.{allowed?}
+use Rattle.constraint.proofs.Names.{named-counts}
+use Rattle.constraint.proofs.Most.{no-more-named}
 use Rattle.expression.specs.Expression.{Expression}
 use Rattle.problem.specs.Problem.{Lists, Poses, Codes}
 use Rattle.problem.proofs.Posed.{codes-high, one-codes}
@@ -79,4 +81,6 @@ listings = record {
       let h = s .listed (accepted w (s .code)) T P Q es cs w in
       (λ n. empty-none (h .meant) (sym (h .ends) ∙ z) (no-records (h .result .records) (sym (h .counts) ∙ n)), λ n. h .counts ∙ ap length (none-empty (h .meant) n));
   more-lengthens = λ l b c before after before' after' r s T P Q es cs h k w x y. lengthens (length before) (length before') h k (x .listing .meant) (y .listing .meant);
+  every-expression-counts = λ l T P Q es cs e row w s. named-counts (w .rest .constraints) (w .named) e row s;
+  no-more-expressions = λ l T P Q es cs w. no-more-named (w .rest .constraints) (w .named);
 }

@@ -14,7 +14,8 @@ use Rattle.meaning.specs.Order.{choices, Mem}
 use Rattle.meaning.specs.Means.{RecordMeans}
 use Rattle.meaning.specs.Reached.{Begins, Reached}
 use Rattle.expression.specs.Expression.{Expression}
-use Rattle.constraint.specs.Obeys.{Constraint, Allowed}
+use Rattle.expression.specs.Rows.{StartsAt}
+use Rattle.constraint.specs.Obeys.{Constraint, free, bound, Allowed}
 use Rattle.problem.specs.Problem.{Lists, Poses}
 use Rattle.catalogue.specs.Listing.{Listing}
 use Rattle.lister.specs.Listed.{Settled}
@@ -51,3 +52,8 @@ pub record Listings : Type 0 where
   pub more-lengthens : (l : Lists) (b c : ℕ) (before after before' after' : List ℕ) (r s : Listed) (T : Term) (P : Pattern) (Q : List Kind) (es : List Expression) (cs : List Constraint)
       → b ≤ c → length before ≤ length before' → Poses l T P Q es cs → (x : ListIs Q P T cs b before r after) (y : ListIs Q P T cs c before' s after')
       → Begins (x .listing .result .records) (y .listing .result .records)
+  -- 02, #104: every expression of the table is the constraint of a variable, so that none is forgotten
+  pub every-expression-counts : (l : Lists) (T : Term) (P : Pattern) (Q : List Kind) (es : List Expression) (cs : List Constraint) (e : Expression) (row : ℕ)
+      → Poses l T P Q es cs → StartsAt es e row → (x : ℕ) × (flag : ℕ) × (getD cs x free ≡ bound e flag)
+  -- .. and a table of more expressions than variables poses no problem
+  pub no-more-expressions : (l : Lists) (T : Term) (P : Pattern) (Q : List Kind) (es : List Expression) (cs : List Constraint) → Poses l T P Q es cs → length es ≤ length Q

@@ -32,8 +32,8 @@ pub record ReaderRefuses : Type 0 where
   pub check-is-read : (d w l s b n l' s' b' n' : List ℕ) (code place rows r : ℕ) → 2048 ≤ shortest l s b n → Read d w l s b n l' s' b' n' code place rows → DocumentChecked d w r
       → r ≡ code * 4294967296 + (place + rows)
 
--- the lister, the test and the instance maker give the lowest code whose rule is broken, and 0 where none is; a page the first in the order
--- of 02, #105
+-- the lister, its pages, the test and the instance maker give the first code whose rule is broken, and 0 where none is: 01's from the lowest
+-- up, 19 directly after 14 (02, #104), and 20 last (#105)
 pub record MatcherRefuses : Type 0 where
   pub list : {l : Lists} {budget : ℕ} {before after : List ℕ} {r : Listed} → Settled l budget before r after → Codes l accept (r .code)
   pub list-after : {l : Lists} {list : List ℕ} {budget : ℕ} {before after : List ℕ} {r : Listed} → PageSettled l list budget before r after → PageCodes l list (r .code)
