@@ -13,7 +13,8 @@
  * 40,960; read 57,496 (35,792 where the document is read); list 60,648; list_after 72,264; test 39,688; instance 30,696; spelling 10,456. Give a
  * thread 128 kB.
  *
- * In a refusal the lowest code that applies is given, every other number is 0 (but the place of code 3), and nothing is written. */
+ * In a refusal the first code that applies is given, in the order that stands at the function, every other number is 0 (but the place of code
+ * 3), and nothing is written. */
 #ifndef KHARGOVSUN_H
 #define KHARGOVSUN_H
 
@@ -58,6 +59,7 @@
 #define KHARGOVSUN_CODE_RECORD 15
 #define KHARGOVSUN_CODE_INSTANCE_TOO_LARGE 16
 #define KHARGOVSUN_CODE_NO_ROOM_FOR_INSTANCE 17
+#define KHARGOVSUN_CODE_FORGOTTEN_EXPRESSION 19 /* a table with an expression that no variable names; asked directly after 14 */
 #define KHARGOVSUN_CODE_NO_MATCHER 20 /* a good record that is not a matcher's */
 
 /* ---- Endings of a listing ---- */
@@ -112,7 +114,8 @@ typedef struct {
 } khargovsun_listing;
 
 /* The matchers' records, in order, one after another from out[0] on: two numbers for each variable. Entries after the records are
- * unchanged. A refusal (codes 11 to 14) leaves out as it was; ending, records and tries are 0. */
+ * unchanged. A refusal (codes 11 to 14, then 19 where an expression of the table is named by no variable) leaves out as it was; ending, records and
+ * tries are 0. */
 khargovsun_listing khargovsun_list(const uint32_t *label, size_t label_length, const uint32_t *size, size_t size_length,
                                    const uint32_t *kind, size_t kind_length, const uint32_t *name, size_t name_length,
                                    const uint32_t *pattern_size, size_t pattern_size_length,
@@ -131,8 +134,8 @@ khargovsun_listing khargovsun_list(const uint32_t *label, size_t label_length, c
  * and the budget is spent; the records are then the leading ones of what more budget would give. With room for one record at least, and
  * as long as no page ends with 2, the pages up to the first that ends with 0 are together what one khargovsun_list with room enough gives.
  *
- * A refusal (codes 11 to 15; then 20 for a good record that is not a matcher's, as khargovsun_test decides it) leaves out as it was; ending,
- * records and tries are 0. */
+ * A refusal (codes 11 to 14, 19, 15; then 20 for a good record that is not a matcher's, as khargovsun_test decides it) leaves out as it was;
+ * ending, records and tries are 0. */
 khargovsun_listing khargovsun_list_after(const uint32_t *label, size_t label_length, const uint32_t *size, size_t size_length,
                                          const uint32_t *kind, size_t kind_length, const uint32_t *name, size_t name_length,
                                          const uint32_t *pattern_size, size_t pattern_size_length,
@@ -147,7 +150,7 @@ typedef struct {
     uint32_t code, yes;
 } khargovsun_testing;
 
-/* Yes is 1 exactly for the record of a matcher, else 0. Writes nothing. In a refusal (codes 11 to 15) yes is 0. */
+/* Yes is 1 exactly for the record of a matcher, else 0. Writes nothing. In a refusal (codes 11 to 14, 19, 15) yes is 0. */
 khargovsun_testing khargovsun_test(const uint32_t *label, size_t label_length, const uint32_t *size, size_t size_length,
                                    const uint32_t *kind, size_t kind_length, const uint32_t *name, size_t name_length,
                                    const uint32_t *pattern_size, size_t pattern_size_length,
@@ -203,7 +206,7 @@ typedef struct {
     size_t rows;
 } khargovsun_pattern;
 
-/* Whole expressions one after another, possibly none. */
+/* Whole expressions one after another, possibly none. Each has to be named by a variable (19). */
 typedef struct {
     const uint32_t *kind, *name, *size;
     size_t rows;

@@ -74,6 +74,7 @@ static void compare_problem(chance *chance, const char *name, uint32_t number, c
     compare_lists(chance, problem, &all);
     compare_pages(problem, &all);
     compare_damages(chance, problem);
+    compare_forgotten(chance, problem);
     if (all_candidates) compare_documents(chance, &problem->tree, number);
 }
 

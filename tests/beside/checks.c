@@ -1,4 +1,4 @@
-/* The refusals 11 to 15: each rule on a list is one question. Sizes may be any numbers here. */
+/* The refusals 11 to 15 and 19: each rule on a list is one question. Sizes may be any numbers here. */
 #include "decide.h"
 
 static bool all_below(const list *numbers, uint32_t bound) {
@@ -120,11 +120,25 @@ static bool good_constraint(const problem *problem) {
     return true;
 }
 
+static bool is_named(const list *constraint, size_t row) {
+    for (size_t k = 0; k < constraint->n; k += 2)
+        if (constraint->at[k] == row + 1) return true;
+    return false;
+}
+
+/* Is every whole expression of the table named by a variable? */
+static bool all_named(const problem *problem) {
+    for (size_t row = 0; row < problem->expression.kind.n; row++)
+        if (is_top(&problem->expression, row) && !is_named(&problem->constraint, row)) return false;
+    return true;
+}
+
 uint32_t code_of_problem(const problem *problem) {
     if (!good_tree(&problem->tree)) return BAD_TREE;
     if (!good_pattern(&problem->pattern)) return BAD_PATTERN;
     if (!good_expressions(&problem->expression)) return BAD_EXPRESSIONS;
-    return good_constraint(problem) ? ACCEPTED : BAD_CONSTRAINT;
+    if (!good_constraint(problem)) return BAD_CONSTRAINT;
+    return all_named(problem) ? ACCEPTED : FORGOTTEN;
 }
 
 bool good_pair(const list *size, uint32_t kind, uint32_t first, uint32_t second) {

@@ -41,6 +41,9 @@ void compare_page_code(const problem *problem, uint32_t code, const list *record
 /* The lister and, with one record, its page, the test and the instance maker on a problem that may be bad. */
 void compare_damaged(chance *chance, const problem *problem, const list *record);
 
+/* The same on the problem with an expression that no variable names, or with one variable tied to another expression or to none. */
+void compare_forgotten(chance *chance, const problem *whole);
+
 /* The smallest and the largest of everything that has a limit. */
 void compare_limits(chance *chance);
 

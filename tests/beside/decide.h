@@ -6,7 +6,7 @@
 
 /* ---- Refusals ---- */
 
-/* The lowest code of 11 to 14, or 0. */
+/* The first code of 11 to 14 and 19, or 0. */
 uint32_t code_of_problem(const problem *problem);
 
 /* Is the record good? The tree and the pattern have to be. */

@@ -96,6 +96,32 @@ static void compare_expressions(chance *chance, problem *problem, list *record) 
         }
 }
 
+/* Expressions of one row, so many, of which no word but the empty one is one. */
+static void put_empty_words(rows *table, size_t count) {
+    table->kind.n = table->name.n = table->size.n = count;
+    for (size_t row = 0; row < count; row++) {
+        table->kind.at[row] = EMPTY;
+        table->name.at[row] = 0;
+        table->size.at[row] = 1;
+    }
+}
+
+/* As many variables as there may be, on a tree of one row; so many of them name the first expressions, the last one first. */
+static void compare_names(chance *chance, problem *problem, list *record) {
+    static const size_t COUNT[] = {0, 1, 2, VARIABLES - 1, VARIABLES, VARIABLES + 1, EXPRESSION_ROWS, EXPRESSION_ROWS + 1};
+    put_variables(problem, SEQUENCE, VARIABLES);
+    put_tree(&problem->tree, 1, false);
+    record->n = 2 * VARIABLES;
+    for (size_t k = 0; k < record->n; k++) record->at[k] = k % 2 == 0;
+    for (size_t k = 0; k < sizeof COUNT / sizeof *COUNT; k++)
+        for (size_t named = 0; named <= VARIABLES && named <= COUNT[k]; named++) {
+            put_empty_words(&problem->expression, COUNT[k]);
+            clear_constraints(problem, VARIABLES);
+            for (size_t v = 0; v < named; v++) problem->constraint.at[2 * v] = named - v;
+            compare_damaged(chance, problem, record);
+        }
+}
+
 /* Instances around the limit: a variable's value many times, below a symbol or around each other. */
 static void compare_instances(chance *chance, problem *problem, list *record) {
     static const struct {
@@ -126,5 +152,6 @@ void compare_limits(chance *chance) {
     compare_shapes(chance, &problem, &record);
     compare_variables(chance, &problem, &record);
     compare_expressions(chance, &problem, &record);
+    compare_names(chance, &problem, &record);
     compare_instances(chance, &problem, &record);
 }

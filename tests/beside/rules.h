@@ -25,6 +25,7 @@ enum code {
     BAD_RECORD = 15,
     INSTANCE_TOO_LARGE = 16,
     NO_ROOM_FOR_INSTANCE = 17,
+    FORGOTTEN = 19,
     NO_MATCHER = 20,
     CODES = 21
 };

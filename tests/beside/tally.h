@@ -57,6 +57,7 @@
     X(REPEATED_AND_RECORD, "  have a record and a repeated variable", 136)                  \
     X(CONSTRAINED_AND_RECORD, "  have a record and a constraint", 166)                      \
     X(EXCLUDED_BY_CONSTRAINT, "  have a record that only a constraint excludes", 100)       \
+    X(FORGETFUL, "problems with an expression that no variable names", 3000)                \
     X(RECORDS, "records", 1864)                                                             \
     X(TRIES, "tries", 5878)                                                                 \
     X(CANDIDATE_YES, "candidate records that are a matcher's", 1864)                        \
@@ -82,6 +83,7 @@
     X(CODE_15, "refusals 15", 1000)                                                         \
     X(CODE_16, "refusals 16", 10)                                                           \
     X(CODE_17, "refusals 17", 5000)                                                         \
+    X(CODE_19, "refusals 19", 20000)                                                        \
     X(CODE_20, "refusals 20", 50000)
 
 #define FIRST_OF_THREE(name, text, least) name,

@@ -1,4 +1,4 @@
-/* khargovsun_list, khargovsun_test and khargovsun_instance, held to what 01 and 02 (#101) say. */
+/* khargovsun_list, khargovsun_test and khargovsun_instance, held to what 01 and 02 (#101, #104) say. */
 #include "problem.h"
 
 static const struct listing {
@@ -25,6 +25,12 @@ static const struct listing {
     {"Q on g(text f, f)", {{LIST(0, 3, 2), LIST(3, 1, 1)}, Q, NOTHING, FREE2}, 1000, ROOM, 0, 1, 4, LIST(0, 2, 3, 0)},
     {"f(s0, s0) on f(a, a)", S0_S0, 1000, ROOM, 0, 1, 3, LIST(1, 1)},
     {"s0 in repetition of empty, flag 1", S0_FLAG, 1000, ROOM, 0, 0, 3, NONE},
+    {"f(s0) on f(a), s0 in a", {F_A, F_S0, A_ALONE, LIST(1, 0)}, 1000, ROOM, 0, 1, 2, LIST(1, 1)},
+    {"f(s0) on f(a, a), s0 in a", {F_A_A, F_S0, A_ALONE, LIST(1, 0)}, 1000, ROOM, 0, 0, 3, NONE},
+    {"two variables name one expression", {F_A_A, F_S0_S1, A_ALONE, LIST(1, 0, 1, 0)}, 1000, ROOM, 0, 1, 5, LIST(1, 1, 2, 1)},
+    {"each names its own of two that are equal", {F_A_A, F_S0_S1, A_A, LIST(1, 0, 2, 0)}, 1000, ROOM, 0, 1, 5, LIST(1, 1, 2, 1)},
+    {"the same on f(a)", {F_A, F_S0_S1, A_A, LIST(1, 0, 2, 0)}, 1000, ROOM, 0, 0, 3, NONE},
+    {"named in the other order", {F_A_A, F_S0_S1, A_A, LIST(2, 1, 1, 0)}, 1000, ROOM, 0, 1, 5, LIST(1, 1, 2, 1)},
     {"context 0 over context 0 over a", C0_C0_A, 1000, ROOM, 0, 1, 3, LIST(0, 1)},
     {"f(a, s0) on f", F_A_S0, 1000, ROOM, 0, 0, 0, NONE},
     {"function 0 over individual 1", F0_X1, 0, ROOM, 0, 1, 0, LIST(0, 0, 1, 0)},
@@ -65,6 +71,10 @@ static const struct testing {
     {"two roots", S0_S1, LIST(0, 2, 3, 0), 15, 0},
     {"an individual with a second number", F0_X1, LIST(0, 0, 1, 1), 15, 0},
     {"a function's row outside the tree", F0_X1, LIST(2, 0, 1, 0), 15, 0},
+    {"tied: the record is too long", {F_A_A, F_S0, A_ALONE, LIST(1, 0)}, LIST(9, 9, 9), 15, 0},
+    {"not tied: 19 before 15", {F_A_A, F_S0, A_ALONE, LIST(0, 0)}, LIST(9, 9, 9), 19, 0},
+    {"not tied, where the record is a matcher's", {F_A, F_S0, A_ALONE, LIST(0, 0)}, LIST(1, 1), 19, 0},
+    {"14 before 19 and 15", {F_A, F_S0, A_ALONE, LIST(0, 1)}, LIST(9, 9, 9), 14, 0},
 };
 
 #define CUT {LIST(0), LIST(2)}
@@ -197,11 +207,37 @@ static void largest(void) {
     list_is("g(s0) on 2,048 rows", &p, 4294967295u, ROOM, want, record);
 }
 
+/* ---- f(s0, .., s15) on f, and a table of expressions a ---- */
+
+enum { VARIABLES = 16, MOST = 64 };
+
+static uint32_t symbols[MOST], as[MOST], ones[MOST];
+static const rows3 F_S0_S15 = {LIST(0, 2, 2, 2, 2, 2, 2, 2, 2, 2, 2, 2, 2, 2, 2, 2, 2), LIST(2, 0, 1, 2, 3, 4, 5, 6, 7, 8, 9, 10, 11, 12, 13, 14, 15),
+                               LIST(17, 1, 1, 1, 1, 1, 1, 1, 1, 1, 1, 1, 1, 1, 1, 1, 1)};
+
+/* The last variables name the first expressions, one each. The sequences can only be empty, so that there is one try for each variable without an expression,
+ * and one that fails for the first that has one. */
+static void table_of(uint32_t many, uint32_t named) {
+    uint32_t constraint[2 * VARIABLES] = {0};
+    for (uint32_t k = 0; k < named; k++) constraint[2 * (VARIABLES - 1 - k)] = k + 1;
+    problem p = {{LIST(2), LIST(1)}, F_S0_S15, {{symbols, many}, {as, many}, {ones, many}}, {constraint, 2 * VARIABLES}};
+    khargovsun_listing refused = {.code = 19}, tried = {.tries = VARIABLES - named + 1};
+    list none = NONE;
+    list_is("a table of one-row expressions", &p, 1000, ROOM, named < many ? refused : tried, none);
+}
+
+static void tables(void) {
+    for (size_t k = 0; k < MOST; k++) as[k] = 7, ones[k] = 1;
+    for (uint32_t many = 1; many <= MOST; many++)
+        for (uint32_t named = 0; named <= many && named <= VARIABLES; named++) table_of(many, named);
+}
+
 int main(void) {
     listings_and_refusals();
     for (size_t k = 0; k < COUNT(TESTINGS); k++) test_is(TESTINGS[k].name, &TESTINGS[k].problem, TESTINGS[k].record, TESTINGS[k].code, TESTINGS[k].yes);
     makings();
     largest();
+    tables();
     same("the structs", "calls with them, and some with lists alone", by_structs > 0 && by_lists_alone > 0, true);
     return result("matcher.c");
 }

@@ -1,4 +1,4 @@
-/* khargovsun_list_after, held to what 01 and 02 (#105) say: the pages behind a record, their tries, endings and refusals. */
+/* khargovsun_list_after, held to what 01 and 02 (#104, #105) say: the pages behind a record, their tries, endings and refusals. */
 #include "problem.h"
 
 #define B_ON_A {{LIST(7), LIST(1)}, {LIST(0), LIST(9), LIST(1)}, NOTHING, NONE}
@@ -124,7 +124,9 @@ static void pages_and_refusals(void) {
 
 static const tree TREES[] = {T, {LIST(0, 2, 7, 2, 7), LIST(5, 2, 1, 1, 2)}};
 static const rows3 PATTERNS[] = {Q, {LIST(4, 0, 5), LIST(0, 2, 1), LIST(3, 2, 1)}};
-static const rows3 EXPRESSIONS[] = {AS, {LIST(4, 0), LIST(1, 7), LIST(2, 1)}};
+/* .. and each with one more expression, which nobody names. */
+static const rows3 EXPRESSIONS[2][2] = {{AS, {LIST(4, 0), LIST(1, 7), LIST(2, 1)}},
+                                        {{LIST(4, 0, 0), LIST(0, 7, 9), LIST(2, 1, 1)}, {LIST(4, 0, 0), LIST(1, 7, 9), LIST(2, 1, 1)}}};
 static const list CONSTRAINTS[] = {LIST(0, 0, 1, 0), LIST(0, 0, 2, 0)};
 static const struct {
     list record;
@@ -132,18 +134,19 @@ static const struct {
 } RECORDS[] = {{LIST(0, 1, 2, 1), 0}, {LIST(0, 1, 2, 0), 20}, {LIST(0, 5, 2, 1), 15}, {LIST(0, 1, 2), 15}};
 
 static uint32_t first_code(const bool *bad, uint32_t of_record) {
-    for (uint32_t k = 0; k < 4; k++)
-        if (bad[k]) return 11 + k;
+    static const uint32_t CODES[] = {11, 12, 13, 14, 19};
+    for (size_t k = 0; k < COUNT(CODES); k++)
+        if (bad[k]) return CODES[k];
     return of_record;
 }
 
 static void orders(void) {
     khargovsun_listing page = {.records = 1, .tries = 4};
     list second = LIST(0, 3, 4, 0);
-    for (unsigned ways = 0; ways < 16; ways++)
+    for (unsigned ways = 0; ways < 32; ways++)
         for (size_t r = 0; r < COUNT(RECORDS); r++) {
-            bool bad[] = {ways & 1, ways & 2, ways & 4, ways & 8};
-            problem p = {TREES[bad[0]], PATTERNS[bad[1]], EXPRESSIONS[bad[2]], CONSTRAINTS[bad[3]]};
+            bool bad[] = {ways & 1, ways & 2, ways & 4, ways & 8, ways & 16};
+            problem p = {TREES[bad[0]], PATTERNS[bad[1]], EXPRESSIONS[bad[4]][bad[2]], CONSTRAINTS[bad[3]]};
             uint32_t code = first_code(bad, RECORDS[r].code);
             if (code != 0) page_refused("the order of the codes", &p, RECORDS[r].record, code);
             else page_is("the order of the codes", &p, RECORDS[r].record, 1000, ROOM, page, second);

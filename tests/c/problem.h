@@ -28,12 +28,16 @@ typedef struct {
 #define F_S0_S1 {LIST(0, 2, 2), LIST(2, 0, 1), LIST(3, 1, 1)}
 #define A_OR_A {LIST(3, 0, 0), LIST(0, 7, 7), LIST(3, 1, 1)}
 #define FREE2 LIST(0, 0, 0, 0)
+#define F_S0 {LIST(0, 2), LIST(2, 0), LIST(2, 1)}
+#define F_A {LIST(2, 7), LIST(2, 1)}
+#define A_ALONE {LIST(0), LIST(7), LIST(1)}
+#define A_A {LIST(0, 0), LIST(7, 7), LIST(1, 1)}
 
 #define Q_ON_T {T, Q, NOTHING, FREE2}
 #define S0_S1 {F_A_A, F_S0_S1, NOTHING, FREE2}
 #define S0_S1_CHOICE {F_A_A, F_S0_S1, A_OR_A, LIST(1, 0, 0, 0)}
 #define S0_S0 {F_A_A, {LIST(0, 2, 2), LIST(2, 0, 0), LIST(3, 1, 1)}, NOTHING, LIST(0, 0)}
-#define S0_FLAG {F_A_A, {LIST(0, 2), LIST(2, 0), LIST(2, 1)}, {LIST(4, 1), LIST(0, 0), LIST(2, 1)}, LIST(1, 1)}
+#define S0_FLAG {F_A_A, F_S0, {LIST(4, 1), LIST(0, 0), LIST(2, 1)}, LIST(1, 1)}
 #define C0_C0_A {{LIST(2, 2, 7), LIST(3, 2, 1)}, {LIST(4, 4, 0), LIST(0, 0, 7), LIST(3, 2, 1)}, NOTHING, LIST(0, 0)}
 #define F_A_S0 {{LIST(2), LIST(1)}, {LIST(0, 0, 2), LIST(2, 7, 0), LIST(3, 1, 1)}, NOTHING, LIST(0, 0)}
 #define F0_X1 {{LIST(2, 7), LIST(2, 1)}, {LIST(3, 1), LIST(0, 1), LIST(2, 1)}, NOTHING, FREE2}
@@ -73,6 +77,20 @@ static const struct refusal {
     {"a constraint beyond the table", {T, Q, {LIST(0), LIST(7), LIST(1)}, LIST(0, 0, 2, 0)}, 14},
     {"a constraint on the inside of an expression", {F_A_A, F_S0_S1, A_OR_A, LIST(2, 0, 0, 0)}, 14},
     {"a constraint on an individual variable", {T, {LIST(1), LIST(0), LIST(1)}, {LIST(0), LIST(7), LIST(1)}, LIST(1, 0)}, 14},
+    {"a flag without an expression, and one that is forgotten", {F_A, F_S0, A_ALONE, LIST(0, 1)}, 14},
+    {"a row inside is named, and the expression forgotten", {F_A_A, F_S0, A_OR_A, LIST(2, 0)}, 14},
+    {"a list too short, and an expression forgotten", {F_A_A, F_S0_S1, A_ALONE, LIST(0, 0)}, 14},
+    {"a bad table that nobody names", {F_A_A, F_S0, {LIST(4), LIST(0), LIST(1)}, LIST(0, 0)}, 13},
+    {"one expression, not named", {F_A, F_S0, A_ALONE, LIST(0, 0)}, 19},
+    {"one expression, not named, two terms", {F_A_A, F_S0, A_ALONE, LIST(0, 0)}, 19},
+    {"the second of two is not named", {F_A_A, F_S0, {LIST(0, 0), LIST(7, 9), LIST(1, 1)}, LIST(1, 0)}, 19},
+    {"the first of two is not named", {F_A_A, F_S0, {LIST(0, 0), LIST(7, 9), LIST(1, 1)}, LIST(2, 0)}, 19},
+    {"the second of two that are equal is not named", {F_A, F_S0, A_A, LIST(1, 0)}, 19},
+    {"the first is named twice, its equal not", {F_A_A, F_S0_S1, A_A, LIST(1, 0, 1, 1)}, 19},
+    {"the middle one of three is not named", {F_A_A, F_S0_S1, {LIST(4, 0, 0, 1), LIST(0, 7, 9, 0), LIST(2, 1, 1, 1)}, LIST(1, 0, 4, 0)}, 19},
+    {"a choice is not named", {F_A_A, F_S0_S1, A_OR_A, FREE2}, 19},
+    {"a table for a pattern without variables", {{LIST(7), LIST(1)}, {LIST(0), LIST(7), LIST(1)}, A_ALONE, NONE}, 19},
+    {"a table for individual and function variables", {F_A, {LIST(3, 1), LIST(0, 1), LIST(2, 1)}, A_ALONE, FREE2}, 19},
 };
 
 /* ---- The calls ---- */
