@@ -2,9 +2,9 @@
 use Prim.Native.Nat.{ℕ, zero, suc, _+_, _≤_, _<_}
 use mathlib.Core.Path.{_≡_, sym, ap, _∙_}
 use mathlib.Core.List.{List, [], _∷_, _++_, append-assoc}
-use lib.ListN.{length, getD, List·getD-eq-default}
+use lib.ListN.{length, getD}
 use native.Mathlib.Omega.{arith}
-use native.Mathlib.Decide.{ℕ-discrete, decLe, decLt}
+use native.Mathlib.Decide.{ℕ-discrete, decLe}
 use Rattle.meaning.specs.Pattern.{Kind}
 use Rattle.expression.specs.Expression.{Expression}
 use Rattle.expression.specs.Columns.{rows}
@@ -15,6 +15,7 @@ use Rattle.constraint.specs.Obeys.{Constraint}
 use Rattle.constraint.specs.Good.{GoodConstraints}
 use Rattle.constraint.specs.Named.{Named, AllNamed}
 use Rattle.constraint.proofs.Constraints.{numbers-many}
+use Rattle.constraint.proofs.Names.{by-variable}
 
 -- how many of the first n numbers are at most a bound
 one : {v bound : ℕ} → Dec (v ≤ bound) → ℕ
@@ -67,20 +68,12 @@ module _ {all : List Expression} {list : List ℕ} (named : AllNamed all list) (
   abbrev first : ℕ → ℕ
   first x = getD list (x + x) 0
 
-  -- a name is a variable's
-  by-variable : {row : ℕ} (m : Named list row) → m .0 < n
-  by-variable {row} (x, e) = go (decLt x n)
-    where
-      go : Dec (x < n) → x < n
-      go (yes h) = h
-      go (no h) = absurd (omega (arith, e, List·getD-eq-default list 0 {n = x + x} (omega arith)))
-
   -- one name at least for each of es, among the rows that they take
   names-of : (ds es : List Expression) → all ≡ ds ++ es → below first n (total ds) + length es ≤ below first n (total ds + total es)
   names-of ds [] q = omega (arith, below-more first n {low = total ds} {high = total ds + 0} (omega arith))
   names-of ds (e ∷ es) q =
       let m : Named list (total ds) = named .each e (total ds) (record { before = ds; behind = es; among = q; place = sym (table-long ds ∙ all-many rows ds) }) in
-      let b = below-between first n (m .0) {low = total ds} {high = total ds + rows e} (by-variable m) (omega (arith, m .1)) (omega (arith, m .1, rows-positive e)) in
+      let b = below-between first n (m .0) {low = total ds} {high = total ds + rows e} (by-variable list n (total ds) long m) (omega (arith, m .1)) (omega (arith, m .1, rows-positive e)) in
       let t : total (ds ++ (e ∷ [])) ≡ total ds + rows e = omega (arith, total-append ds (e ∷ [])) in
       let h = names-of (ds ++ (e ∷ [])) es (q ∙ sym (append-assoc ds (e ∷ []) es)) in
       let z : total ds + rows e + total es ≡ total ds + (rows e + total es) = omega arith in

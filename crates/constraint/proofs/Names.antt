@@ -79,6 +79,14 @@ within pre =
 
 -- ---- the walk
 
+-- a name is a variable's: behind the list there is none
+pub by-variable : (list : List ℕ) (n row : ℕ) → length list ≤ n + n → (m : Named list row) → m .0 < n
+by-variable list n row long (x, e) = go (decLt x n)
+  where
+    go : Dec (x < n) → x < n
+    go (yes h) = h
+    go (no h) = absurd (omega (arith, e, List·getD-eq-default list 0 {n = x + x} (omega arith)))
+
 -- what starts before the row is named; the walk stands at a first row, or at the end
 pub record NamedTo (size list : List ℕ) (row : ℕ) : Type 0 where
   pub each : (es : List Expression) → size ≡ sizeRows es → Walked es row × ((e : Expression) (r : ℕ) → StartsAt es e r → r < row → Named list r)
@@ -119,11 +127,7 @@ module _ {size list : List ℕ} {row : ℕ} (w : NamedTo size list row) where
       named-not k f es q a =
           let s = here es q in
           let x = a .each (s .0) row (s .1) in
-          go (x .0) (x .1) (decLt (x .0) n)
-        where
-          go : (x : ℕ) → getD list (x + x) 0 ≡ suc row → Dec (x < n) → ⊥
-          go x e (yes b) = said-no (m .each (row + 1) l) f (x, b, omega arith)
-          go x e (no b) = omega (arith, List·getD-eq-default list 0 {n = x + x} (omega arith))
+          said-no (m .each (row + 1) l) f (x .0, by-variable list n row k x, omega (arith, x .1))
 
 -- ---- what the rule says
 
@@ -142,16 +146,12 @@ one-named e list x h = record { each = λ d row s. (x, omega (arith, only (s .be
 -- each is the constraint of a variable
 pub named-counts : {es : List Expression} {Q : List Kind} {list : List ℕ} {cs : List Constraint} → GoodConstraints es Q list cs → AllNamed es list → (e : Expression) (row : ℕ) → StartsAt es e row
     → (x : ℕ) × (flag : ℕ) × (getD cs x free ≡ bound e flag)
-named-counts {es} {Q} {list} {cs} g a e row s = go (a .each e row s .0) (a .each e row s .1)
+named-counts {es} {Q} {list} {cs} g a e row s = go (a .each e row s)
   where
-    go : (x : ℕ) → getD list (x + x) 0 ≡ suc row → (x : ℕ) × (flag : ℕ) × (getD cs x free ≡ bound e flag)
-    go x p = there (decLt x (length Q))
-      where
-        there : Dec (x < length Q) → (x : ℕ) × (flag : ℕ) × (getD cs x free ≡ bound e flag)
-        there (no b) = absurd (omega (arith, List·getD-eq-default list 0 {n = x + x} (omega (arith, numbers-many g))))
-        there (yes b) =
-            let k = look-some Q x b in
-            let c = pair-bound (pair-at x g (k .1)) (λ z. omega (arith, z, p)) in
-            let z : getD list (x + x) 0 - 1 ≡ row = omega arith in
-            let f : c .0 ≡ e = one-start (rw z at (c .2)) s in
-            (x, getD list (x + x + 1) 0, rw f at (c .1))
+    go : Named list row → (x : ℕ) × (flag : ℕ) × (getD cs x free ≡ bound e flag)
+    go (x, p) =
+        let k = look-some Q x (by-variable list (length Q) row (omega (arith, numbers-many g)) (x, p)) in
+        let c = pair-bound (pair-at x g (k .1)) (λ z. omega (arith, z, p)) in
+        let z : getD list (x + x) 0 - 1 ≡ row = omega arith in
+        let f : c .0 ≡ e = one-start (rw z at (c .2)) s in
+        (x, getD list (x + x + 1) 0, rw f at (c .1))
