@@ -13,7 +13,7 @@ use Rattle.expression.proofs.Placed.{rows-positive, total, all-many}
 use Rattle.expression.proofs.Places.{total-append}
 use Rattle.constraint.specs.Obeys.{Constraint}
 use Rattle.constraint.specs.Good.{GoodConstraints}
-use Rattle.constraint.specs.Named.{Named, AllNamed}
+use Rattle.constraint.specs.Named.{VariableNames, AllNamed}
 use Rattle.constraint.proofs.Constraints.{numbers-many}
 use Rattle.constraint.proofs.Names.{by-variable}
 
@@ -72,7 +72,7 @@ module _ {all : List Expression} {list : List ℕ} (named : AllNamed all list) (
   names-of : (ds es : List Expression) → all ≡ ds ++ es → below first n (total ds) + length es ≤ below first n (total ds + total es)
   names-of ds [] q = omega (arith, below-more first n {low = total ds} {high = total ds + 0} (omega arith))
   names-of ds (e ∷ es) q =
-      let m : Named list (total ds) = named .each e (total ds) (record { before = ds; behind = es; among = q; place = sym (table-long ds ∙ all-many rows ds) }) in
+      let m : VariableNames list (total ds) = named .each e (total ds) (record { before = ds; behind = es; among = q; place = sym (table-long ds ∙ all-many rows ds) }) in
       let b = below-between first n (m .0) {low = total ds} {high = total ds + rows e} (by-variable list n (total ds) long m) (omega (arith, m .1)) (omega (arith, m .1, rows-positive e)) in
       let t : total (ds ++ (e ∷ [])) ≡ total ds + rows e = omega (arith, total-append ds (e ∷ [])) in
       let h = names-of (ds ++ (e ∷ [])) es (q ∙ sym (append-assoc ds (e ∷ []) es)) in

@@ -22,7 +22,7 @@ use Rattle.expression.proofs.Places.{Walked, walk-begins, walk-meets, walk-on, 
 use Rattle.constraint.specs.Obeys.{Constraint, free, bound}
 use Rattle.constraint.specs.Good.{GoodConstraints}
 use Rattle.constraint.specs.Pair.{NamedPre}
-use Rattle.constraint.specs.Named.{Named, AllNamed}
+use Rattle.constraint.specs.Named.{VariableNames, AllNamed}
 use Rattle.constraint.proofs.Constraints.{numbers-many, pair-at}
 use Rattle.constraint.proofs.Pairs.{pair-bound}
 use Rattle.constraint.proofs.Values.{pair-low}
@@ -80,7 +80,7 @@ within pre =
 -- ---- the walk
 
 -- a name is a variable's: behind the list there is none
-pub by-variable : (list : List ℕ) (n row : ℕ) → length list ≤ n + n → (m : Named list row) → m .0 < n
+pub by-variable : (list : List ℕ) (n row : ℕ) → length list ≤ n + n → (m : VariableNames list row) → m .0 < n
 by-variable list n row long (x, e) = go (decLt x n)
   where
     go : Dec (x < n) → x < n
@@ -89,7 +89,7 @@ by-variable list n row long (x, e) = go (decLt x n)
 
 -- what starts before the row is named; the walk stands at a first row, or at the end
 pub record NamedTo (size list : List ℕ) (row : ℕ) : Type 0 where
-  pub each : (es : List Expression) → size ≡ sizeRows es → Walked es row × ((e : Expression) (r : ℕ) → StartsAt es e r → r < row → Named list r)
+  pub each : (es : List Expression) → size ≡ sizeRows es → Walked es row × ((e : Expression) (r : ℕ) → StartsAt es e r → r < row → VariableNames list r)
 
 pub named-none : (size list : List ℕ) → NamedTo size list 0
 named-none size list = record { each = λ es q. (walk-begins es, λ e r s h. absurd (omega arith)) }
@@ -112,14 +112,14 @@ module _ {size list : List ℕ} {row : ℕ} (w : NamedTo size list row) where
       pub named-one : getD marks (row + 1) false ≡ true → NamedTo size list (row + getD size row 0)
       named-one t = record { each = λ es q. let s = here es q in rw (start-size q (s .1)) (walk-on (s .1), λ e r o b. go (s .1) o b (decLt r row) (w .each es q .1 e r o)) }
         where
-          at : Named list row
+          at : VariableNames list row
           at = let p = m .each (row + 1) l .0 t in (p .0, omega (arith, p .2))
 
-          go : {es : List Expression} {d e : Expression} {r : ℕ} → StartsAt es d row → StartsAt es e r → r < row + rows d → Dec (r < row) → (r < row → Named list r) → Named list r
+          go : {es : List Expression} {d e : Expression} {r : ℕ} → StartsAt es d row → StartsAt es e r → r < row + rows d → Dec (r < row) → (r < row → VariableNames list r) → VariableNames list r
           go s o b (yes x) f = f x
           go {r = r} s o b (no x) f = same (decLt row r)
             where
-              same : Dec (row < r) → Named list r
+              same : Dec (row < r) → VariableNames list r
               same (yes y) = absurd (omega (arith, later-start s o y))
               same (no y) = let z : r ≡ row = omega arith in rw z at
 
@@ -148,7 +148,7 @@ pub named-counts : {es : List Expression} {Q : List Kind} {list : List ℕ} {cs 
     → (x : ℕ) × (flag : ℕ) × (getD cs x free ≡ bound e flag)
 named-counts {es} {Q} {list} {cs} g a e row s = go (a .each e row s)
   where
-    go : Named list row → (x : ℕ) × (flag : ℕ) × (getD cs x free ≡ bound e flag)
+    go : VariableNames list row → (x : ℕ) × (flag : ℕ) × (getD cs x free ≡ bound e flag)
     go (x, p) =
         let k = look-some Q x (by-variable list (length Q) row (omega (arith, numbers-many g)) (x, p)) in
         let c = pair-bound (pair-at x g (k .1)) (λ z. omega (arith, z, p)) in

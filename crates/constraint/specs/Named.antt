@@ -7,9 +7,9 @@ use Rattle.expression.specs.Expression.{Expression}
 use Rattle.expression.specs.Rows.{StartsAt}
 
 -- a variable x names the expression that starts at the row: the first of its two numbers is the row plus one
-abbrev pub Named : List ℕ → ℕ → Type 0
-Named list row = (x : ℕ) × (getD list (x + x) 0 ≡ suc row)
+abbrev pub VariableNames : List ℕ → ℕ → Type 0
+VariableNames list row = (x : ℕ) × (getD list (x + x) 0 ≡ suc row)
 
 -- every whole expression of the table is named, each where it starts: of two that are equal, both
 pub record AllNamed (es : List Expression) (list : List ℕ) : Type 0 where
-  pub each : (e : Expression) (row : ℕ) → StartsAt es e row → Named list row
+  pub each : (e : Expression) (row : ℕ) → StartsAt es e row → VariableNames list row
