@@ -34,15 +34,15 @@ abbrev FirstIs : List ℕ → ℕ → ℕ → Type 0
 FirstIs list n i = (x : ℕ) × (x < n) × (getD list (x + x) 0 ≡ i)
 
 -- the marks made of the first n variables
-pub record Marked (list : List ℕ) (n : ℕ) (marks : List Bool) : Type 0 where
+pub record NamesMarked (list : List ℕ) (n : ℕ) (marks : List Bool) : Type 0 where
   pub long : length marks ≡ 65
   pub each : (i : ℕ) → i < 65 → Says (getD marks i false) (FirstIs list n i)
 
-pub marked-none : (list : List ℕ) → Marked list 0 (replicate 65 false)
+pub marked-none : (list : List ℕ) → NamesMarked list 0 (replicate 65 false)
 marked-none list =
     record { long = length-replicate 65 false; each = λ i h. rw (getD-replicate 65 i false false h) (says-no {P = FirstIs list 0 i} (λ p. omega (arith, p .1))) }
 
-pub marked-one : {list : List ℕ} {n : ℕ} {marks : List Bool} → Marked list n marks → getD list (n + n) 0 < 65 → Marked list (n + 1) (set marks (getD list (n + n) 0) true)
+pub marked-one : {list : List ℕ} {n : ℕ} {marks : List Bool} → NamesMarked list n marks → getD list (n + n) 0 < 65 → NamesMarked list (n + 1) (set marks (getD list (n + n) 0) true)
 marked-one {list} {n} {marks} m h = record { long = length-set marks first true ∙ m .long; each = λ i l. go i l (ℕ-discrete i first) }
   where
     first : ℕ
@@ -70,9 +70,9 @@ first-low pre x h =
     (omega (arith, numbers-many (s .6), s .7), omega (arith, pair-low (s .5) (pair-at x (s .6) (k .1))))
 
 -- the list is twice as long as the variables are many, and the table has at most 64 rows
-pub within : {variables : ℕ} {size list : List ℕ} → NamedPre variables size list
+pub lengths-known : {variables : ℕ} {size list : List ℕ} → NamedPre variables size list
     → (length list ≡ variables + variables) × (length size ≤ 64) × ((es : List Expression) × (size ≡ sizeRows es))
-within pre =
+lengths-known pre =
     let s = pre .some in
     let q = sizes-are (s .2) (s .5) in
     (omega (arith, numbers-many (s .6), s .7), omega (arith, s .5 .most, kind-length (s .5), sizes-length (s .2) q), (s .2, q))
@@ -103,12 +103,12 @@ module _ {size list : List ℕ} {row : ℕ} (w : NamedTo size list row) where
     here : (es : List Expression) → size ≡ sizeRows es → (e : Expression) × StartsAt es e row
     here es q = walk-meets (w .each es q .0) (omega (arith, sizes-length es q))
 
-    pub goes-on : (es : List Expression) → size ≡ sizeRows es → (0 < getD size row 0) × (row + getD size row 0 ≤ length size)
-    goes-on es q =
+    pub next-inside : (es : List Expression) → size ≡ sizeRows es → (0 < getD size row 0) × (row + getD size row 0 ≤ length size)
+    next-inside es q =
         let s = here es q in
         (omega (arith, start-size q (s .1), rows-positive (s .0)), omega (arith, start-size q (s .1), start-in (s .1), sizes-length es q))
 
-    module _ {n : ℕ} {marks : List Bool} (m : Marked list n marks) (l : row + 1 < 65) where
+    module _ {n : ℕ} {marks : List Bool} (m : NamesMarked list n marks) (l : row + 1 < 65) where
       pub named-one : getD marks (row + 1) false ≡ true → NamedTo size list (row + getD size row 0)
       named-one t = record { each = λ es q. let s = here es q in rw (start-size q (s .1)) (walk-on (s .1), λ e r o b. go (s .1) o b (decLt r row) (w .each es q .1 e r o)) }
         where

@@ -6,7 +6,8 @@ use lib.ListN.{getD}
 use Rattle.expression.specs.Expression.{Expression}
 use Rattle.expression.specs.Rows.{StartsAt}
 
--- a variable x names the expression that starts at the row: the first of its two numbers is the row plus one
+-- a variable x names the expression that starts at the row: the first of its two numbers is the row plus one. (Behind the list is no
+-- variable, and 0 is read there.)
 abbrev pub VariableNames : List ℕ → ℕ → Type 0
 VariableNames list row = (x : ℕ) × (getD list (x + x) 0 ≡ suc row)
 

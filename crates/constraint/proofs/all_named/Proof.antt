@@ -5,18 +5,18 @@ use native.Mathlib.Omega.{arith}
 use borrow.Author.Needs.{needs}
 use borrow.Author.Tests.{not-true, not-false}
 use Rattle.meaning.proofs.Answers.{says-yes, says-no}
-use Rattle.constraint.proofs.Names.{Marked, marked-none, marked-one, first-low, within, NamedTo, named-none, named-one, named-not, named-all, goes-on}
+use Rattle.constraint.proofs.Names.{NamesMarked, marked-none, marked-one, first-low, lengths-known, NamedTo, named-none, named-one, named-not, named-all, next-inside}
 use Rattle.constraint.proofs.all_named.Statement.{statement}
 use Rattle.constraint.proofs.all_named.Tie as tie
 
 abbrev Inv-loop : tie.InvT-loop
-Inv-loop variables size constraint marks₀ x₀ marks x = (x ≤ variables) × Marked constraint x marks
+Inv-loop variables size constraint marks₀ x₀ marks x = (x ≤ variables) × NamesMarked constraint x marks
 
 abbrev μ-loop : tie.MeasureT-loop
 μ-loop variables size constraint marks₀ x₀ marks x = variables - x
 
 abbrev Inv-loop2 : tie.InvT-loop2
-Inv-loop2 variables size constraint marks x row₀ row = (row ≤ length size) × (length size ≤ 64) × (length constraint ≤ x + x) × Marked constraint x marks × NamedTo size constraint row
+Inv-loop2 variables size constraint marks x row₀ row = (row ≤ length size) × (length size ≤ 64) × (length constraint ≤ x + x) × NamesMarked constraint x marks × NamedTo size constraint row
 
 abbrev μ-loop2 : tie.MeasureT-loop2
 μ-loop2 variables size constraint marks x row₀ row = length size - row
@@ -59,7 +59,7 @@ loop-again c =
 
 loop2-holds : tie.Need-loop2-holds Inv-loop μ-loop Inv-loop2 μ-loop2
 loop2-holds c =
-    let known = within (c .before .before .before .before .pre) in
+    let known = lengths-known (c .before .before .before .before .pre) in
     (omega arith, known .1, omega (arith, known .0, c .loop-test .left), c .before .loop .inv .1, named-none _ _)
 
 add-if1 : tie.Need-add-if1 Inv-loop μ-loop Inv-loop2 μ-loop2
@@ -88,8 +88,8 @@ forward : (c : tie.After-wide2 Inv-loop μ-loop Inv-loop2 μ-loop2)
     → (0 < c .wide2 .result) × (c .before .before .before .before .loop2 .row + c .wide2 .result ≤ length (c .before .before .before .before .before .before .before .before .before .args .size .now))
 forward c =
     let at = c .before .before .before in
-    let known = within (at .before .before .before .before .before .before .pre) .2 in
-    rw (c .wide2 .ensures .0) (goes-on (at .before .loop2 .inv .4) (at .loop2-test .taken) (known .0) (known .1))
+    let known = lengths-known (at .before .before .before .before .before .before .pre) .2 in
+    rw (c .wide2 .ensures .0) (next-inside (at .before .loop2 .inv .4) (at .loop2-test .taken) (known .0) (known .1))
 
 add-row : tie.Need-add-row Inv-loop μ-loop Inv-loop2 μ-loop2
 add-row c = omega (arith, forward c)
