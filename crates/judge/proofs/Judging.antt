@@ -5,8 +5,8 @@ use mathlib.Core.List.{List, [], _∷_}
 use Prim.Native.Nat.{ℕ, zero, suc, _+_, _*_, _-_, _≤_, _<_, max}
 use native.Mathlib.Omega.{arith}
 use lib.Dec.{eqb}
-use lib.ListN.{length, getD, set, length-set}
-use lib.Seq.{getD-set-same, getD-set-other, take-all}
+use lib.ListN.{length, getD}
+use lib.Seq.{take-all}
 use borrow.Author.Tests.{ne-eqb}
 use Rattle.meaning.specs.Forest.{rows}
 use Rattle.tree.specs.Rows.{depth}
@@ -18,9 +18,11 @@ use Rattle.grammar.proofs.Theory.{accepted, accepts}
 use Rattle.grammar.proofs.Trees.{leafRows, contentRows, contentDepth, one-leaf, shape-rows, shape-depth}
 use Rattle.grammar.proofs.Positions.{posS, at-good, at-place, three}
 use Rattle.tokens.specs.Tokens.{Span, bytes, levelOf, runAt}
-use Rattle.judge.specs.Tags.{RunTo, Named, opened, Closed, closed, OpenedTo, EmptyTo, Top, Tagging, Done, too-deep, too-many, done, Last, ended, early}
+use Rattle.judge.specs.Tags.{RunTo, opened, Closed, closed, OpenedTo, EmptyTo, Top, Tagging, Done, too-deep, too-many, done, Last, ended, early}
 use Rattle.judge.specs.Verdict.{Verdict, outside, deep, many, read}
+use Rattle.judge.specs.OpenNames.{NameFrom, AllFrom, none-open, one-more, InnermostKept, all-closed, Keeping, Places, OpenedOne, MayClose, ClosedOne}
 use Rattle.judge.proofs.Machine.{run-walk, run-refused}
+use Rattle.judge.proofs.OpenNames.{some-kept, top-kept, kept-places}
 
 -- THE LAST RUN
 pub early-is : {length at depth rows deep c p n : ℕ} → (c ≡ 3) × (p ≡ at) × (n ≡ 0) → (length ≤ at → depth ≡ 0 → 0 < rows → ⊥) →
@@ -28,11 +30,6 @@ pub early-is : {length at depth rows deep c p n : ℕ} → (c ≡ 3) × (p ≡ a
 early-is h k = rw (h .0, h .1, h .2) (early k)
 
 -- WHAT THE OPEN ELEMENTS HAVE MADE
--- x is where the innermost's name starts, and S has at k that of the element that k others hold
-abbrev pub Held : List ℕ → List ℕ → ℕ → List Open → Type 0
-Held w S x [] = Unit {0}
-Held w S x (p ∷ o) = Named w x (p .name) × Held w S (getD S (length o) 0) o
-
 unfoldable pub rowsO : List Open → ℕ
 rowsO [] = 0
 rowsO (p ∷ o) = rowsO o + contentRows (p .before) + leafRows (p .run) + 1
@@ -130,28 +127,28 @@ module _ {w : List ℕ} {i depth rows : ℕ} (k : Walked w i depth rows) {a n : 
       go (p ∷ o) e s = absurd (omega (arith, d, e))
 
 -- the loop's invariant
-pub record Scanned (w S : List ℕ) (i x depth rows deep : ℕ) : Type 0 where
+pub record Scanned (w K L : List ℕ) (i kept depth rows deep : ℕ) : Type 0 where
   pub o : List Open
   pub f : Content
   pub here : At w i (inRun o f ε)
   pub depth-is : depth ≡ length o
-  pub held : Held w S x o
-  pub room : length S ≡ 10922
-  pub small : x < 65536
+  pub held : InnermostKept w K L o kept
+  pub all : AllFrom w o
+  pub keeping : Keeping K L kept
   pub rows-are : rows ≡ rowsO o + contentRows f
   pub deep-is : deep ≡ max (deepO o) (length o + contentDepth f)
   pub few : rows ≤ 2 * i
 
-pub begins : (w S : List ℕ) → length S ≡ 10922 → Scanned w S 0 0 0 0 0
+pub begins : (w K L : List ℕ) → Keeping K L 0 → Scanned w K L 0 0 0 0 0
 unfolding rowsO deepO contentRows contentDepth
-begins w S h = record {
+begins w K L h = record {
   o = [];
   f = nothing;
   here = record { within = omega arith; is = refl };
   depth-is = refl;
-  held = tt;
-  room = h;
-  small = omega arith;
+  held = all-closed;
+  all = none-open;
+  keeping = h;
   rows-are = refl;
   deep-is = refl;
   few = omega arith;
@@ -177,11 +174,6 @@ max-close a l b c r = left (max (max a (l + b)) (l + 1)) ∙ right (max c r)
     right : (m : ℕ) → max (max (max a (l + b)) (l + 1)) (suc l + m) ≡ max a (l + max b (suc m))
     right m = omega arith
 
-held-set : (w S : List ℕ) (x k v : ℕ) (o : List Open) → length o ≤ k → Held w S x o → Held w (set S k v) x o
-held-set w S x k v [] h q = tt
-held-set w S x k v (p ∷ o) h q =
-    (q .0, rw (getD-set-other S k (length o) v 0 (λ e. omega arith)) (held-set w S (getD S (length o) 0) k v o (omega arith) (q .1)))
-
 pub closed-within : (w : List ℕ) (e : ℕ) (o : List Open) (f : Content) (t : Bytes) → Closed w e o f t → e ≤ length w
 closed-within w e (p ∷ o) f t (closed h k) = k .within
 
@@ -198,7 +190,7 @@ verdict short k is-m is-d (too-many h j) = many short k (omega (arith, is-d)) (o
 verdict short k is-m is-d (done h j) = rw is-m (read short k (omega (arith, is-d)) (omega (arith, is-m)))
 
 -- A TURN: the run that starts at i ends at a, and makes n rows
-module _ {w S : List ℕ} {i x depth rows deep : ℕ} (k : Scanned w S i x depth rows deep) {a n : ℕ} (run : RunTo w depth i a n) (short : length w ≤ 32768) where
+module _ {w K L : List ℕ} {i kept depth rows deep : ℕ} (k : Scanned w K L i kept depth rows deep) {a n : ℕ} (run : RunTo w depth i a n) (short : length w ≤ 32768) where
   abbrev T : Bytes
   T = bytes w i (a - i)
 
@@ -218,6 +210,24 @@ module _ {w S : List ℕ} {i x depth rows deep : ℕ} (k : Scanned w S i x depth
       go : (o : List Open) → depth ≡ length o → Closed w e o (k .f) T → 0 < depth
       go (p ∷ o) d (closed h q) = omega (arith, d)
 
+  -- the names that are kept are places, and one more is in a document
+  pub may-open : (kept ≡ 64 → Places K) × (a + 1 < 65536)
+  may-open = (λ e. kept-places (some-kept (k .held)) e short, omega (arith, run .span .passed .within, short))
+
+  -- an element ends
+  pub may-close : {e : ℕ} → Closed w e (k .o) (k .f) T → MayClose w K L kept (depth - 1)
+  may-close {e} h = go (k .o) h (k .depth-is) (k .held) (k .all)
+    where
+      go : (o : List Open) → Closed w e o (k .f) T → depth ≡ length o → InnermostKept w K L o kept → AllFrom w o → MayClose w K L kept (depth - 1)
+      go (p ∷ o) (closed h q) d held (one-more x from all) = record {
+        keeping = k .keeping;
+        shallow = omega (arith, room-close);
+        short = short;
+        p = p;
+        o = o;
+        ending = record { kept = held; all = all; deep = omega (arith, d) };
+      }
+
   -- .. and there are m₁ rows then, the deepest at d₁
   module _ {m₁ d₁ : ℕ} (seen : (m₁ ≡ rows + n) × (d₁ ≡ max deep (depth + n))) where
     from : i ≤ a
@@ -232,39 +242,38 @@ module _ {w S : List ℕ} {i x depth rows deep : ℕ} (k : Scanned w S i x depth
     made-few : n ≤ 1
     made-few = run .few
 
-    top : (o : List Open) → Held w S x o → Top w x o
-    top [] h = tt
-    top (p ∷ o) h = h .0
-
-    pub tagging : getD w a 0 ≡ 60 → Tagging w x depth m₁ a (k .o) (k .f) T
-    tagging h = rw (seen .0) (to-tag walked run (top (k .o) (k .held)) h)
+    -- x is read off the kept names
+    pub tagging : {x : ℕ} → (0 < kept → x ≡ getD K (kept - 1) 0) → getD w a 0 ≡ 60 → Tagging w x depth m₁ a (k .o) (k .f) T
+    tagging is-x h = rw (seen .0) (to-tag walked run (top-kept (k .held) is-x) h)
 
     pub bound-now : m₁ ≤ 65537
     bound-now = omega (arith, seen .0, k .few, from, run .span .passed .within, made-few, short)
 
     -- what is kept
     pub opens : {n-end : ℕ} (e : ℕ) → a + 1 < e → OpenedTo w (a + 1) n-end e (k .o) (k .f) T → {m₂ d₂ : ℕ} → (m₂ ≡ m₁ + 1) × (d₂ ≡ max d₁ (depth + 1)) →
-        {S' : List ℕ} → S' ≡ set S depth x → Scanned w S' e (a + 1) (depth + 1) m₂ d₂
+        {K' L' : List ℕ} {kept' : ℕ} → OpenedOne K L kept depth (a + 1) K' L' kept' → Scanned w K' L' e kept' (depth + 1) m₂ d₂
     unfolding rowsO deepO contentRows contentDepth
-    opens e l h more pushed = rw pushed (record {
-      o = opened (k .f) T (h .name) (h .space) ∷ k .o;
+    opens e l h more one = record {
+      o = its-open ∷ k .o;
       f = nothing;
       here = h .here;
       depth-is = omega (arith, k .depth-is);
-      held = (
-        h .named,
-        rw (← (k .depth-is), getD-set-same S depth x 0 (omega (arith, k .room, room-open e h)))
-            (held-set w S x depth x (k .o) (omega (arith, k .depth-is)) (k .held)),
-      );
-      room = length-set S depth x ∙ k .room;
-      small = omega (arith, h .here .within);
+      held = one .it w its-open (k .o) (some-kept (k .held)) its-name (k .depth-is);
+      all = one-more (a + 1) its-name (k .all);
+      keeping = one .keeping;
       rows-are = omega (arith, more .0, seen .0, made-leaf, k .rows-are);
       deep-is = more .1 ∙ rw (seen .1, k .deep-is, k .depth-is, made-leaf) (max-open (deepO (k .o)) (length (k .o)) (contentDepth (k .f)) (leafRows T) (one-leaf T));
       few = omega (arith, more .0, seen .0, k .few, from, made-few);
-    })
+    }
+      where
+        its-open : Open
+        its-open = opened (k .f) T (h .name) (h .space)
+
+        its-name : NameFrom w its-open (k .o) (a + 1)
+        its-name = let z : a + 1 - 1 ≡ a = omega arith in record { some = omega arith; tag = rw z (at-run walked run); named = h .named }
 
     pub empties : {n-end : ℕ} (e : ℕ) → a + 1 < e → EmptyTo w (a + 1) n-end e (k .o) (k .f) T → {m₂ d₂ : ℕ} → (m₂ ≡ m₁ + 1) × (d₂ ≡ max d₁ (depth + 1)) →
-        Scanned w S e x depth m₂ d₂
+        Scanned w K L e kept depth m₂ d₂
     unfolding contentRows contentDepth
     empties e l h more = record {
       o = k .o;
@@ -272,30 +281,30 @@ module _ {w S : List ℕ} {i x depth rows deep : ℕ} (k : Scanned w S i x depth
       here = h .here;
       depth-is = k .depth-is;
       held = k .held;
-      room = k .room;
-      small = k .small;
+      all = k .all;
+      keeping = k .keeping;
       rows-are = omega (arith, more .0, seen .0, made-leaf, k .rows-are);
       deep-is = more .1 ∙ rw (seen .1, k .deep-is, k .depth-is, made-leaf) (max-empty (deepO (k .o)) (length (k .o)) (contentDepth (k .f)) (leafRows T) (one-leaf T));
       few = omega (arith, more .0, seen .0, k .few, from, made-few);
     }
 
-    pub closes : (e : ℕ) → a + 1 < e → Closed w e (k .o) (k .f) T → {y : ℕ} → (y ≡ getD S (depth - 1) 0) × (y < 65536) →
-        Scanned w S e y (depth - 1) m₁ d₁
+    pub closes : (e : ℕ) → a + 1 < e → Closed w e (k .o) (k .f) T → {K' L' : List ℕ} {kept' : ℕ} → ClosedOne w K L kept (depth - 1) K' L' kept' →
+        Scanned w K' L' e kept' (depth - 1) m₁ d₁
     unfolding rowsO deepO contentRows contentDepth
-    closes e l h {y} is-y = go (k .o) h (k .depth-is) (k .held) (k .rows-are) (k .deep-is)
+    closes e l h {K'} {L'} {kept'} one = go (k .o) h (k .depth-is) (k .held) (k .all) (k .rows-are) (k .deep-is)
       where
-        go : (o : List Open) → Closed w e o (k .f) T → depth ≡ length o → Held w S x o → rows ≡ rowsO o + contentRows (k .f) →
-            deep ≡ max (deepO o) (length o + contentDepth (k .f)) → Scanned w S e y (depth - 1) m₁ d₁
-        go (p ∷ o) (closed h q) d held r m =
+        go : (o : List Open) → Closed w e o (k .f) T → depth ≡ length o → InnermostKept w K L o kept → AllFrom w o → rows ≡ rowsO o + contentRows (k .f) →
+            deep ≡ max (deepO o) (length o + contentDepth (k .f)) → Scanned w K' L' e kept' (depth - 1) m₁ d₁
+        go (p ∷ o) (closed h q) d held (one-more x from-x all) r m =
             let z : length o ≡ depth - 1 = omega (arith, d) in
             record {
               o = o;
               f = element (p .before) (p .run) (p .name) (p .space) (k .f) T h;
               here = q;
               depth-is = sym z;
-              held = rw (is-y .0, ← z) (held .1);
-              room = k .room;
-              small = is-y .1;
+              held = one .it p o (record { kept = held; all = all; deep = z });
+              all = all;
+              keeping = one .keeping;
               rows-are = omega (arith, seen .0, made-leaf, r);
               deep-is = seen .1 ∙ rw (m, d, made-leaf) (max-close (deepO o) (length o) (contentDepth (p .before)) (contentDepth (k .f)) (leafRows T));
               few = omega (arith, seen .0, k .few, from, made-few);

@@ -18,7 +18,7 @@ use Rattle.judge.specs.Tags.{Named}
 use Rattle.tokens.specs.Tokens.{Passed, Span, bytes, whiteAt, nameAt, runAt, sameAt}
 
 -- ONE STEP
-next-is : (w : List ℕ) (j : ℕ) (z : State) → runs initial (take j w) ≡ z → j < length w → runs initial (take (suc j) w) ≡ step z (getD w j 0)
+pub next-is : (w : List ℕ) (j : ℕ) (z : State) → runs initial (take j w) ≡ z → j < length w → runs initial (take (suc j) w) ≡ step z (getD w j 0)
 next-is w j z e h =
     rw (take-suc w j 0 h, runs-append initial (take j w) (getD w j 0 ∷ [])) (ap (λ (s : State). step s (getD w j 0)) e)
 

@@ -6,8 +6,9 @@ ghost use Rattle.tokens.specs.Tokens.{Classed};
 ghost use Rattle.judge.specs.Tags.{RunTo, Done, Last};
 ghost use Rattle.judge.specs.Verdict.{Verdict};
 
+pub mod back;
 pub mod codes;
-pub mod stack;
+pub mod names;
 pub mod tags;
 
 use codes::DEEPEST;
@@ -18,8 +19,9 @@ use codes::READ;
 use codes::TOO_DEEP;
 use codes::TOO_LONG;
 use codes::TOO_MANY;
-use stack::pop;
-use stack::push;
+use names::close;
+use names::innermost;
+use names::open;
 use tags::Tag;
 use tags::next_tag;
 use tokens::class::byte_at;
@@ -135,14 +137,14 @@ fn last(length: usize, at: usize, depth: usize, rows: usize, deep: usize) -> Jud
     whole(rows, deep)
 }
 
-// The pass. `name` is where the innermost open element's name starts, `names` has those of the elements around it.
-// An open element has three bytes or more, so 32,768 bytes have room for 10,922 of them.
+// The pass. `names` and `levels` have `kept` names of open elements, that of the innermost among them.
 fn pass(document: &[u8], class: &[u8; 512]) -> Judged
     requires { ⌜ Classed (now class) × (length (now document) ≤ 32768) ⌝ }
     ensures { λ r. ⌜ Verdict (now (document .entry)) (r .code) (r .place) (r .rows) ⌝ }
 {
-    let mut names = [0u16; 10922];
-    let mut name: usize = 0;
+    let mut names = [0u16; 64];
+    let mut levels = [0u16; 64];
+    let mut kept: usize = 0;
     let mut depth: usize = 0;
     let mut seen = Seen { rows: 0, deep: 0 };
     let mut i: usize = 0;
@@ -153,11 +155,11 @@ fn pass(document: &[u8], class: &[u8; 512]) -> Judged
         if byte_at(document, at) != b'<' {
             return last(document.len(), at, depth, seen.rows, seen.deep);
         }
+        let name = innermost(&names, kept);
         match next_tag(document, class, name, depth, seen.rows, at) {
             Tag::Refused(place) => return outside(place),
             Tag::Opens(_, next) => {
-                push(&mut names, depth, name);
-                name = at + 1;
+                kept = open(&mut names, &mut levels, kept, depth, at + 1);
                 depth = depth + 1;
                 seen = more(seen, 1, depth);
                 i = next;
@@ -168,7 +170,7 @@ fn pass(document: &[u8], class: &[u8; 512]) -> Judged
             }
             Tag::Closes(next) => {
                 depth = depth - 1;
-                name = pop(&names, depth);
+                kept = close(document, &mut names, &mut levels, kept, depth);
                 i = next;
             }
         }

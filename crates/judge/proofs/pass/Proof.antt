@@ -1,26 +1,30 @@
 use Prim.Native.Nat.{ℕ, _+_, _-_, _≤_, _<_}
-use mathlib.Core.Path.{sym, _∙_, subst}
+use mathlib.Core.Path.{_≡_, sym, _∙_, subst}
 use native.Mathlib.Omega.{arith}
 use lib.ListN.{length, length-replicate}
 use Rattle.judge.proofs.Machine.{there}
 use Rattle.tokens.specs.Tokens.{bytes}
 use Rattle.judge.specs.Tags.{Does}
+use Rattle.judge.specs.OpenNames.{Places}
 use Rattle.judge.specs.declared.tags.Tag.{Tag}
 use Rattle.judge.specs.declared.tags.Tag.the-variants.{Refused, Opens, Empty, Closes}
-use Rattle.judge.proofs.Judging.{Scanned, begins, tagging, closed-within, room-open, room-close, bound, bound-now, opens, empties, some-open, closes, ends, outside-is}
+use Rattle.judge.proofs.Judging.{Scanned, begins, tagging, closed-within, room-open, room-close, bound, bound-now, may-open, may-close, opens, empties, some-open, closes, ends, outside-is}
 use borrow.Author.Needs.{needs}
 use Rattle.judge.proofs.pass.Statement.{statement}
 use Rattle.judge.proofs.pass.Tie as tie
 
 abbrev Inv-loop : tie.InvT-loop
-Inv-loop document class names₀ name₀ depth₀ seen₀ i₀ names name depth seen i = Scanned document names i name depth (seen .rows) (seen .deep)
+Inv-loop document class names₀ levels₀ kept₀ depth₀ seen₀ i₀ names levels kept depth seen i = Scanned document names levels i kept depth (seen .rows) (seen .deep)
 
 abbrev μ-loop : tie.MeasureT-loop
-μ-loop document class names₀ name₀ depth₀ seen₀ i₀ names name depth seen i = length document - i
+μ-loop document class names₀ levels₀ kept₀ depth₀ seen₀ i₀ names levels kept depth seen i = length document - i
 
 -- THE PLACES: back from a tag to the count of its turn, to the run, to the turn's head, and to the function's start
+abbrev looked : tie.After-next-tag Inv-loop μ-loop → tie.Else1 Inv-loop μ-loop
+looked t = t .before .before .before
+
 abbrev counted : tie.After-next-tag Inv-loop μ-loop → tie.After-more Inv-loop μ-loop
-counted t = t .before .before .before
+counted t = looked t .before .before
 
 abbrev ran : tie.After-more Inv-loop μ-loop → tie.After-run-end Inv-loop μ-loop
 ran m = m .before .before
@@ -61,7 +65,7 @@ told : (t : tie.After-next-tag Inv-loop μ-loop) → does t (t .next-tag .result
 told t =
     let m = counted t in
     t .next-tag .ensures _ _ _
-    (tagging (head t .loop .inv) (ran m .run-end .ensures) (short (head t)) (m .more .ensures) (sym (t .before .before .byte-at .ensures) ∙ t .before .if1 .left))
+    (tagging (head t .loop .inv) (ran m .run-end .ensures) (short (head t)) (m .more .ensures) (t .before .innermost .ensures .1) (sym (looked t .before .byte-at .ensures) ∙ looked t .if1 .left))
 
 refused-at : (c : tie.After-known-told Inv-loop μ-loop) → does (c .before .before .before) (Refused (c .before .place .given .0 .0))
 refused-at c = subst (does (c .before .before .before)) (c .before .place .given .1) (told (c .before .before .before))
@@ -75,9 +79,12 @@ emptied-to c = subst (does (emptying c)) (c .before .next2 .given .1) (told (emp
 closed-to : (c : tie.After-known-told4 Inv-loop μ-loop) → does (closing c) (Closes (c .before .next3 .given .0 .0))
 closed-to c = subst (does (closing c)) (c .before .next3 .given .1) (told (closing c))
 
--- where a tag opens there is room for one name more
+-- where a tag opens there are not too many
 room : (c : tie.After-known-told2 Inv-loop μ-loop) → head (opening c) .loop .depth < 10922
 room c = let h = head (opening c) in room-open (h .loop .inv) (ran (counted (opening c)) .run-end .ensures) (short h) _ (opened-to c .1)
+
+may : (c : tie.After-known-told2 Inv-loop μ-loop) → (head (opening c) .loop .kept ≡ 64 → Places (head (opening c) .loop .names)) × (end (opening c) + 1 < 65536)
+may c = let h = head (opening c) in may-open (h .loop .inv) (ran (counted (opening c)) .run-end .ensures) (short h)
 
 -- where one closes, one is open
 some : (c : tie.After-known-told4 Inv-loop μ-loop) → 0 < head (closing c) .loop .depth
@@ -93,7 +100,7 @@ less t h k = omega (arith, h, k, ran (counted t) .run-end .ensures .span .passed
 
 -- THE NEEDS
 loop-holds : tie.Need-loop-holds Inv-loop μ-loop
-loop-holds c = begins _ _ (length-replicate {A = ℕ} 10922 0)
+loop-holds c = begins _ _ _ (record { names-long = length-replicate {A = ℕ} 64 0; levels-long = length-replicate {A = ℕ} 64 0; few = omega arith })
 
 run-end-requires : tie.Need-run-end-requires Inv-loop μ-loop
 run-end-requires c κs = (begun c .pre .0, c .loop .inv .here .within)
@@ -121,11 +128,15 @@ returns c =
     let h = r .before in
     ends (h .loop .inv) (r .run-end .ensures) (short h) (m .more .ensures) (λ e. c .before .if1 .taken (b .byte-at .ensures ∙ e)) (c .last .ensures)
 
+innermost-requires : tie.Need-innermost-requires Inv-loop μ-loop
+innermost-requires c κs = let k = ran (c .before .before .before) .before .loop .inv .keeping in (k .names-long, k .few)
+
 next-tag-requires : tie.Need-next-tag-requires Inv-loop μ-loop
 next-tag-requires c κs =
-    let r = ran (c .before .before) in
+    let l = c .before .before in
+    let r = ran (l .before .before) in
     let h = r .before in
-    (begun h .pre .0, there (begun h .args .document .now) (r .run-end .result .end) 59 (sym (c .before .byte-at .ensures) ∙ c .if1 .left), h .loop .inv .small)
+    (begun h .pre .0, there (begun h .args .document .now) (r .run-end .result .end) 59 (sym (l .before .byte-at .ensures) ∙ l .if1 .left), c .innermost .ensures .0)
 
 enum-known-place : tie.Need-enum-known-place Inv-loop μ-loop
 enum-known-place c = search needs
@@ -139,14 +150,13 @@ returns-2 c = outside-is (short (head (c .before .before .before .before))) (ref
 enum-known-next : tie.Need-enum-known-next Inv-loop μ-loop
 enum-known-next c = search needs
 
-slice-aggregate-push : tie.Need-slice-aggregate-push Inv-loop μ-loop
-slice-aggregate-push c = search needs
+add-open : tie.Need-add-open Inv-loop μ-loop
+add-open c = omega (arith, may (c .before .before))
 
-push-requires : tie.Need-push-requires Inv-loop μ-loop
-push-requires c κs = let h = head (opening (c .before)) in (omega (arith, room (c .before), h .loop .inv .room), h .loop .inv .small)
-
-add-name : tie.Need-add-name Inv-loop μ-loop
-add-name c = search needs
+open-requires : tie.Need-open-requires Inv-loop μ-loop
+open-requires c κs =
+    let o = c .before .before in
+    (head (opening o) .loop .inv .keeping, may o .0, omega (arith, room o), may o .1)
 
 add-depth : tie.Need-add-depth Inv-loop μ-loop
 add-depth c = omega (arith, room (c .before .before .before))
@@ -162,7 +172,7 @@ loop-again c =
     let o = c .before .before .before .before in
     let m = counted (opening o) in
     let h = head (opening o) in
-    opens (h .loop .inv) (ran m .run-end .ensures) (short h) (m .more .ensures) _ (opened-to o .0) (opened-to o .1) (c .more2 .ensures) (c .before .before .push .ensures)
+    opens (h .loop .inv) (ran m .run-end .ensures) (short h) (m .more .ensures) _ (opened-to o .0) (opened-to o .1) (c .more2 .ensures) (c .before .open .ensures)
 
 enum-known-next-2 : tie.Need-enum-known-next-2 Inv-loop μ-loop
 enum-known-next-2 c = search needs
@@ -189,24 +199,21 @@ enum-known-next-3 c = search needs
 sub-depth : tie.Need-sub-depth Inv-loop μ-loop
 sub-depth c = some c
 
-slice-aggregate-pop : tie.Need-slice-aggregate-pop Inv-loop μ-loop
-slice-aggregate-pop c = search needs
-
-pop-requires : tie.Need-pop-requires Inv-loop μ-loop
-pop-requires c κs =
-    let o = c .before in
+close-requires : tie.Need-close-requires Inv-loop μ-loop
+close-requires c κs =
+    let o = c .before .before in
     let h = head (closing o) in
-    omega (arith, some o, room-close (h .loop .inv) (ran (counted (closing o)) .run-end .ensures) (short h), h .loop .inv .room)
+    may-close (h .loop .inv) (ran (counted (closing o)) .run-end .ensures) (short h) (closed-to o .1)
 
 loop-less-3 : tie.Need-loop-less-3 Inv-loop μ-loop
-loop-less-3 c = let o = c .before .before in less (closing o) (closed-to o .0) (closed-within _ _ _ _ _ (closed-to o .1))
+loop-less-3 c = let o = c .before .before .before in less (closing o) (closed-to o .0) (closed-within _ _ _ _ _ (closed-to o .1))
 
 loop-again-3 : tie.Need-loop-again-3 Inv-loop μ-loop
 loop-again-3 c =
-    let o = c .before .before in
+    let o = c .before .before .before in
     let m = counted (closing o) in
     let h = head (closing o) in
-    closes (h .loop .inv) (ran m .run-end .ensures) (short h) (m .more .ensures) _ (closed-to o .0) (closed-to o .1) (c .pop .ensures)
+    closes (h .loop .inv) (ran m .run-end .ensures) (short h) (m .more .ensures) _ (closed-to o .0) (closed-to o .1) (c .close .ensures)
 
 pub pass-spec : {M : Type 1} → statement M
 pass-spec =
@@ -221,14 +228,14 @@ pass-spec =
     byte-at-requires
     last-requires
     returns
+    innermost-requires
     next-tag-requires
     enum-known-place
     outside-requires
     returns-2
     enum-known-next
-    slice-aggregate-push
-    push-requires
-    add-name
+    add-open
+    open-requires
     add-depth
     more-requires-2
     loop-less
@@ -240,7 +247,6 @@ pass-spec =
     loop-again-2
     enum-known-next-3
     sub-depth
-    slice-aggregate-pop
-    pop-requires
+    close-requires
     loop-less-3
     loop-again-3)

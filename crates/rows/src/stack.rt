@@ -1,4 +1,4 @@
-// The open elements around the innermost one, a number for each, by depth: where its name starts, or its row.
+// The rows of the open elements around the innermost one, by depth.
 ghost use mathlib.Core.Path.{_≡_};
 ghost use Prim.Native.Nat.{_<_};
 ghost use lib.ListN.{length, getD, set};
