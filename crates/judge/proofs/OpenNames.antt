@@ -2,7 +2,7 @@
 use mathlib.Core.Path.{_≡_, refl, sym, ap, _∙_}
 use mathlib.Core.Bool.{Bool, true, false}
 use mathlib.Core.List.{List, [], _∷_}
-use Prim.Native.Nat.{ℕ, zero, suc, _+_, _-_, _*_, _≤_, _<_}
+use Prim.Native.Nat.{ℕ, zero, suc, _+_, _-_, _≤_, _<_}
 use native.Mathlib.Omega.{arith}
 use native.Mathlib.Numerals.{add-one}
 use native.Mathlib.Decide.{ℕ-discrete}
@@ -142,13 +142,13 @@ next {w} {K} {L} {q} {j = j} (kept {p} {o' = o'} {n} x l b) h = go (ltb j n) ref
         record { p = p; o' = o'; from = rw z x; at-level = rw z l; past = none-between b (sym z); rest = rw z none-kept }
 
 -- the names so far, and those still to be looked at
-pub record Thinning (K₀ L₀ K L : List ℕ) (t base j : ℕ) : Type 0 where
+pub record Thinning (K₀ L₀ K L : List ℕ) (t block j : ℕ) : Type 0 where
   pub keeping : Keeping K L t
   pub places : Places K
   pub behind : t ≤ j
   pub up-to : j ≤ 64
-  pub low : base ≤ 32768
-  pub few : 1024 * t ≤ base + 1024 * (j - 48)
+  pub low : block ≤ 32
+  pub few : t ≤ block + (j - 48)
   pub parts : (w : List ℕ) (o : List Open) → SomeKept w K₀ L₀ o 64 → (q : List Open) × SomeKept w K L q t × Between w K L q j o 64
 
 pub thin-begins : {K L : List ℕ} → Keeping K L 64 → Places K → Thinning K L K L 0 0 0
@@ -162,7 +162,7 @@ thin-begins k p = record {
   parts = λ w o s. ([], none-kept, s);
 }
 
-module _ {K₀ L₀ K L : List ℕ} {t base j : ℕ} (h : Thinning K₀ L₀ K L t base j) (more : j < 64) where
+module _ {K₀ L₀ K L : List ℕ} {t block j : ℕ} (h : Thinning K₀ L₀ K L t block j) (more : j < 64) where
   set-low : (k : ℕ) → k < 64 → getD (set K t (getD K j 0)) k 0 ≤ 32768
   set-low k l = go (ℕ-discrete k t)
     where
@@ -170,8 +170,8 @@ module _ {K₀ L₀ K L : List ℕ} {t base j : ℕ} (h : Thinning K₀ L₀ K L
       go (yes e) = rw (e, getD-set-same K t (getD K j 0) 0 (omega (arith, h .behind, h .keeping .names-long))) (h .places .low j more)
       go (no d) = rw (getD-set-other K t k (getD K j 0) 0 d) (h .places .low k l)
 
-  pub thin-on : {count base' : ℕ} → Stays j base count base' → Thinning K₀ L₀ (set K t (getD K j 0)) (set L t (getD L j 0)) (t + count) base' (j + 1)
-  thin-on {count} {base'} s = record {
+  pub thin-on : {count block' : ℕ} → Stays j block count block' → Thinning K₀ L₀ (set K t (getD K j 0)) (set L t (getD L j 0)) (t + count) block' (j + 1)
+  thin-on {count} {block'} s = record {
     keeping = record {
       names-long = length-set K t (getD K j 0) ∙ h .keeping .names-long;
       levels-long = length-set L t (getD L j 0) ∙ h .keeping .levels-long;
@@ -185,7 +185,7 @@ module _ {K₀ L₀ K L : List ℕ} {t base j : ℕ} (h : Thinning K₀ L₀ K L
     parts = λ w o k. part w o (h .parts w o k);
   }
     where
-      go : (y : Bool) → ltb j 48 ≡ y → 1024 * (t + count) ≤ base' + 1024 * (j + 1 - 48)
+      go : (y : Bool) → ltb j 48 ≡ y → t + count ≤ block' + (j + 1 - 48)
       go true e = omega (arith, ltb-true j 48 e, s .outer (ltb-true j 48 e), h .few)
       go false e = omega (arith, ltb-false j 48 e, s .inner (ltb-false j 48 e), s .few, h .few)
 
@@ -212,7 +212,7 @@ module _ {K₀ L₀ K L : List ℕ} {t base j : ℕ} (h : Thinning K₀ L₀ K L
           counted (suc zero) l a b = let y : t + 1 ≡ suc t = omega arith in rw y b
           counted (suc (suc c)) l a b = absurd (omega arith)
 
-pub thinned : {K₀ L₀ K L : List ℕ} {t base j : ℕ} → Thinning K₀ L₀ K L t base j → 64 ≤ j → Spared K₀ L₀ 64 K L t
+pub thinned : {K₀ L₀ K L : List ℕ} {t block j : ℕ} → Thinning K₀ L₀ K L t block j → 64 ≤ j → Spared K₀ L₀ 64 K L t
 thinned h e = record {
   keeping = h .keeping;
   room = omega (arith, h .low, h .few, h .up-to);

@@ -1,7 +1,7 @@
 -- Not needed to believe the promise: which names of open elements are kept, and that walking back finds the others.
 use mathlib.Core.Path.{_≡_}
 use mathlib.Core.List.{List, [], _∷_}
-use Prim.Native.Nat.{ℕ, zero, suc, _+_, _-_, _*_, _≤_, _<_}
+use Prim.Native.Nat.{ℕ, zero, suc, _+_, _-_, _≤_, _<_}
 use lib.ListN.{length, getD}
 use Rattle.grammar.specs.Grammar.{Bytes, less, greater, Content}
 use Rattle.grammar.specs.Machine.{Open, inRun, At}
@@ -79,12 +79,12 @@ pub record Keeping (names levels : List ℕ) (kept : ℕ) : Type 0 where
 pub record Places (names : List ℕ) : Type 0 where
   pub low : (k : ℕ) → k < 64 → getD names k 0 ≤ 32768
 
--- of the names up to the 48th one stays for 1,024 bytes, the others stay
-pub record Stays (j base count base' : ℕ) : Type 0 where
+-- of the first 48 names one stays for each block, the others stay
+pub record Stays (j block count block' : ℕ) : Type 0 where
   pub few : count ≤ 1
-  pub low : base' ≤ 32768
-  pub outer : j < 48 → 1024 * count + base ≤ base'
-  pub inner : 48 ≤ j → base' ≡ base
+  pub low : block' ≤ 32
+  pub outer : j < 48 → count + block ≤ block'
+  pub inner : 48 ≤ j → block' ≡ block
 
 -- some are still kept, so that there is room for one more
 pub record Spared (names levels : List ℕ) (kept : ℕ) (names' levels' : List ℕ) (r : ℕ) : Type 0 where

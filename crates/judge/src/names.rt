@@ -1,8 +1,8 @@
 // The names of the open elements. At most 64 are kept, by where they start, the outer ones first, each with how many elements hold its
-// own. Where one more opens than there is room for, the outer ones are thinned out: of those within about a thousand bytes the innermost
-// stays. What was forgotten is found again where it is the innermost, by walking back from the start tag whose element has just ended, and
-// with it the forgotten names around it, as many as there is room for. So a walk passes over about a thousand bytes at most, and sixteen
-// tags or more stand between two that pass over the same.
+// own. Where one more opens than there is room for, the outer ones are thinned out: of those that start in one block of 1,024 bytes the
+// innermost stays. What was forgotten is found again where it is the innermost, by walking back from the start tag whose element has just
+// ended, and with it the forgotten names around it, as many as there is room for. So no walk leaves its block, and between two that pass
+// over the same bytes sixteen elements or more end, since the sixteen innermost names stay.
 ghost use mathlib.Core.Path.{_≡_};
 ghost use Prim.Native.Nat.{_-_, _≤_, _<_, min};
 ghost use lib.ListN.{length, getD};
@@ -15,8 +15,8 @@ pub const MOST_NAMES: usize = 64;
 // So many of the inner names stay, however near to each other they stand.
 const INNER: usize = 16;
 
-// Of the outer names one stays for so many bytes.
-const APART: usize = 1024;
+// Of the outer names one stays for each block of so many bytes.
+const BLOCK: usize = 1024;
 
 // Where the innermost open element's name starts, if one is open.
 pub fn innermost(names: &[u16; 64], kept: usize) -> usize
@@ -29,32 +29,32 @@ pub fn innermost(names: &[u16; 64], kept: usize) -> usize
     short(names[kept - 1])
 }
 
-// Whether the name at j stays, as 1 or 0; and the place from which the next of the outer names is so far away that it stays.
+// Whether the name at j stays, as 1 or 0; and the last block in which a name up to the next starts.
 struct Stay {
     count: usize,
-    base: usize,
+    block: usize,
 }
 
-fn stays(names: &[u16; 64], j: usize, base: usize) -> Stay
-    requires { ⌜ (length (now names) ≡ 64) × Places (now names) × (j < 64) × (base ≤ 32768) ⌝ }
-    ensures { λ r. ⌜ Stays j base (r .count) (r .base) ⌝ }
+fn stays(names: &[u16; 64], j: usize, block: usize) -> Stay
+    requires { ⌜ (length (now names) ≡ 64) × Places (now names) × (j < 64) × (block ≤ 32) ⌝ }
+    ensures { λ r. ⌜ Stays j block (r .count) (r .block) ⌝ }
 {
     if MOST_NAMES - INNER <= j {
         return Stay {
             count: 1,
-            base: base,
+            block: block,
         };
     }
-    let next = short(names[j + 1]);
-    if base + APART <= next {
+    let next = short(names[j + 1]) / BLOCK;
+    if block < next {
         return Stay {
             count: 1,
-            base: next,
+            block: next,
         };
     }
     Stay {
         count: 0,
-        base: base,
+        block: block,
     }
 }
 
@@ -64,14 +64,14 @@ fn thin(names: &mut [u16; 64], levels: &mut [u16; 64]) -> usize
     ensures { λ r. ⌜ Spared (now (names .entry)) (now (levels .entry)) 64 (now (names .exit)) (now (levels .exit)) r ⌝ }
 {
     let mut count: usize = 0;
-    let mut base: usize = 0;
+    let mut block: usize = 0;
     let mut j: usize = 0;
     while j < MOST_NAMES {
-        let stay = stays(names, j, base);
+        let stay = stays(names, j, block);
         names[count] = names[j];
         levels[count] = levels[j];
         count = count + stay.count;
-        base = stay.base;
+        block = stay.block;
         j = j + 1;
     }
     count

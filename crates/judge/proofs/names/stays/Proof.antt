@@ -1,3 +1,4 @@
+use Prim.Native.Nat.{_≤_}
 use native.Mathlib.Omega.{arith}
 use borrow.Author.Needs.{needs}
 use Rattle.judge.proofs.names.stays.Statement.{statement}
@@ -21,19 +22,12 @@ element-copy-out-short c = search needs
 short-requires : tie.Need-short-requires
 short-requires c κs = search needs
 
-add-if2 : tie.Need-add-if2
-add-if2 c = search needs
-
 returns-2 : tie.Need-returns-2
 returns-2 c =
     let s = c .before in
     let a = s .before .before .before in
-    record {
-      few = omega arith;
-      low = rw (s .short .ensures .0) (a .pre .1 .low _ (omega (arith, s .before .before .if1 .left)));
-      outer = λ h. omega (arith, c .if2 .taken);
-      inner = λ h. absurd (omega (arith, h, s .before .before .if1 .left));
-    }
+    let x : s .short .result ≤ 32768 = rw (s .short .ensures .0) (a .pre .1 .low _ (omega (arith, s .before .before .if1 .left))) in
+    record { few = omega arith; low = omega (arith, x); outer = λ h. omega (arith, c .if2 .taken); inner = λ h. absurd (omega (arith, h, s .before .before .if1 .left)) }
 
 returns-3 : tie.Need-returns-3
 returns-3 c = search needs
@@ -48,6 +42,5 @@ stays-spec =
     mul-short
     element-copy-out-short
     short-requires
-    add-if2
     returns-2
     returns-3)

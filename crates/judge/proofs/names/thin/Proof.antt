@@ -6,10 +6,10 @@ use Rattle.judge.proofs.names.thin.Statement.{statement}
 use Rattle.judge.proofs.names.thin.Tie as tie
 
 abbrev Inv-loop : tie.InvT-loop
-Inv-loop names₀ levels₀ count₀ base₀ j₀ names levels count base j = Thinning names₀ levels₀ names levels count base j
+Inv-loop names₀ levels₀ count₀ block₀ j₀ names levels count block j = Thinning names₀ levels₀ names levels count block j
 
 abbrev μ-loop : tie.MeasureT-loop
-μ-loop names₀ levels₀ count₀ base₀ j₀ names levels count base j = 64 - j
+μ-loop names₀ levels₀ count₀ block₀ j₀ names levels count block j = 64 - j
 
 loop-holds : tie.Need-loop-holds Inv-loop μ-loop
 loop-holds c = thin-begins (c .pre .0) (c .pre .1)
