@@ -194,7 +194,7 @@ void measure_problem(Most &most, const Problem &p) {
 
 int main() {
     Most most;
-    for (const std::string &document : {chain(DEEPEST), chain(DEEPEST + 1), wide(), std::string("<g>text</g>"), std::string("<g>")}) {
+    for (const std::string &document : {chain(DEEPEST), chain(DEEPEST + 1), chain(3000), wide(), std::string("<g>text</g>"), std::string("<g>")}) {
         measure_document(most, DICTIONARY, document);
         measure_document(most, many_names(), document);
     }

@@ -1,6 +1,7 @@
 // Bytes that a line writes in short: `\n`, `\t` and `\s` are a line feed, a tab and a space, `\xHH` is the byte of two
 // hex digits, and `{N:PIECE}` is the piece N times. In a piece `\0` to `\3` are the ones to the thousands of how many
-// times it stands before, so that many different names can be written. Any other byte after `\` is itself.
+// times it stands before, and `\4` to `\7` of how many times it still follows, so that many different names can be
+// written, and their end tags. Any other byte after `\` is itself.
 ghost use mathlib.Core.Path.{_≡_};
 ghost use Prim.Native.Nat.{_<_, _≤_};
 ghost use lib.ListN.{length};
@@ -50,8 +51,31 @@ fn ones(number: usize) -> u8 {
     (number % 10) as u8 + b'0'
 }
 
-// The byte that the rest of a piece begins with.
-fn first(rest: &[u8], pass: usize) -> u8 {
+fn digit(place: u8, number: usize) -> u8 {
+    match place {
+        b'0' => ones(number),
+        b'1' => ones(number / 10),
+        b'2' => ones(number / 100),
+        _ => ones(number / 1000),
+    }
+}
+
+// What any other letter than those of a fixed byte stands for.
+fn counted(kind: u8, pass: usize, left: usize) -> u8 {
+    if kind < b'0' {
+        return kind;
+    }
+    if kind < b'4' {
+        return digit(kind, pass);
+    }
+    if kind < b'8' {
+        return digit(kind - 4, left);
+    }
+    kind
+}
+
+// The byte that the rest of a piece begins with, which stands `pass` times before and `left` times after.
+fn first(rest: &[u8], pass: usize, left: usize) -> u8 {
     let byte = byte_at(rest, 0);
     if byte != b'\\' {
         return byte;
@@ -62,11 +86,7 @@ fn first(rest: &[u8], pass: usize) -> u8 {
         b't' => b'\t',
         b's' => b' ',
         b'x' => hex(byte_at(rest, 2)) * 16 + hex(byte_at(rest, 3)),
-        b'0' => ones(pass),
-        b'1' => ones(pass / 10),
-        b'2' => ones(pass / 100),
-        b'3' => ones(pass / 1000),
-        _ => kind,
+        _ => counted(kind, pass, left),
     }
 }
 
@@ -94,7 +114,7 @@ fn width(rest: &[u8]) -> usize
     wanted
 }
 
-fn write_piece(piece: &[u8], pass: usize, room: &mut [u8], from: usize) -> Filled
+fn write_piece(piece: &[u8], pass: usize, left: usize, room: &mut [u8], from: usize) -> Filled
     requires { ⌜ from ≤ length (now room) ⌝ }
     ensures { λ r. ⌜ r .to ≤ length (now (room .exit)) ⌝ }
 {
@@ -104,7 +124,7 @@ fn write_piece(piece: &[u8], pass: usize, room: &mut [u8], from: usize) -> Fille
         if room.len() <= to {
             return stopped(to);
         }
-        room[to] = first(&piece[at..], pass);
+        room[to] = first(&piece[at..], pass, left);
         to += 1;
         at += width(&piece[at..]);
     }
@@ -121,7 +141,7 @@ fn write_repeated(piece: &[u8], many: usize, room: &mut [u8], from: usize) -> Fi
     let mut to = from;
     let mut pass = 0;
     while pass < many {
-        let filled = write_piece(piece, pass, room, to);
+        let filled = write_piece(piece, pass, many - pass - 1, room, to);
         to = filled.to;
         if !filled.whole {
             return filled;
@@ -156,7 +176,7 @@ fn write_braced(text: &[u8], room: &mut [u8], from: usize) -> Filled
     if !filled.whole {
         return filled;
     }
-    write_piece(&text[close + 1..], 0, room, to)
+    write_piece(&text[close + 1..], 0, 0, room, to)
 }
 
 // Writes the bytes that the text stands for at the room's beginning.
@@ -164,7 +184,7 @@ pub fn expand(text: &[u8], room: &mut [u8]) -> Filled
     ensures { λ r. ⌜ r .to ≤ length (now (room .exit)) ⌝ }
 {
     let parts = fields::count(text, b'{');
-    let plain = write_piece(fields::field(text, b'{', 0), 0, room, 0);
+    let plain = write_piece(fields::field(text, b'{', 0), 0, 0, room, 0);
     let mut to = plain.to;
     if !plain.whole {
         return plain;

@@ -6,10 +6,10 @@ use Rattle.readings.proofs.expand.write_piece.Statement.{statement}
 use Rattle.readings.proofs.expand.write_piece.Tie as tie
 
 abbrev Inv-loop : tie.InvT-loop
-Inv-loop piece pass room₀ from to₀ at₀ room to at = (at ≤ length piece) × (to ≤ length room₀) × (length room ≡ length room₀)
+Inv-loop piece pass left room₀ from to₀ at₀ room to at = (at ≤ length piece) × (to ≤ length room₀) × (length room ≡ length room₀)
 
 abbrev μ-loop : tie.MeasureT-loop
-μ-loop piece pass room₀ from to₀ at₀ room to at = length piece - at
+μ-loop piece pass left room₀ from to₀ at₀ room to at = length piece - at
 
 loop-holds : tie.Need-loop-holds Inv-loop μ-loop
 loop-holds c = search needs

@@ -14,6 +14,12 @@ abbrev μ-loop : tie.MeasureT-loop
 loop-holds : tie.Need-loop-holds Inv-loop μ-loop
 loop-holds c = search needs
 
+sub-write-piece : tie.Need-sub-write-piece Inv-loop μ-loop
+sub-write-piece c = search needs
+
+sub-write-piece-2 : tie.Need-sub-write-piece-2 Inv-loop μ-loop
+sub-write-piece-2 c = search needs
+
 write-piece-requires : tie.Need-write-piece-requires Inv-loop μ-loop
 write-piece-requires c κs = search needs
 
@@ -45,6 +51,8 @@ write-repeated-spec =
     Inv-loop
     μ-loop
     loop-holds
+    sub-write-piece
+    sub-write-piece-2
     write-piece-requires
     same-length
     returns
