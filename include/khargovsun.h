@@ -10,8 +10,8 @@
  * and signal handlers may call at the same time, as long as none writes a list that another call reads or writes.
  *
  * Stack, the most that was measured, in bytes (bench/stack/README.md: painted, on the deepest inputs; -O3, the larger of x86-64 and Arm): check
- * 40,960; read 57,496 (35,792 where the document is read); list 60,648; list_after 72,264; test 39,688; instance 30,696; spelling 10,456. Give a
- * thread 128 kB.
+ * 19,360; read 35,920; list 60,648; list_after 72,264; test 39,688; instance 30,696; spelling 10,456. Give a thread 128 kB, or one that only
+ * checks and reads documents 64 kB.
  *
  * In a refusal the first code that applies is given, in the order that stands at the function, every other number is 0 (but the place of code
  * 3), and nothing is written. */

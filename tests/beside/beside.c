@@ -99,5 +99,6 @@ int main(void) {
     for (uint32_t number = 0; number < SEEN; number++) compare_problem(&chance, "known problem", number, &KNOWN[number], true);
     compare_limits(&chance);
     compare_document_limits(&chance);
+    compare_deep_documents(&chance);
     return report();
 }

@@ -47,8 +47,9 @@ void compare_forgotten(chance *chance, const problem *whole);
 /* The smallest and the largest of everything that has a limit. */
 void compare_limits(chance *chance);
 
-/* Documents: written and read back, damaged, and at the limits. */
+/* Documents: written and read back, damaged, at the limits, and deep. */
 void compare_documents(chance *chance, const tree *tree, uint32_t number);
 void compare_document_limits(chance *chance);
+void compare_deep_documents(chance *chance);
 
 #endif

@@ -70,10 +70,11 @@
     X(PAGE_ENDING_2, "pages that end with 2", 20000)                                        \
     X(TURNED, "pages turned where they are joined", 20000)                                  \
     X(BOTH_SORTS, "documents with an element and a text of one spelling", 200)              \
+    X(DEEP_DOCUMENTS, "documents that go deeper than 64 levels and come back", 250)         \
     X(CODE_1, "refusals 1", 500)                                                            \
     X(CODE_2, "refusals 2", 5)                                                              \
     X(CODE_3, "refusals 3", 5000)                                                           \
-    X(CODE_4, "refusals 4", 5)                                                              \
+    X(CODE_4, "refusals 4", 300)                                                            \
     X(CODE_5, "refusals 5", 5)                                                              \
     X(CODE_6, "refusals 6", 2000)                                                           \
     X(CODE_11, "refusals 11", 1000)                                                         \

@@ -20,9 +20,9 @@ use Rattle.grammar.proofs.Positions.{posS, at-good, at-place, three}
 use Rattle.tokens.specs.Tokens.{Span, bytes, levelOf, runAt}
 use Rattle.judge.specs.Tags.{RunTo, opened, Closed, closed, OpenedTo, EmptyTo, Top, Tagging, Done, too-deep, too-many, done, Last, ended, early}
 use Rattle.judge.specs.Verdict.{Verdict, outside, deep, many, read}
-use Rattle.judge.specs.OpenNames.{NameFrom, AllFrom, none-open, one-more, InnermostKept, all-closed, Keeping, Places, OpenedOne, MayClose, ClosedOne}
+use Rattle.judge.specs.OpenNames.{NameFrom, AllFrom, none-open, one-more, InnermostKept, all-closed, Keeping, LowNames, OpenedOne, MayClose, ClosedOne}
 use Rattle.judge.proofs.Machine.{run-walk, run-refused}
-use Rattle.judge.proofs.OpenNames.{some-kept, top-kept, kept-places}
+use Rattle.judge.proofs.OpenNames.{some-kept, top-kept, kept-low-names}
 
 -- THE LAST RUN
 pub early-is : {length at depth rows deep c p n : ℕ} → (c ≡ 3) × (p ≡ at) × (n ≡ 0) → (length ≤ at → depth ≡ 0 → 0 < rows → ⊥) →
@@ -211,8 +211,8 @@ module _ {w K L : List ℕ} {i kept depth rows deep : ℕ} (k : Scanned w K L i 
       go (p ∷ o) d (closed h q) = omega (arith, d)
 
   -- the names that are kept are places, and one more is in a document
-  pub may-open : (kept ≡ 64 → Places K) × (a + 1 < 65536)
-  may-open = (λ e. kept-places (some-kept (k .held)) e short, omega (arith, run .span .passed .within, short))
+  pub may-open : (kept ≡ 64 → LowNames K) × (a + 1 < 65536)
+  may-open = (λ e. kept-low-names (some-kept (k .held)) e short, omega (arith, run .span .passed .within, short))
 
   -- an element ends
   pub may-close : {e : ℕ} → Closed w e (k .o) (k .f) T → MayClose w K L kept (depth - 1)

@@ -51,14 +51,14 @@ steps w P j (suc d) h l each p =
     rw (z, g) (each (j + d) (omega arith) (omega arith) q l₁)
 
 -- IN A RUN
-data InRun (o : List Open) : State → Type 0 where
-  in-run : {f : Content} {t : Bytes} → InRun o (inRun o f t)
+data StillRun (o : List Open) : State → Type 0 where
+  in-run : {f : Content} {t : Bytes} → StillRun o (inRun o f t)
 
-run-on : {o : List Open} {z : State} (b : ℕ) → (b ≡ 60 → ⊥) → InRun o z → Live (step z b) → InRun o (step z b)
+run-on : {o : List Open} {z : State} (b : ℕ) → (b ≡ 60 → ⊥) → StillRun o z → Live (step z b) → StillRun o (step z b)
 run-on {o} b n (in-run {f} {t}) =
-    by-cond (λ (s : State). Live s → InRun o s) (eqb b 60)
+    by-cond (λ (s : State). Live s → StillRun o s) (eqb b 60)
     (λ e. absurd (n (eqb-true b 60 e)))
-    (λ e. by-cond (λ (s : State). Live s → InRun o s) (mayFollow (level o) t b) (λ m l. in-run) (λ m l. absurd l))
+    (λ e. by-cond (λ (s : State). Live s → StillRun o s) (mayFollow (level o) t b) (λ m l. in-run) (λ m l. absurd l))
 
 -- IN A START TAG, the last byte read being b
 data InStart (o : List Open) (f : Content) (t : Bytes) (b : ℕ) : State → Type 0 where
@@ -138,20 +138,20 @@ to-come : (p : Open) (o : List Open) (f : Content) (t m : Bytes) (r : List ℕ) 
 to-come p o f t m r h = name-rest m r (rw (h .3) (name-all (p .name) [] (h .0 .1 .3 .0) tt))
 
 -- at its >
-end-done : {o : List Open} {z : State} → InEnd o z → GoodS z → Live (step z 62) → InRun o (step z 62)
+end-done : {o : List Open} {z : State} → InEnd o z → GoodS z → Live (step z 62) → StillRun o (step z 62)
 unfolding nameByte white classOf
 end-done (end-name []) g l = in-run
 end-done {o} (end-name {p} {f} {t} {m} (r ∷ rs)) g l =
-    by-cond (λ (s : State). Live s → InRun o s) (eqb 62 r)
+    by-cond (λ (s : State). Live s → StillRun o s) (eqb 62 r)
     (λ e. absurd (name-differs r 62 (to-come p o f t m (r ∷ rs) g .0) refl (sym (eqb-true 62 r e))))
     (λ e k. absurd k) l
 end-done end-space g l = in-run
 
 -- WHERE A < IS READ the machine is in a run
-data Run (z : State) : Type 0 where
-  run : (o : List Open) (f : Content) (t : Bytes) → z ≡ inRun o f t → Run z
+data SomeRun (z : State) : Type 0 where
+  run : (o : List Open) (f : Content) (t : Bytes) → z ≡ inRun o f t → SomeRun z
 
-in-run-there : (z : State) → GoodS z → Live (step z 60) → Run z
+in-run-there : (z : State) → GoodS z → Live (step z 60) → SomeRun z
 unfolding nameStart nameByte white classOf
 in-run-there dead g l = absurd l
 in-run-there (inRun o f t) g l = run o f t refl
@@ -161,16 +161,16 @@ in-run-there (inSpace o f t n h) g l = absurd l
 in-run-there (afterSlash o f t n h) g l = absurd l
 in-run-there (inEndName p o f t m []) g l = absurd l
 in-run-there (inEndName p o f t m (r ∷ rs)) g l =
-    by-cond (λ (s : State). Live s → Run (inEndName p o f t m (r ∷ rs))) (eqb 60 r)
+    by-cond (λ (s : State). Live s → SomeRun (inEndName p o f t m (r ∷ rs))) (eqb 60 r)
     (λ e. absurd (name-differs r 60 (to-come p o f t m (r ∷ rs) g .0) refl (sym (eqb-true 60 r e))))
     (λ e k. absurd k) l
 in-run-there (inEndSpace p o f t h) g l = absurd l
 
 -- WHAT THE LAST TAG DID: its < stands at p and its > at s, and text follows up to q, where the elements o are open
 data LastDid (w : List ℕ) (p s : ℕ) : List Open → Type 0 where
-  ended : {o : List Open} (x : Open) (f : Content) (t : Bytes) → At w p (inRun (x ∷ o) f t) → getD w (p + 1) 0 ≡ 47 → LastDid w p s o
-  emptied : {o : List Open} (f : Content) (t : Bytes) → At w p (inRun o f t) → (getD w (p + 1) 0 ≡ 47 → ⊥) → getD w (s - 1) 0 ≡ 47 → LastDid w p s o
-  started : {o : List Open} (f : Content) (t n g : Bytes) → At w p (inRun o f t) → (getD w (p + 1) 0 ≡ 47 → ⊥) → (getD w (s - 1) 0 ≡ 47 → ⊥) →
+  did-end : {o : List Open} (x : Open) (f : Content) (t : Bytes) → At w p (inRun (x ∷ o) f t) → getD w (p + 1) 0 ≡ 47 → LastDid w p s o
+  did-empty : {o : List Open} (f : Content) (t : Bytes) → At w p (inRun o f t) → (getD w (p + 1) 0 ≡ 47 → ⊥) → getD w (s - 1) 0 ≡ 47 → LastDid w p s o
+  did-start : {o : List Open} (f : Content) (t n g : Bytes) → At w p (inRun o f t) → (getD w (p + 1) 0 ≡ 47 → ⊥) → (getD w (s - 1) 0 ≡ 47 → ⊥) →
       LastDid w p s (opened f t n g ∷ o)
 
 -- behind its <, in the run f t of o: nothing more is read; or it is in a start tag; or in an end tag
@@ -223,7 +223,7 @@ tag-no-run z (start k n (slash i)) h = h
 tag-no-run z (end x r k n e (end-name m)) h = h
 tag-no-run z (end x r k n e end-space) h = h
 
-same-open : {x o : List Open} {f : Content} {t : Bytes} (z : State) → InRun x z → z ≡ inRun o f t → x ≡ o
+same-open : {x o : List Open} {f : Content} {t : Bytes} (z : State) → StillRun x z → z ≡ inRun o f t → x ≡ o
 same-open z in-run e = cc
 
 -- A < at p, and text or the rest of a tag behind it up to q, where the elements O are open
@@ -240,7 +240,7 @@ module _ {w : List ℕ} {p q : ℕ} (before : p < q) (less-there : getD w p 0 �
   steps-to : (j : ℕ) → j < q → stateAt w (suc j) ≡ step (stateAt w j) (getD w j 0)
   steps-to j h = goes w j (omega (arith, now .within))
 
-  at-less : Run (stateAt w p)
+  at-less : SomeRun (stateAt w p)
   at-less = in-run-there (stateAt w p) (good p (omega arith)) (rw (← less-there, ← (steps-to p before)) (alive (suc p) before))
 
   module _ (o : List Open) (f : Content) (t : Bytes) (run-there : stateAt w p ≡ inRun o f t) where
@@ -269,26 +269,26 @@ module _ {w : List ℕ} {p q : ℕ} (before : p < q) (less-there : getD w p 0 �
       shuts = steps-to s before-q ∙ rw greater-there refl
 
       -- the text behind the > leaves the elements x open
-      text-on : (x : List Open) → InRun x (step (stateAt w s) 62) → x ≡ O
+      text-on : (x : List Open) → StillRun x (step (stateAt w s) 62) → x ≡ O
       text-on x h =
           let z : suc s + (q - suc s) ≡ q = omega arith in
-          let r : InRun x (stateAt w (suc s + (q - suc s))) =
-          steps w (λ (j : ℕ) (y : State). InRun x y) (suc s) (q - suc s) (omega (arith, now .within)) (rw z (alive q (omega arith)))
+          let r : StillRun x (stateAt w (suc s + (q - suc s))) =
+          steps w (λ (j : ℕ) (y : State). StillRun x y) (suc s) (q - suc s) (omega (arith, now .within)) (rw z (alive q (omega arith)))
           (λ j u v i l. run-on (getD w j 0) (no-less j (omega arith) (omega arith)) i l) (rw shuts h) in
           same-open (stateAt w q) (rw z at r) (now .is)
 
       at-p : At w p (inRun o f t)
       at-p = record { within = omega (arith, now .within); is = run-there }
 
-      did : (z : State) → InTag w p s o f t z → GoodS z → Live (step z 62) → ((x : List Open) → InRun x (step z 62) → x ≡ O) → LastDid w p s O
+      did : (z : State) → InTag w p s o f t z → GoodS z → Live (step z 62) → ((x : List Open) → StillRun x (step z 62) → x ≡ O) → LastDid w p s O
       unfolding nameStart classOf
       did z (less e) g l t-on = absurd l
       did z (start h n k) g l t-on = go (step z 62) (start-done k) t-on
         where
-          go : (y : State) → StartDone o f t (getD w (s - 1) 0) y → ((x : List Open) → InRun x y → x ≡ O) → LastDid w p s O
-          go y (leaves-open {n = m} {g = i} b) u = rw (← (u (opened f t m i ∷ o) in-run)) (started f t m i at-p n b)
-          go y (is-empty b) u = rw (← (u o in-run)) (emptied f t at-p n b)
-      did z (end x r h n e k) g l t-on = rw (← (t-on r (end-done k g l))) (ended x f t (rw e at at-p) n)
+          go : (y : State) → StartDone o f t (getD w (s - 1) 0) y → ((x : List Open) → StillRun x y → x ≡ O) → LastDid w p s O
+          go y (leaves-open {n = m} {g = i} b) u = rw (← (u (opened f t m i ∷ o) in-run)) (did-start f t m i at-p n b)
+          go y (is-empty b) u = rw (← (u o in-run)) (did-empty f t at-p n b)
+      did z (end x r h n e k) g l t-on = rw (← (t-on r (end-done k g l))) (did-end x f t (rw e at at-p) n)
 
       last-did : LastDid w p s O
       last-did = did (stateAt w s) (in-tag s after-less (omega arith) no-greater) (good s (omega arith)) (rw (← shuts) (alive (suc s) before-q)) text-on
@@ -324,8 +324,8 @@ module _ {w : List ℕ} {q at s : ℕ} (h : Scanning w q at s) where
       go zero e =
           let l : Live (stateAt w q) = rw (now .is) tt in
           let z : 0 + q ≡ q = omega arith in
-          let r : InRun [] (stateAt w (0 + q)) =
-          steps w (λ (j : ℕ) (y : State). InRun [] y) 0 q (omega (arith, now .within)) (rw z l)
+          let r : StillRun [] (stateAt w (0 + q)) =
+          steps w (λ (j : ℕ) (y : State). StillRun [] y) 0 q (omega (arith, now .within)) (rw z l)
           (λ j u v i m. run-on (getD w j 0) (h .no-less j (omega arith) (omega arith)) i m) in-run in
           absurd (none (same-open (stateAt w q) (rw z at r) (now .is)))
         where
@@ -347,17 +347,21 @@ module _ {w : List ℕ} {q at s : ℕ} (h : Scanning w q at s) where
   pub scan-more : 0 < at → (getD w (at - 1) 0 ≡ 60 → ⊥) → (s' : ℕ) → (getD w (at - 1) 0 ≡ 62 → s' ≡ at - 1) → ((getD w (at - 1) 0 ≡ 62 → ⊥) → s' ≡ s) → Scanning w q (at - 1) s'
   scan-more p e s' is not = go (ℕ-discrete (getD w (at - 1) 0) 62)
     where
-      first : (k : ℕ) → at - 1 ≤ k → (at ≤ k → getD w k 0 ≡ 60 → ⊥) → getD w k 0 ≡ 60 → ⊥
-      first k u later = go (ltb k at) refl
+      -- what holds of the place before at, and of those from at on
+      one-before : (P : ℕ → Type 0) → P (at - 1) → (k : ℕ) → at - 1 ≤ k → (at ≤ k → P k) → P k
+      one-before P there k u later = from-there (ltb k at) refl
         where
-          go : (y : Bool) → ltb k at ≡ y → getD w k 0 ≡ 60 → ⊥
-          go true r = let z : k ≡ at - 1 = omega (arith, ltb-true k at r) in rw z e
-          go false r = later (ltb-false k at r)
+          from-there : (y : Bool) → ltb k at ≡ y → P k
+          from-there true r = let z : k ≡ at - 1 = omega (arith, ltb-true k at r) in rw z there
+          from-there false r = later (ltb-false k at r)
+
+      none-less : (k : ℕ) → at - 1 ≤ k → k < q → getD w k 0 ≡ 60 → ⊥
+      none-less k u v = one-before (λ (j : ℕ). getD w j 0 ≡ 60 → ⊥) e k u (λ i. h .no-less k i v)
 
       go : Dec (getD w (at - 1) 0 ≡ 62) → Scanning w q (at - 1) s'
       go (yes g) = record {
         within = omega (arith, h .within);
-        no-less = λ k u v. first k u (λ i. h .no-less k i v);
+        no-less = none-less;
         from = omega (arith, is g);
         up-to = omega (arith, is g, h .within);
         greater-there = λ u. rw (is g) g;
@@ -365,23 +369,19 @@ module _ {w : List ℕ} {q at s : ℕ} (h : Scanning w q at s) where
       }
       go (no g) = rw (not g) (record {
         within = omega (arith, h .within);
-        no-less = λ k u v. first k u (λ i. h .no-less k i v);
+        no-less = none-less;
         from = omega (arith, h .from);
         up-to = h .up-to;
         greater-there = h .greater-there;
-        no-greater = λ k u v r. earlier k u v r (ltb k at) refl;
+        no-greater = λ k u v. one-before (λ (j : ℕ). getD w j 0 ≡ 62 → ⊥) g k u (λ i. h .no-greater k i v);
       })
-        where
-          earlier : (k : ℕ) → at - 1 ≤ k → k < s → getD w k 0 ≡ 62 → (y : Bool) → ltb k at ≡ y → ⊥
-          earlier k u v r true i = let z : k ≡ at - 1 = omega (arith, ltb-true k at i) in g (rw z at r)
-          earlier k u v r false i = h .no-greater k (ltb-false k at i) v r
 
 -- WHAT THE LAST TAG DID, by the bytes that are looked at
 module _ {w : List ℕ} {q p s : ℕ} (m : LastMarkup w q p s) {o : List Open} (now : OpenAt w q o) where
   last-tag : LastDid w p s o
   last-tag = go (at-less (m .before) (m .less-there) (m .no-less) (now .2))
     where
-      go : Run (stateAt w p) → LastDid w p s o
+      go : SomeRun (stateAt w p) → LastDid w p s o
       go (run x f t e) = by-shut (ltb s q) refl
         where
           by-shut : (y : Bool) → ltb s q ≡ y → LastDid w p s o
@@ -395,23 +395,23 @@ module _ {w : List ℕ} {q p s : ℕ} (m : LastMarkup w q p s) {o : List Open} (
   an-end h = go last-tag
     where
       go : {o : List Open} → LastDid w p s o → TagBefore w q o (End p)
-      go (ended x f t a e) = ends x (m .before) (f, t, a)
-      go (emptied f t a n e) = absurd (n h)
-      go (started f t i g a n e) = absurd (n h)
+      go (did-end x f t a e) = ends x (m .before) (f, t, a)
+      go (did-empty f t a n e) = absurd (n h)
+      go (did-start f t i g a n e) = absurd (n h)
 
   module _ (no-end : getD w (p + 1) 0 ≡ 47 → ⊥) where
     pub an-empty : getD w (s - 1) 0 ≡ 47 → TagBefore w q o (Empty p)
     an-empty h = go last-tag
       where
         go : {o : List Open} → LastDid w p s o → TagBefore w q o (Empty p)
-        go (ended x f t a e) = absurd (no-end e)
-        go (emptied f t a n e) = empty (m .before) (f, t, a)
-        go (started f t i g a n e) = absurd (e h)
+        go (did-end x f t a e) = absurd (no-end e)
+        go (did-empty f t a n e) = empty (m .before) (f, t, a)
+        go (did-start f t i g a n e) = absurd (e h)
 
     pub a-start : (getD w (s - 1) 0 ≡ 47 → ⊥) → TagBefore w q o (Start p)
     a-start h = go last-tag
       where
         go : {o : List Open} → LastDid w p s o → TagBefore w q o (Start p)
-        go (ended x f t a e) = absurd (no-end e)
-        go (emptied f t a n e) = absurd (h e)
-        go (started f t i g a n e) = starts (m .before) a
+        go (did-end x f t a e) = absurd (no-end e)
+        go (did-empty f t a n e) = absurd (h e)
+        go (did-start f t i g a n e) = starts (m .before) a

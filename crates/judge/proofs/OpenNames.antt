@@ -1,5 +1,5 @@
 -- The names that are kept, and those that are found again, are the open names.
-use mathlib.Core.Path.{_≡_, refl, sym, ap, _∙_}
+use mathlib.Core.Path.{_≡_, refl, sym, _∙_}
 use mathlib.Core.Bool.{Bool, true, false}
 use mathlib.Core.List.{List, [], _∷_}
 use Prim.Native.Nat.{ℕ, zero, suc, _+_, _-_, _≤_, _<_}
@@ -10,10 +10,10 @@ use lib.Dec.{ltb}
 use lib.ListN.{length, getD, set, length-set}
 use lib.Seq.{getD-set-same, getD-set-other}
 use borrow.Author.Tests.{ltb-true, ltb-false}
-use Rattle.grammar.specs.Machine.{Open, inRun}
+use Rattle.grammar.specs.Machine.{Open}
 use Rattle.grammar.proofs.Positions.{at-place}
 use Rattle.judge.specs.Tags.{Top}
-use Rattle.judge.specs.OpenNames.{TagAt, NameFrom, AllFrom, none-open, one-more, Between, none-kept, forgotten, kept, SomeKept, InnermostKept, all-closed, innermost, Keeping, Places, Stays, Spared, OpenedOne, OpenAt, SomeOpen, AllOpen, MayFind, FoundAgain, Finds, reaches, Ending, MayClose, ClosedOne}
+use Rattle.judge.specs.OpenNames.{TagAt, NameFrom, AllFrom, one-more, Between, none-kept, forgotten, kept, SomeKept, InnermostKept, all-closed, innermost, Keeping, LowNames, Stays, Spared, OpenedOne, OpenAt, SomeOpen, AllOpen, MayFind, FoundAgain, Finds, reaches, ElementEnds, MayClose, ClosedOne}
 
 -- WHAT IS KEPT BETWEEN
 -- there are no fewer
@@ -54,22 +54,30 @@ level-low {L = L} (kept {o' = r} {n = n} x l b) k u v = go (ltb k n) refl (level
     go true e again = omega (arith, again (ltb-true k n e))
     go false e again = let z : k ≡ n = omega (arith, ltb-false k n e) in rw z (omega (arith, l))
 
+-- A NAME AND ITS LEVEL ARE PUT at k
+module _ {K L : List ℕ} {n : ℕ} (h : Keeping K L n) (k x level : ℕ) where
+  put-long : {m : ℕ} → m ≤ 64 → Keeping (set K k x) (set L k level) m
+  put-long low =
+      record { names-long = length-set K k x ∙ h .names-long; levels-long = length-set L k level ∙ h .levels-long; few = low }
+
+  put-other : (j : ℕ) → (j ≡ k → ⊥) → (getD (set K k x) j 0 ≡ getD K j 0) × (getD (set L k level) j 0 ≡ getD L j 0)
+  put-other j d = (getD-set-other K k j x 0 d, getD-set-other L k j level 0 d)
+
+  put-there : {w : List ℕ} {p : Open} {o : List Open} → k < 64 → NameFrom w p o x → level ≡ length o →
+      NameFrom w p o (getD (set K k x) k 0) × (getD (set L k level) k 0 ≡ length o)
+  put-there low from deep = (
+    rw (getD-set-same K k x 0 (omega (arith, h .names-long))) from,
+    getD-set-same L k level 0 (omega (arith, h .levels-long)) ∙ deep,
+  )
+
 -- ONE MORE IS OPEN
 pub opens-one : {K L : List ℕ} {kept depth name : ℕ} {K' L' : List ℕ} {k : ℕ} → Spared K L kept K' L' k → OpenedOne K L kept depth name (set K' k name) (set L' k depth) (k + 1)
 opens-one {depth = depth} {name} {K'} {L'} {k} h = record {
-  keeping = record {
-    names-long = length-set K' k name ∙ h .keeping .names-long;
-    levels-long = length-set L' k depth ∙ h .keeping .levels-long;
-    few = omega (arith, h .room);
-  };
-  it = λ w p o s from deep. go w p o (h .still w o s) from deep;
+  keeping = put-long (h .keeping) k name depth (omega (arith, h .room));
+  it = λ w p o s from deep.
+      let x = put-there (h .keeping) k name depth (h .room) from deep in
+      rw (add-one k) (innermost (x .0) (x .1) (between-same (h .still w o s) (λ j u v. put-other (h .keeping) k name depth j (λ e. omega arith))));
 }
-  where
-    go : (w : List ℕ) (p : Open) (o : List Open) → SomeKept w K' L' o k → NameFrom w p o name → depth ≡ length o → InnermostKept w (set K' k name) (set L' k depth) (p ∷ o) (k + 1)
-    go w p o b from deep =
-        let x : NameFrom w p o (getD (set K' k name) k 0) = rw (getD-set-same K' k name 0 (omega (arith, h .room, h .keeping .names-long))) from in
-        let l : getD (set L' k depth) k 0 ≡ length o = getD-set-same L' k depth 0 (omega (arith, h .room, h .keeping .levels-long)) ∙ deep in
-        rw (add-one k) (innermost x l (between-same b (λ j u v. (getD-set-other K' k j name 0 (λ e. omega arith), getD-set-other L' k j depth 0 (λ e. omega arith)))))
 
 pub some-kept : {w K L : List ℕ} {o : List Open} {n : ℕ} → InnermostKept w K L o n → SomeKept w K L o n
 some-kept all-closed = none-kept
@@ -115,7 +123,7 @@ all-kept (kept x l b) h e s = innermost x l (joined s b)
 
 -- THE OUTER ONES ARE THINNED OUT
 -- from the first j names, of elements that are open in q, to the next: it is p's, which o' hold
-record Next (w K L : List ℕ) (q : List Open) (j : ℕ) (o : List Open) (n : ℕ) : Type 0 where
+record NextKept (w K L : List ℕ) (q : List Open) (j : ℕ) (o : List Open) (n : ℕ) : Type 0 where
   p : Open
   o' : List Open
   from : NameFrom w p o' (getD K j 0)
@@ -128,12 +136,12 @@ none-between none-kept e s = s
 none-between (forgotten b) e s = forgotten (none-between b e s)
 none-between (kept x l b) e s = absurd (omega (arith, e, between-more b))
 
-next : {w K L : List ℕ} {q o : List Open} {j n : ℕ} → Between w K L q j o n → j < n → Next w K L q j o n
-next none-kept h = absurd (omega arith)
-next (forgotten b) h = let r = next b h in record { p = r .p; o' = r .o'; from = r .from; at-level = r .at-level; past = r .past; rest = forgotten (r .rest) }
-next {w} {K} {L} {q} {j = j} (kept {p} {o' = o'} {n} x l b) h = go (ltb j n) refl (next b)
+next-kept : {w K L : List ℕ} {q o : List Open} {j n : ℕ} → Between w K L q j o n → j < n → NextKept w K L q j o n
+next-kept none-kept h = absurd (omega arith)
+next-kept (forgotten b) h = let r = next-kept b h in record { p = r .p; o' = r .o'; from = r .from; at-level = r .at-level; past = r .past; rest = forgotten (r .rest) }
+next-kept {w} {K} {L} {q} {j = j} (kept {p} {o' = o'} {n} x l b) h = go (ltb j n) refl (next-kept b)
   where
-    go : (y : Bool) → ltb j n ≡ y → (j < n → Next w K L q j o' n) → Next w K L q j (p ∷ o') (suc n)
+    go : (y : Bool) → ltb j n ≡ y → (j < n → NextKept w K L q j o' n) → NextKept w K L q j (p ∷ o') (suc n)
     go true e again =
         let r = again (ltb-true j n e) in
         record { p = r .p; o' = r .o'; from = r .from; at-level = r .at-level; past = r .past; rest = kept x l (r .rest) }
@@ -144,14 +152,14 @@ next {w} {K} {L} {q} {j = j} (kept {p} {o' = o'} {n} x l b) h = go (ltb j n) ref
 -- the names so far, and those still to be looked at
 pub record Thinning (K₀ L₀ K L : List ℕ) (t block j : ℕ) : Type 0 where
   pub keeping : Keeping K L t
-  pub places : Places K
+  pub places : LowNames K
   pub behind : t ≤ j
   pub up-to : j ≤ 64
   pub low : block ≤ 32
   pub few : t ≤ block + (j - 48)
   pub parts : (w : List ℕ) (o : List Open) → SomeKept w K₀ L₀ o 64 → (q : List Open) × SomeKept w K L q t × Between w K L q j o 64
 
-pub thin-begins : {K L : List ℕ} → Keeping K L 64 → Places K → Thinning K L K L 0 0 0
+pub thin-begins : {K L : List ℕ} → Keeping K L 64 → LowNames K → Thinning K L K L 0 0 0
 thin-begins k p = record {
   keeping = record { names-long = k .names-long; levels-long = k .levels-long; few = omega arith };
   places = p;
@@ -172,11 +180,7 @@ module _ {K₀ L₀ K L : List ℕ} {t block j : ℕ} (h : Thinning K₀ L₀ K 
 
   pub thin-on : {count block' : ℕ} → Stays j block count block' → Thinning K₀ L₀ (set K t (getD K j 0)) (set L t (getD L j 0)) (t + count) block' (j + 1)
   thin-on {count} {block'} s = record {
-    keeping = record {
-      names-long = length-set K t (getD K j 0) ∙ h .keeping .names-long;
-      levels-long = length-set L t (getD L j 0) ∙ h .keeping .levels-long;
-      few = omega (arith, h .behind, s .few);
-    };
+    keeping = put-long (h .keeping) t (getD K j 0) (getD L j 0) (omega (arith, h .behind, s .few));
     places = record { low = set-low };
     behind = omega (arith, h .behind, s .few);
     up-to = omega arith;
@@ -197,15 +201,14 @@ module _ {K₀ L₀ K L : List ℕ} {t block j : ℕ} (h : Thinning K₀ L₀ K 
 
       part : (w : List ℕ) (o : List Open) → (q : List Open) × SomeKept w K L q t × Between w K L q j o 64 → (q : List Open) × SomeKept w K' L' q (t + count) × Between w K' L' q (j + 1) o 64
       part w o (q, kept-so-far, to-come) =
-          let r = next to-come more in
+          let r = next-kept to-come more in
           let moved : SomeKept w K' L' (r .o') t = r .past (between-same kept-so-far (λ k u v. other k (λ e. omega arith))) in
-          let from : NameFrom w (r .p) (r .o') (getD K' t 0) = rw (getD-set-same K t (getD K j 0) 0 (omega (arith, h .behind, h .keeping .names-long))) (r .from) in
-          let at-level : getD L' t 0 ≡ length (r .o') = getD-set-same L t (getD L j 0) 0 (omega (arith, h .behind, h .keeping .levels-long)) ∙ r .at-level in
+          let there = put-there (h .keeping) t (getD K j 0) (getD L j 0) (omega (arith, h .behind)) (r .from) (r .at-level) in
           let z : j + 1 ≡ suc j = omega arith in
-          (r .p ∷ r .o', counted count (s .few) (forgotten moved) (kept from at-level moved), rw z (between-same (r .rest) (λ k u v. other k (λ e. omega (arith, h .behind)))))
+          (r .p ∷ r .o', counted count (s .few) (forgotten moved) (kept (there .0) (there .1) moved), rw z (between-same (r .rest) (λ k u v. other k (λ e. omega (arith, h .behind)))))
         where
           other : (k : ℕ) → (k ≡ t → ⊥) → (getD K' k 0 ≡ getD K k 0) × (getD L' k 0 ≡ getD L k 0)
-          other k d = (getD-set-other K t k (getD K j 0) 0 d, getD-set-other L t k (getD L j 0) 0 d)
+          other = put-other (h .keeping) t (getD K j 0) (getD L j 0)
 
           counted : {x : List Open} (c : ℕ) → c ≤ 1 → SomeKept w K' L' x t → SomeKept w K' L' x (suc t) → SomeKept w K' L' x (t + c)
           counted zero l a b = let y : t + 0 ≡ t = omega arith in rw y a
@@ -249,9 +252,9 @@ module _ {w K L : List ℕ} {o : List Open} {top at level k : ℕ} (h : Finding 
       go [] a e = absurd (omega (arith, e))
       go (p ∷ r) a e = (p, r, a)
 
-  pub find-on : {less : ℕ} → ((p : Open) (r : List Open) → OpenAt w at (p ∷ r) → (less < at) × TagAt w less p r) → 0 < k → k ≤ 64 → length K ≡ 64 → length L ≡ 64 →
+  pub find-on : {less : ℕ} → ((p : Open) (r : List Open) → OpenAt w at (p ∷ r) → (less < at) × TagAt w less p r) → 0 < k → k ≤ 64 → Keeping K L top →
       Finding w (set K (k - 1) (less + 1)) (set L (k - 1) (level - 1)) o top less (level - 1) (k - 1)
-  find-on {less} met some-k low k-long l-long = go (h .r) (h .still .here) (h .still .deep) (h .still .all) (h .found)
+  find-on {less} met some-k low keeping = go (h .r) (h .still .here) (h .still .deep) (h .still .all) (h .found)
     where
       K' : List ℕ
       K' = set K (k - 1) (less + 1)
@@ -263,19 +266,18 @@ module _ {w K L : List ℕ} {o : List Open} {top at level k : ℕ} (h : Finding 
       go [] a e f b = absurd (omega (arith, e))
       go (p ∷ r) a e (one-more x n f) b =
           let t = met p r a .1 in
-          let name : NameFrom w p r (getD K' (k - 1) 0) = rw (getD-set-same K (k - 1) (less + 1) 0 (omega (arith, k-long))) (one-place t n) in
-          let at-level : getD L' (k - 1) 0 ≡ length r = getD-set-same L (k - 1) (level - 1) 0 (omega (arith, l-long)) ∙ omega (arith, e) in
+          let there = put-there keeping (k - 1) (less + 1) (level - 1) (omega arith) (one-place t n) (omega (arith, e)) in
           let z : suc (k - 1) ≡ k = omega arith in
-          let first : Between w K' L' r (k - 1) (p ∷ r) (suc (k - 1)) = kept name at-level none-kept in
+          let first : Between w K' L' r (k - 1) (p ∷ r) (suc (k - 1)) = kept (there .0) (there .1) none-kept in
           let one : Between w K' L' r (k - 1) (p ∷ r) k = rw z at first in
           record {
             r = r;
             still = record { here = (p .before, p .run, t); deep = omega (arith, e); all = f };
-            found = joined one (between-same b (λ j u v. (getD-set-other K (k - 1) j (less + 1) 0 (λ q. omega arith), getD-set-other L (k - 1) j (level - 1) 0 (λ q. omega arith))));
+            found = joined one (between-same b (λ j u v. put-other keeping (k - 1) (less + 1) (level - 1) j (λ q. omega arith)));
           }
 
 -- what the walk keeps, whatever is open
-pub record Again (w K₀ L₀ K L : List ℕ) (from depth bottom top at level k : ℕ) : Type 0 where
+pub record FindingAgain (w K₀ L₀ K L : List ℕ) (from depth bottom top at level k : ℕ) : Type 0 where
   pub keeping : Keeping K L top
   pub low : at ≤ 32768
   pub above : bottom ≤ k
@@ -284,11 +286,11 @@ pub record Again (w K₀ L₀ K L : List ℕ) (from depth bottom top at level k 
   pub same : (j : ℕ) → j < bottom → (getD K j 0 ≡ getD K₀ j 0) × (getD L j 0 ≡ getD L₀ j 0)
   pub each : (o : List Open) → AllOpen w from depth o → Finding w K L o top at level k
 
-pub again-begins : {w K L : List ℕ} {from depth bottom top : ℕ} → MayFind w K L from depth bottom top → Again w K L K L from depth bottom top from depth top
+pub again-begins : {w K L : List ℕ} {from depth bottom top : ℕ} → MayFind w K L from depth bottom top → FindingAgain w K L K L from depth bottom top from depth top
 again-begins m =
     record { keeping = m .keeping; low = m .near; above = m .ordered; below = omega arith; deep = omega arith; same = λ j u. (refl, refl); each = λ o a. find-begins a }
 
-module _ {w K₀ L₀ K L : List ℕ} {from depth bottom top at level k : ℕ} (h : Again w K₀ L₀ K L from depth bottom top at level k) (more : bottom < k)
+module _ {w K₀ L₀ K L : List ℕ} {from depth bottom top at level k : ℕ} (h : FindingAgain w K₀ L₀ K L from depth bottom top at level k) (more : bottom < k)
     (m : MayFind w K₀ L₀ from depth bottom top) where
   pub level-some : 0 < level
   level-some = omega (arith, h .deep, more, m .enough)
@@ -296,25 +298,18 @@ module _ {w K₀ L₀ K L : List ℕ} {from depth bottom top at level k : ℕ} (
   pub again-some : SomeOpen w at
   again-some = find-some (h .each (m .o) (m .all-open)) level-some
 
-  pub again-on : {less : ℕ} → ((p : Open) (r : List Open) → OpenAt w at (p ∷ r) → (less < at) × TagAt w less p r) → Again w K₀ L₀ (set K (k - 1) (less + 1)) (set L (k - 1) (level - 1)) from depth bottom top less (level - 1) (k - 1)
+  pub again-on : {less : ℕ} → ((p : Open) (r : List Open) → OpenAt w at (p ∷ r) → (less < at) × TagAt w less p r) → FindingAgain w K₀ L₀ (set K (k - 1) (less + 1)) (set L (k - 1) (level - 1)) from depth bottom top less (level - 1) (k - 1)
   again-on {less} met = record {
-    keeping = record {
-      names-long = length-set K (k - 1) (less + 1) ∙ h .keeping .names-long;
-      levels-long = length-set L (k - 1) (level - 1) ∙ h .keeping .levels-long;
-      few = h .keeping .few;
-    };
+    keeping = put-long (h .keeping) (k - 1) (less + 1) (level - 1) (h .keeping .few);
     low = let s = again-some in omega (arith, h .low, met (s .0) (s .1) (s .2) .0);
     above = omega arith;
     below = omega (arith, h .below);
     deep = omega (arith, h .deep, level-some);
-    same = λ j u. (
-      getD-set-other K (k - 1) j (less + 1) 0 (λ e. omega arith) ∙ h .same j u .0,
-      getD-set-other L (k - 1) j (level - 1) 0 (λ e. omega arith) ∙ h .same j u .1,
-    );
-    each = λ o a. find-on (h .each o a) level-some met (omega arith) (omega (arith, h .below, h .keeping .few)) (h .keeping .names-long) (h .keeping .levels-long);
+    same = λ j u. let other = put-other (h .keeping) (k - 1) (less + 1) (level - 1) j (λ e. omega arith) in (other .0 ∙ h .same j u .0, other .1 ∙ h .same j u .1);
+    each = λ o a. find-on (h .each o a) level-some met (omega arith) (omega (arith, h .below, h .keeping .few)) (h .keeping);
   }
 
-pub again-found : {w K₀ L₀ K L : List ℕ} {from depth bottom top at level k : ℕ} → Again w K₀ L₀ K L from depth bottom top at level k → k ≤ bottom →
+pub again-found : {w K₀ L₀ K L : List ℕ} {from depth bottom top at level k : ℕ} → FindingAgain w K₀ L₀ K L from depth bottom top at level k → k ≤ bottom →
     Finds w K₀ L₀ from depth bottom top K L
 again-found {w} {K = K} {L} {bottom = bottom} {top} {k = k} h e = record {
   keeping = h .keeping;
@@ -331,19 +326,19 @@ found-all b deep f more room =
     all-kept (f .found) more (omega (arith, f .many, deep)) (between-same (under (f .found) b (omega (arith, f .many, room))) (λ k u v. f .same k v))
 
 -- AN ELEMENT ENDS
-record Ended (w K L : List ℕ) (n : ℕ) (p : Open) (o : List Open) : Type 0 where
+record Gone (w K L : List ℕ) (n : ℕ) (p : Open) (o : List Open) : Type 0 where
   some : 0 < n
   from : NameFrom w p o (getD K (n - 1) 0)
   left : SomeKept w K L o (n - 1)
 
-ended : {w K L : List ℕ} {n : ℕ} {p : Open} {o : List Open} → InnermostKept w K L (p ∷ o) n → Ended w K L n p o
-ended {w} {K} {L} {p = p} {o = o} (innermost {n = n} x l b) =
+gone-of : {w K L : List ℕ} {n : ℕ} {p : Open} {o : List Open} → InnermostKept w K L (p ∷ o) n → Gone w K L n p o
+gone-of {w} {K} {L} {p = p} {o = o} (innermost {n = n} x l b) =
     let z : suc n - 1 ≡ n = omega arith in
     record { some = omega arith; from = rw z x; left = rw z b }
 
 module _ {w K L : List ℕ} {n depth : ℕ} (m : MayClose w K L n depth) where
-  abbrev gone : Ended w K L n (m .p) (m .o)
-  gone = ended (m .ending .kept)
+  abbrev gone : Gone w K L n (m .p) (m .o)
+  gone = gone-of (m .ending .kept)
 
   pub close-some : 0 < n
   close-some = gone .some
@@ -358,13 +353,13 @@ module _ {w K L : List ℕ} {n depth : ℕ} (m : MayClose w K L n depth) where
   pub close-kept : reaches L (n - 1) ≡ depth → ClosedOne w K L n depth K L (n - 1)
   close-kept e = record {
     keeping = record { names-long = m .keeping .names-long; levels-long = m .keeping .levels-long; few = omega (arith, m .keeping .few) };
-    it = λ p o h. reaches-all (ended (h .kept) .left) (e ∙ sym (h .deep));
+    it = λ p o h. reaches-all (gone-of (h .kept) .left) (e ∙ sym (h .deep));
   }
 
   -- or was forgotten: where the start tag stands, what is open then was open
   module _ {from top : ℕ} (from-is : from ≡ getD K (n - 1) 0 - 1) (more : n - 1 < top) (low : top ≤ 64) (room : reaches L (n - 1) + top ≤ depth + (n - 1)) where
-    then-open : (p : Open) (o : List Open) → Ending w K L n depth p o → AllOpen w from depth o
-    then-open p o h = rw from-is (record { here = (p .before, p .run, ended (h .kept) .from .tag); deep = h .deep; all = h .all })
+    then-open : (p : Open) (o : List Open) → ElementEnds w K L n depth p o → AllOpen w from depth o
+    then-open p o h = rw from-is (record { here = (p .before, p .run, gone-of (h .kept) .from .tag); deep = h .deep; all = h .all })
 
     pub close-may : MayFind w K L from depth (n - 1) top
     close-may = record {
@@ -380,7 +375,7 @@ module _ {w K L : List ℕ} {n depth : ℕ} (m : MayClose w K L n depth) where
     pub close-found : {K' L' : List ℕ} → Finds w K L from depth (n - 1) top K' L' → ClosedOne w K L n depth K' L' top
     close-found f = record {
       keeping = f .keeping;
-      it = λ p o h. found-all (ended (h .kept) .left) (h .deep) (f .each o (then-open p o h)) more room;
+      it = λ p o h. found-all (gone-of (h .kept) .left) (h .deep) (f .each o (then-open p o h)) more room;
     }
 
 -- where they start
@@ -393,5 +388,5 @@ kept-low {w} {K} (kept {n = n} x l b) k h = go (ltb k n) refl (kept-low b k)
     go true e again = again (ltb-true k n e)
     go false e again = let z : k ≡ n = omega (arith, ltb-false k n e) in rw z (omega (arith, x .named .behind))
 
-pub kept-places : {w K L : List ℕ} {o : List Open} {n : ℕ} → SomeKept w K L o n → n ≡ 64 → length w ≤ 32768 → Places K
-kept-places b e short = record { low = λ k h. omega (arith, kept-low b k (omega (arith, e)), short) }
+pub kept-low-names : {w K L : List ℕ} {o : List Open} {n : ℕ} → SomeKept w K L o n → n ≡ 64 → length w ≤ 32768 → LowNames K
+kept-low-names b e short = record { low = λ k h. omega (arith, kept-low b k (omega (arith, e)), short) }

@@ -51,8 +51,8 @@ pub data AllFrom (w : List ℕ) : List Open → Type 0 where
   none-open : AllFrom w []
   one-more : {p : Open} {o : List Open} (x : ℕ) → NameFrom w p o x → AllFrom w o → AllFrom w (p ∷ o)
 
--- names has at m and behind it, up to n, names of elements that are open in o' and not in o, the outer ones first, some forgotten;
--- and around how many elements each of them stands, which levels has
+-- from m up to n names has names of elements that are open in o' and not in o, the outer ones first, some forgotten; and levels, by how
+-- many elements each of them is held
 pub data Between (w names levels : List ℕ) (o : List Open) (m : ℕ) : List Open → ℕ → Type 0 where
   none-kept : Between w names levels o m o m
   forgotten : {p : Open} {o' : List Open} {n : ℕ} → Between w names levels o m o' n → Between w names levels o m (p ∷ o') n
@@ -76,7 +76,7 @@ pub record Keeping (names levels : List ℕ) (kept : ℕ) : Type 0 where
   pub few : kept ≤ 64
 
 -- all are places of a document
-pub record Places (names : List ℕ) : Type 0 where
+pub record LowNames (names : List ℕ) : Type 0 where
   pub low : (k : ℕ) → k < 64 → getD names k 0 ≤ 32768
 
 -- of the first 48 names one stays for each block, the others stay
@@ -132,7 +132,7 @@ reaches levels zero = 0
 reaches levels (suc n) = getD levels n 0 + 1
 
 -- AN ELEMENT ENDS, p, so that the elements o are open
-pub record Ending (w names levels : List ℕ) (n depth : ℕ) (p : Open) (o : List Open) : Type 0 where
+pub record ElementEnds (w names levels : List ℕ) (n depth : ℕ) (p : Open) (o : List Open) : Type 0 where
   pub kept : InnermostKept w names levels (p ∷ o) n
   pub all : AllFrom w o
   pub deep : length o ≡ depth
@@ -143,8 +143,8 @@ pub record MayClose (w names levels : List ℕ) (kept depth : ℕ) : Type 0 wher
   pub short : length w ≤ 32768
   pub p : Open
   pub o : List Open
-  pub ending : Ending w names levels kept depth p o
+  pub ending : ElementEnds w names levels kept depth p o
 
 pub record ClosedOne (w names levels : List ℕ) (kept depth : ℕ) (names' levels' : List ℕ) (r : ℕ) : Type 0 where
   pub keeping : Keeping names' levels' r
-  pub it : (p : Open) (o : List Open) → Ending w names levels kept depth p o → InnermostKept w names' levels' o r
+  pub it : (p : Open) (o : List Open) → ElementEnds w names levels kept depth p o → InnermostKept w names' levels' o r

@@ -6,9 +6,9 @@ ghost use Rattle.tokens.specs.Tokens.{Classed};
 ghost use Rattle.judge.specs.Tags.{RunTo, Done, Last};
 ghost use Rattle.judge.specs.Verdict.{Verdict};
 
-pub mod back;
+mod back;
 pub mod codes;
-pub mod names;
+mod names;
 pub mod tags;
 
 use codes::DEEPEST;

@@ -6,11 +6,11 @@
 ghost use mathlib.Core.Path.{_≡_};
 ghost use Prim.Native.Nat.{_-_, _≤_, _<_, min};
 ghost use lib.ListN.{length, getD};
-ghost use Rattle.judge.specs.OpenNames.{Keeping, Places, Stays, Spared, OpenedOne, MayFind, Finds, reaches, MayClose, ClosedOne};
+ghost use Rattle.judge.specs.OpenNames.{Keeping, LowNames, Stays, Spared, OpenedOne, MayFind, Finds, reaches, MayClose, ClosedOne};
 use super::back::innermost_before;
 use meaning::short;
 
-pub const MOST_NAMES: usize = 64;
+const MOST_NAMES: usize = 64;
 
 // So many of the inner names stay, however near to each other they stand.
 const INNER: usize = 16;
@@ -36,7 +36,7 @@ struct Stay {
 }
 
 fn stays(names: &[u16; 64], j: usize, block: usize) -> Stay
-    requires { ⌜ (length (now names) ≡ 64) × Places (now names) × (j < 64) × (block ≤ 32) ⌝ }
+    requires { ⌜ (length (now names) ≡ 64) × LowNames (now names) × (j < 64) × (block ≤ 32) ⌝ }
     ensures { λ r. ⌜ Stays j block (r .count) (r .block) ⌝ }
 {
     if MOST_NAMES - INNER <= j {
@@ -60,7 +60,7 @@ fn stays(names: &[u16; 64], j: usize, block: usize) -> Stay
 
 // All places are taken: some are freed. A name is put to its new place whether it stays or not, and counted only if it stays.
 fn thin(names: &mut [u16; 64], levels: &mut [u16; 64]) -> usize
-    requires { ⌜ Keeping (now names) (now levels) 64 × Places (now names) ⌝ }
+    requires { ⌜ Keeping (now names) (now levels) 64 × LowNames (now names) ⌝ }
     ensures { λ r. ⌜ Spared (now (names .entry)) (now (levels .entry)) 64 (now (names .exit)) (now (levels .exit)) r ⌝ }
 {
     let mut count: usize = 0;
@@ -79,7 +79,7 @@ fn thin(names: &mut [u16; 64], levels: &mut [u16; 64]) -> usize
 
 // Room for one more.
 fn spare(names: &mut [u16; 64], levels: &mut [u16; 64], kept: usize) -> usize
-    requires { ⌜ Keeping (now names) (now levels) kept × (kept ≡ 64 → Places (now names)) ⌝ }
+    requires { ⌜ Keeping (now names) (now levels) kept × (kept ≡ 64 → LowNames (now names)) ⌝ }
     ensures { λ r. ⌜ Spared (now (names .entry)) (now (levels .entry)) kept (now (names .exit)) (now (levels .exit)) r ⌝ }
 {
     if kept < MOST_NAMES {
@@ -96,7 +96,7 @@ pub fn open(
     depth: usize,
     name: usize,
 ) -> usize
-    requires { ⌜ Keeping (now names) (now levels) kept × (kept ≡ 64 → Places (now names)) × (depth < 65536) × (name < 65536) ⌝ }
+    requires { ⌜ Keeping (now names) (now levels) kept × (kept ≡ 64 → LowNames (now names)) × (depth < 65536) × (name < 65536) ⌝ }
     ensures { λ r. ⌜ OpenedOne (now (names .entry)) (now (levels .entry)) kept depth name (now (names .exit)) (now (levels .exit)) r ⌝ }
 {
     let k = spare(names, levels, kept);

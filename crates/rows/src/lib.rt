@@ -1,4 +1,4 @@
 // The rows of a document, noted in one pass.
 pub mod note;
-pub mod stack;
+mod stack;
 pub mod tags;

@@ -5,7 +5,7 @@ use lib.ListN.{length, length-replicate}
 use Rattle.judge.proofs.Machine.{there}
 use Rattle.tokens.specs.Tokens.{bytes}
 use Rattle.judge.specs.Tags.{Does}
-use Rattle.judge.specs.OpenNames.{Places}
+use Rattle.judge.specs.OpenNames.{LowNames}
 use Rattle.judge.specs.declared.tags.Tag.{Tag}
 use Rattle.judge.specs.declared.tags.Tag.the-variants.{Refused, Opens, Empty, Closes}
 use Rattle.judge.proofs.Judging.{Scanned, begins, tagging, closed-within, room-open, room-close, bound, bound-now, may-open, may-close, opens, empties, some-open, closes, ends, outside-is}
@@ -83,7 +83,7 @@ closed-to c = subst (does (closing c)) (c .before .next3 .given .1) (told (closi
 room : (c : tie.After-known-told2 Inv-loop μ-loop) → head (opening c) .loop .depth < 10922
 room c = let h = head (opening c) in room-open (h .loop .inv) (ran (counted (opening c)) .run-end .ensures) (short h) _ (opened-to c .1)
 
-may : (c : tie.After-known-told2 Inv-loop μ-loop) → (head (opening c) .loop .kept ≡ 64 → Places (head (opening c) .loop .names)) × (end (opening c) + 1 < 65536)
+may : (c : tie.After-known-told2 Inv-loop μ-loop) → (head (opening c) .loop .kept ≡ 64 → LowNames (head (opening c) .loop .names)) × (end (opening c) + 1 < 65536)
 may c = let h = head (opening c) in may-open (h .loop .inv) (ran (counted (opening c)) .run-end .ensures) (short h)
 
 -- where one closes, one is open

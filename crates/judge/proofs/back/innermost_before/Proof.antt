@@ -6,12 +6,12 @@ use Rattle.grammar.specs.Machine.{Open}
 use Rattle.judge.specs.declared.back.Back.{Back}
 use Rattle.judge.specs.declared.back.Back.the-variants.{Start, Empty, End}
 use Rattle.judge.specs.OpenNames.{OpenAt, SomeOpen, TagBefore}
-use Rattle.judge.proofs.WalkBack.{Passing, pass-begins, before-end, before-empty, before-start, pass-some, pass-end, pass-empty, pass-start, pass-found}
+use Rattle.judge.proofs.WalkBack.{PassingBack, pass-begins, before-end, before-empty, before-start, pass-some, pass-end, pass-empty, pass-start, pass-found}
 use Rattle.judge.proofs.back.innermost_before.Statement.{statement}
 use Rattle.judge.proofs.back.innermost_before.Tie as tie
 
 abbrev Inv-loop : tie.InvT-loop
-Inv-loop document from at₀ inside₀ at inside = (p : Open) (o : List Open) → OpenAt document from (p ∷ o) → Passing document from (p ∷ o) at inside
+Inv-loop document from at₀ inside₀ at inside = (p : Open) (o : List Open) → OpenAt document from (p ∷ o) → PassingBack document from (p ∷ o) at inside
 
 abbrev μ-loop : tie.MeasureT-loop
 μ-loop document from at₀ inside₀ at inside = at

@@ -1,13 +1,13 @@
 use Prim.Native.Nat.{_<_}
 use Rattle.judge.specs.OpenNames.{SomeOpen}
 use native.Mathlib.Omega.{arith}
-use Rattle.judge.proofs.OpenNames.{Again, again-begins, level-some, again-some, again-on, again-found}
+use Rattle.judge.proofs.OpenNames.{FindingAgain, again-begins, level-some, again-some, again-on, again-found}
 use borrow.Author.Needs.{needs}
 use Rattle.judge.proofs.names.find_again.Statement.{statement}
 use Rattle.judge.proofs.names.find_again.Tie as tie
 
 abbrev Inv-loop : tie.InvT-loop
-Inv-loop document names₀ levels₀ from depth bottom top at₀ level₀ k₀ names levels at level k = Again document names₀ levels₀ names levels from depth bottom top at level k
+Inv-loop document names₀ levels₀ from depth bottom top at₀ level₀ k₀ names levels at level k = FindingAgain document names₀ levels₀ names levels from depth bottom top at level k
 
 abbrev μ-loop : tie.MeasureT-loop
 μ-loop document names₀ levels₀ from depth bottom top at₀ level₀ k₀ names levels at level k = k

@@ -1,6 +1,5 @@
 use mathlib.Core.Path.{_≡_}
 use native.Mathlib.Omega.{arith}
-use borrow.Author.Needs.{needs}
 use Rattle.judge.proofs.OpenNames.{spared-full, spared-some}
 use Rattle.judge.proofs.names.spare.Statement.{statement}
 use Rattle.judge.proofs.names.spare.Tie as tie
