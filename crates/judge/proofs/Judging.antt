@@ -18,11 +18,11 @@ use Rattle.grammar.proofs.Theory.{accepted, accepts}
 use Rattle.grammar.proofs.Trees.{leafRows, contentRows, contentDepth, one-leaf, shape-rows, shape-depth}
 use Rattle.grammar.proofs.Positions.{posS, at-good, at-place, three}
 use Rattle.tokens.specs.Tokens.{Span, bytes, levelOf, runAt}
-use Rattle.judge.specs.Tags.{RunTo, opened, Closed, closed, OpenedTo, EmptyTo, Top, Tagging, Done, too-deep, too-many, done, Last, ended, early}
+use Rattle.judge.specs.Tags.{RunTo, Closed, closed, OpenedTo, EmptyTo, Top, Tagging, Done, too-deep, too-many, done, Last, ended, early}
 use Rattle.judge.specs.Verdict.{Verdict, outside, deep, many, read}
-use Rattle.judge.specs.OpenNames.{NameFrom, AllFrom, none-open, one-more, InnermostKept, all-closed, Keeping, LowNames, OpenedOne, MayClose, ClosedOne}
+use Rattle.openings.specs.OpenNames.{opened, NameFrom, AllFrom, none-open, one-more, InnermostKept, all-closed, innermost, Keeping, LowNames, OpenedOne, MayClose, ClosedOne}
 use Rattle.judge.proofs.Machine.{run-walk, run-refused}
-use Rattle.judge.proofs.OpenNames.{some-kept, top-kept, kept-low-names}
+use Rattle.openings.proofs.OpenNames.{some-kept, kept-low-names}
 
 -- THE LAST RUN
 pub early-is : {length at depth rows deep c p n : ℕ} → (c ≡ 3) × (p ≡ at) × (n ≡ 0) → (length ≤ at → depth ≡ 0 → 0 < rows → ⊥) →
@@ -125,6 +125,13 @@ module _ {w : List ℕ} {i depth rows : ℕ} (k : Walked w i depth rows) {a n : 
             rows-are = outer-rows d ∙ rw (run .outside d) (omega arith) ∙ sym (shape-rows (k .f));
           }
       go (p ∷ o) e s = absurd (omega (arith, d, e))
+
+-- the innermost one's name is the last that is kept
+pub top-kept : {w K L : List ℕ} {o : List Open} {n x : ℕ} → InnermostKept w K L o n → (0 < n → x ≡ getD K (n - 1) 0) → Top w x o
+top-kept all-closed h = tt
+top-kept {w} {K} {x = x} (innermost {p} {n = n} from l b) h =
+    let e : x ≡ getD K n 0 = (let z : suc n - 1 ≡ n = omega arith in rw z at (h (omega arith))) in
+    rw e (from .named)
 
 -- the loop's invariant
 pub record Scanned (w K L : List ℕ) (i kept depth rows deep : ℕ) : Type 0 where

@@ -12,16 +12,13 @@ use borrow.Author.Tests.{ltb-true, ltb-false, eqb-true, ne-eqb}
 use Rattle.grammar.specs.Classes.{white, nameStart, nameByte, classOf}
 use Rattle.grammar.specs.Grammar.{Bytes, ε, _▸_, _⊲_, Content, nothing, emptyElement, element, OutsideAt}
 use Rattle.grammar.specs.Machine.{mayFollow, Open, State, dead, inRun, afterLess, inName, inSpace, afterSlash, inEndName, inEndSpace, level, endTag, tag, tail, step, runs, initial, Final, At}
-use Rattle.grammar.proofs.Theory.{Live, runs-append, dies-at, ends-early, not-less, white-no-name}
+use Rattle.grammar.proofs.Theory.{Live, dies-at, ends-early, not-less, white-no-name}
 use Rattle.grammar.specs.Rows.{#}
-use Rattle.judge.specs.Tags.{Named}
+use Rattle.openings.specs.OpenNames.{Named}
+use Rattle.openings.proofs.LastTag.{next-is}
 use Rattle.tokens.specs.Tokens.{Passed, Span, bytes, whiteAt, nameAt, runAt, sameAt}
 
 -- ONE STEP
-pub next-is : (w : List ℕ) (j : ℕ) (z : State) → runs initial (take j w) ≡ z → j < length w → runs initial (take (suc j) w) ≡ step z (getD w j 0)
-next-is w j z e h =
-    rw (take-suc w j 0 h, runs-append initial (take j w) (getD w j 0 ∷ [])) (ap (λ (s : State). step s (getD w j 0)) e)
-
 pub at-more : {w : List ℕ} {j : ℕ} {z : State} → At w j z → j < length w → At w (j + 1) (step z (getD w j 0))
 at-more {w} {j} {z} a h = record { within = omega arith; is = rw (add-one j) (next-is w j z (a .is) h) }
 

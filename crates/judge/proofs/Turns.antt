@@ -16,8 +16,10 @@ use Rattle.judge.specs.declared.tags.Tag.{Tag}
 use Rattle.judge.specs.declared.tags.Tag.the-variants.{Refused, Opens, Empty, Closes}
 use Rattle.judge.specs.declared.tags.Kind.the-variants.{Nothing, Start, End}
 use Rattle.tokens.specs.Tokens.{Passed, Span, bytes, whiteAt, nameAt, levelOf, runAt, textAt, sameAt}
-use Rattle.judge.specs.Tags.{RunTo, Named, closed, Does, Ends, Started, Ended, Top, Tagging, Tagged, KindOf, second-root, root, inner-start, inner-end}
-use Rattle.tokens.proofs.Spans.{text-yes, name-yes, less-stops}
+use Rattle.judge.specs.Tags.{RunTo, closed, Does, Ends, Started, Ended, Top, Tagging, Tagged, KindOf, second-root, root, inner-start, inner-end}
+use Rattle.tokens.proofs.Spans.{text-yes, less-stops}
+use Rattle.openings.specs.OpenNames.{Named}
+use Rattle.openings.proofs.LastTag.{start-name}
 use Rattle.judge.proofs.Machine.{at-byte, at-same, there, refuse, start-refused, opens, empties, slash-refused, space-refused, end-refused, closes, close-refused}
 
 -- A RUN
@@ -99,10 +101,6 @@ name-there w a h = go (ltb a (length w)) refl
     go : (t : Bool) → ltb a (length w) ≡ t → a < length w
     go true e = ltb-true a (length w) e
     go false e = absurd (true≢false (sym h ∙ ap nameStart (List·getD-eq-default w 0 (ltb-false a (length w) e))))
-
-pub start-name : (b : ℕ) → nameStart b ≡ true → nameByte b ≡ true
-unfolding nameStart
-start-name b h = name-yes (classOf b) b refl (omega (arith, eqb-true (classOf b) 5 h))
 
 pub count : (w : List ℕ) (a n : ℕ) → # (bytes w a n) ≡ n
 unfolding bytes

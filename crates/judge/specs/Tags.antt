@@ -15,6 +15,7 @@ use Rattle.judge.specs.declared.tags.Tag.the-variants.{Refused, Opens, E
 use Rattle.judge.specs.declared.tags.Kind.{Kind}
 use Rattle.judge.specs.declared.tags.Kind.the-variants.{Nothing, Start, End}
 use Rattle.tokens.specs.Tokens.{Span, bytes, nameAt, levelOf, runAt}
+use Rattle.openings.specs.OpenNames.{Named, opened}
 
 -- the run that starts at a ends at r, and makes so many rows
 pub record RunTo (w : List ℕ) (depth a r n : ℕ) : Type 0 where
@@ -22,15 +23,6 @@ pub record RunTo (w : List ℕ) (depth a r n : ℕ) : Type 0 where
   pub makes : n ≡ cond (inked (bytes w a (r - a))) 1 0
   pub outside : depth ≡ 0 → n ≡ 0
   pub few : n ≤ 1
-
--- the name n stands at a, and a byte of no name behind it
-pub record Named (w : List ℕ) (a : ℕ) (n : Bytes) : Type 0 where
-  pub is : n ≡ bytes w a (# n)
-  pub span : Span (nameAt w) w a (a + # n)
-  pub behind : a + # n < length w
-
-abbrev pub opened : Content → Bytes → Bytes → Bytes → Open
-opened f t n g = record { before = f; run = t; name = n; space = g }
 
 -- the innermost open element ends, its end tag at e
 pub data Closed (w : List ℕ) (e : ℕ) : List Open → Content → Bytes → Type 0 where

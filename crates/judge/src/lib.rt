@@ -6,9 +6,7 @@ ghost use Rattle.tokens.specs.Tokens.{Classed};
 ghost use Rattle.judge.specs.Tags.{RunTo, Done, Last};
 ghost use Rattle.judge.specs.Verdict.{Verdict};
 
-mod back;
 pub mod codes;
-mod names;
 pub mod tags;
 
 use codes::DEEPEST;
@@ -19,9 +17,9 @@ use codes::READ;
 use codes::TOO_DEEP;
 use codes::TOO_LONG;
 use codes::TOO_MANY;
-use names::close;
-use names::innermost;
-use names::open;
+use openings::names::close;
+use openings::names::innermost;
+use openings::names::open;
 use tags::Tag;
 use tags::next_tag;
 use tokens::class::byte_at;

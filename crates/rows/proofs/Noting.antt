@@ -13,7 +13,8 @@ use Rattle.grammar.proofs.Trees.{leafRows, contentRows, contentDepth, shape-dep
 use Rattle.grammar.proofs.Positions.{offO, posS, at-place}
 use Rattle.grammar.proofs.Emitted.{leafOn, namedOn, rowsOn, rowsO, atRun, atTag, atName, rowsS, rows-same}
 use Rattle.tokens.specs.Tokens.{Span, bytes, nameAt}
-use Rattle.judge.specs.Tags.{RunTo, Named, opened, Closed, closed, OpenedTo, EmptyTo, Top, Tagging}
+use Rattle.judge.specs.Tags.{RunTo, Closed, closed, OpenedTo, EmptyTo, Top, Tagging}
+use Rattle.openings.specs.OpenNames.{Named, opened}
 use Rattle.judge.proofs.Turns.{count, less}
 use Rattle.judge.proofs.Judging.{rowsO as countO, deepO, Walked, Finished, made, to-tag, refused, finished}
 use Rattle.labels.specs.Lists.{Holds, Long, Put}

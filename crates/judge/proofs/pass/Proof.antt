@@ -5,7 +5,7 @@ use lib.ListN.{length, length-replicate}
 use Rattle.judge.proofs.Machine.{there}
 use Rattle.tokens.specs.Tokens.{bytes}
 use Rattle.judge.specs.Tags.{Does}
-use Rattle.judge.specs.OpenNames.{LowNames}
+use Rattle.openings.specs.OpenNames.{LowNames}
 use Rattle.judge.specs.declared.tags.Tag.{Tag}
 use Rattle.judge.specs.declared.tags.Tag.the-variants.{Refused, Opens, Empty, Closes}
 use Rattle.judge.proofs.Judging.{Scanned, begins, tagging, closed-within, room-open, room-close, bound, bound-now, may-open, may-close, opens, empties, some-open, closes, ends, outside-is}

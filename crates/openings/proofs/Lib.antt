@@ -1,0 +1,3 @@
+pub mod LastTag
+pub mod WalkBack
+pub mod OpenNames
