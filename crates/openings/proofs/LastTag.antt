@@ -20,6 +20,7 @@ use Rattle.openings.specs.OpenNames.{opened, OpenAt, SomeOpen, LastMarku
 use Rattle.openings.specs.declared.back.Back.the-variants.{Start, Empty, End}
 use Rattle.tokens.proofs.Spans.{name-yes}
 
+-- what may begin a name may stand in it
 pub start-name : (b : ℕ) → nameStart b ≡ true → nameByte b ≡ true
 unfolding nameStart
 start-name b h = name-yes (classOf b) b refl (omega (arith, eqb-true (classOf b) 5 h))

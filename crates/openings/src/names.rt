@@ -4,11 +4,12 @@
 // ended, and with it the forgotten names around it, as many as there is room for. So no walk leaves its block, and between two that pass
 // over the same bytes sixteen elements or more end, since the sixteen innermost names stay.
 ghost use mathlib.Core.Path.{_≡_};
-ghost use Prim.Native.Nat.{_-_, _≤_, _<_, min};
+ghost use Prim.Native.Nat.{_-_, _≤_, _<_};
 ghost use lib.ListN.{length, getD};
 ghost use Rattle.openings.specs.OpenNames.{Keeping, LowNames, Stays, Spared, OpenedOne, MayFind, Finds, reaches, MayClose, ClosedOne};
 use super::back::innermost_before;
 use meaning::short;
+use tokens::least;
 
 const MOST_NAMES: usize = 64;
 
@@ -141,12 +142,6 @@ fn reach(levels: &[u16; 64], kept: usize) -> usize
     short(levels[kept - 1]) + 1
 }
 
-fn fewer(a: usize, b: usize) -> usize
-    ensures { λ r. ⌜ r ≡ min a b ⌝ }
-{
-    if a < b { a } else { b }
-}
-
 // The innermost element ends, and `depth` are open then: how many names are kept.
 pub fn close(
     document: &[u8],
@@ -164,7 +159,7 @@ pub fn close(
         return left;
     }
     let from = short(names[left]) - 1;
-    let top = left + fewer(depth - known, MOST_NAMES - left);
+    let top = left + least(depth - known, MOST_NAMES - left);
     find_again(document, names, levels, from, depth, left, top);
     top
 }

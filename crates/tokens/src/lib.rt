@@ -74,7 +74,7 @@ fn blank_end(document: &[u8], from: usize) -> usize
     i
 }
 
-fn least(a: usize, b: usize) -> usize
+pub fn least(a: usize, b: usize) -> usize
     ensures { λ r. ⌜ r ≡ min a b ⌝ }
 {
     if a < b { a } else { b }

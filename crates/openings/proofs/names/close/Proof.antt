@@ -33,17 +33,17 @@ start c = c .before .before .before .before .before .before
 sub-from : tie.Need-sub-from
 sub-from c = rw (c .short .ensures .0) (close-place (start c .pre) .0)
 
-sub-fewer : tie.Need-sub-fewer
-sub-fewer c = rw (c .before .before .before .reach .ensures) (close-reaches (start c .pre))
+sub-least : tie.Need-sub-least
+sub-least c = rw (c .before .before .before .reach .ensures) (close-reaches (start c .pre))
 
-sub-fewer-2 : tie.Need-sub-fewer-2
-sub-fewer-2 c = search needs
+sub-least-2 : tie.Need-sub-least-2
+sub-least-2 c = search needs
 
-fewer-requires : tie.Need-fewer-requires
-fewer-requires c κs = search needs
+least-requires : tie.Need-least-requires
+least-requires c κs = search needs
 
 -- some were forgotten, and are found in the room that is left
-module _ (c : tie.After-fewer) where
+module _ (c : tie.After-least) where
   abbrev begun : tie.Start
   begun = start (c .before)
 
@@ -51,19 +51,19 @@ module _ (c : tie.After-fewer) where
   left = begun .args .kept - 1
 
   abbrev top : ℕ
-  top = left + c .fewer .result
+  top = left + c .least .result
 
   known : reaches (begun .args .levels .now) left < begun .args .depth
   known = omega (arith, close-reaches (begun .pre), c .before .before .before .before .reach .ensures, c .before .before .before .if1 .left)
 
   more : left < top
-  more = omega (arith, known, c .before .before .before .before .reach .ensures, c .fewer .ensures, begun .pre .keeping .few, close-some (begun .pre))
+  more = omega (arith, known, c .before .before .before .before .reach .ensures, c .least .ensures, begun .pre .keeping .few, close-some (begun .pre))
 
   low : top ≤ 64
-  low = omega (arith, c .fewer .ensures, begun .pre .keeping .few)
+  low = omega (arith, c .least .ensures, begun .pre .keeping .few)
 
   room : reaches (begun .args .levels .now) left + top ≤ begun .args .depth + left
-  room = omega (arith, known, c .before .before .before .before .reach .ensures, c .fewer .ensures)
+  room = omega (arith, known, c .before .before .before .before .reach .ensures, c .least .ensures)
 
   from-is : c .before .short .result - 1 ≡ getD (begun .args .names .now) left 0 - 1
   from-is = ap (λ (k : ℕ). k - 1) (c .before .short .ensures .0)
@@ -88,9 +88,9 @@ close-spec =
     element-copy-out-short
     short-requires
     sub-from
-    sub-fewer
-    sub-fewer-2
-    fewer-requires
+    sub-least
+    sub-least-2
+    least-requires
     add-top
     find-again-requires
     returns-2)
