@@ -1,7 +1,7 @@
 /* Khargovsun for C and C++: link the archive of the crate `site` (`rt staticlib site`), or see tests/c/run.
  *
- * First the numbers by name; then the seven functions that the archive has, in which every list is a pointer and then its number of
- * entries; and last structs and functions over the seven that take a tree, a pattern or a problem as one thing, so that two lists cannot
+ * First the numbers by name; then the eight functions that the archive has, in which every list is a pointer and then its number of
+ * entries; and last structs and functions over the eight that take a tree, a pattern or a problem as one thing, so that two lists cannot
  * be exchanged unseen.
  *
  * A pointer may be null where its number of entries is 0. Lists that are written must not overlap any other list of the call.
@@ -31,6 +31,7 @@
 #define KHARGOVSUN_MAX_PATTERN_ROWS 256
 #define KHARGOVSUN_MAX_VARIABLES 16
 #define KHARGOVSUN_MAX_EXPRESSION_ROWS 64
+#define KHARGOVSUN_MAX_PROBLEMS 32 /* of a panel */
 #define KHARGOVSUN_LABELS 65536 /* labels and symbols are below this */
 
 /* ---- Labels ----
@@ -61,6 +62,7 @@
 #define KHARGOVSUN_CODE_NO_ROOM_FOR_INSTANCE 17
 #define KHARGOVSUN_CODE_FORGOTTEN_EXPRESSION 19 /* a table with an expression that no variable names; asked directly after 14 */
 #define KHARGOVSUN_CODE_NO_MATCHER 20 /* a good record that is not a matcher's */
+#define KHARGOVSUN_CODE_PANEL 21 /* the lists of a panel do not agree or do not add up */
 
 /* ---- Endings of a listing ---- */
 
@@ -93,7 +95,7 @@
 extern "C" {
 #endif
 
-/* ---- The seven functions of the archive ---- */
+/* ---- The eight functions of the archive ---- */
 
 /* Code times 4,294,967,296, plus the rows (code 0), the place (code 3) or 0 (codes 1, 2, 4 and 5). Writes nothing. Who reads the document
  * anyhow need not check it before: read gives the same codes, and 6. */
@@ -145,6 +147,31 @@ khargovsun_listing khargovsun_list_after(const uint32_t *label, size_t label_len
                                          const uint32_t *constraint, size_t constraint_length,
                                          const uint32_t *record, size_t record_length,
                                          uint32_t budget, uint32_t *out, size_t out_length);
+
+/* A panel: up to KHARGOVSUN_MAX_PROBLEMS problems over one tree, which is judged once. The problems' patterns are laid end to end in the three pattern lists,
+ * their expression tables in the next three, their constraints in the next one: pattern_length[i] rows, expression_length[i] rows and
+ * constraint_length[i] numbers belong to problem i. So do budget[i] and the next share[i] entries of out.
+ *
+ * Each problem is answered as by a khargovsun_list of its own on its part of out, also where another is refused: answer[4 * i] up to
+ * answer[4 * i + 3] are its code, ending, records and tries, and its records stand from the first entry of its part on, the rest of which is unchanged.
+ *
+ * Gives 0; or 21, before all other codes, and then neither out nor answer is written. It gives 21 exactly unless all of these hold: the last five
+ * lists before out have one common number of entries, at most 32, and answer has four times as many; the pattern lengths add up to the
+ * number of entries of each pattern list, the expression lengths to that of each expression list, the constraint lengths to that of the constraint list,
+ * and the shares to that of out, exactly and without wrapping. A tree that is none is no 21 but the 11 of each answer. No problem at all is
+ * answered by 0. */
+uint32_t khargovsun_panel(const uint32_t *label, size_t label_length, const uint32_t *size, size_t size_length,
+                          const uint32_t *kind, size_t kind_length, const uint32_t *name, size_t name_length,
+                          const uint32_t *pattern_size, size_t pattern_size_length,
+                          const uint32_t *expression_kind, size_t expression_kind_length,
+                          const uint32_t *expression_name, size_t expression_name_length,
+                          const uint32_t *expression_size, size_t expression_size_length,
+                          const uint32_t *constraint, size_t constraint_list_length,
+                          const uint32_t *pattern_length, size_t pattern_length_length,
+                          const uint32_t *expression_length, size_t expression_length_length,
+                          const uint32_t *constraint_length, size_t constraint_length_length,
+                          const uint32_t *budget, size_t budget_length, const uint32_t *share, size_t share_length,
+                          uint32_t *out, size_t out_length, uint32_t *answer, size_t answer_length);
 
 typedef struct {
     uint32_t code, yes;
@@ -230,6 +257,17 @@ typedef struct {
     khargovsun_constraints constraints;
 } khargovsun_problem;
 
+/* Problems over one tree: the rows and numbers of all of them end to end, and for each problem how many are its own, its budget and its share of
+ * the entries that the lister fills. */
+typedef struct {
+    khargovsun_tree tree;
+    khargovsun_pattern patterns;
+    khargovsun_expressions expressions;
+    khargovsun_constraints constraints;
+    const uint32_t *pattern_rows, *expression_rows, *constraint_numbers, *budgets, *shares;
+    size_t problems;
+} khargovsun_problems;
+
 /* What the reader fills: four lists with room for so many rows each. */
 typedef struct {
     uint32_t *label, *size, *start, *length;
@@ -289,6 +327,16 @@ static inline khargovsun_listing khargovsun_list_matchers_after(const khargovsun
                                  p->pattern.name, p->pattern.rows, p->pattern.size, p->pattern.rows, p->expressions.kind, p->expressions.rows,
                                  p->expressions.name, p->expressions.rows, p->expressions.size, p->expressions.rows, p->constraints.at,
                                  p->constraints.length, record.at, record.length, budget, out.at, out.length);
+}
+
+/* khargovsun_panel: as many answers as problems are written. */
+static inline uint32_t khargovsun_list_panel(const khargovsun_problems *p, khargovsun_lent_records out, khargovsun_listing *answers) {
+    return khargovsun_panel(p->tree.label, p->tree.rows, p->tree.size, p->tree.rows, p->patterns.kind, p->patterns.rows,
+                            p->patterns.name, p->patterns.rows, p->patterns.size, p->patterns.rows, p->expressions.kind, p->expressions.rows,
+                            p->expressions.name, p->expressions.rows, p->expressions.size, p->expressions.rows, p->constraints.at,
+                            p->constraints.length, p->pattern_rows, p->problems, p->expression_rows, p->problems, p->constraint_numbers,
+                            p->problems, p->budgets, p->problems, p->shares, p->problems, out.at, out.length, (uint32_t *)answers,
+                            4 * p->problems);
 }
 
 /* khargovsun_test. */

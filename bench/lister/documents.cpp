@@ -9,6 +9,7 @@
 namespace {
 
 constexpr unsigned ROWS = 1990, BYTES_A_ROW = 13, DEEPEST = 60;
+const char DICTIONARY[] = "g\nf\nh\na\nb\n";
 
 class Writer {
 public:
@@ -162,6 +163,8 @@ const struct {
 
 const unsigned RATES[] = {4, 6, 10, 16, 25, 50};
 
+const uint8_t *bytes(const char *text) { return reinterpret_cast<const uint8_t *>(text); }
+
 } // namespace
 
 std::vector<Document> documents() {
@@ -175,4 +178,14 @@ std::vector<Document> documents() {
         }
     }
     return all;
+}
+
+Rows tree_of(const Document &d) {
+    Numbers label(MOST_ROWS), size(MOST_ROWS), start(MOST_ROWS), length(MOST_ROWS);
+    auto answer = khargovsun_read(bytes(DICTIONARY), sizeof DICTIONARY - 1, bytes(d.bytes.data()), d.bytes.size(), label.data(),
+                                  label.size(), size.data(), size.size(), start.data(), start.size(), length.data(), length.size());
+    if (answer.code != 0) fail(d.name.c_str(), "the reader refuses it");
+    label.resize(answer.rows);
+    size.resize(answer.rows);
+    return {{}, label, size};
 }

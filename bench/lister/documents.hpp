@@ -3,9 +3,16 @@
 #include <string>
 #include <vector>
 
+#include "problem.hpp"
+
 struct Document {
     std::string name, bytes;
     unsigned f_rows; // elements named f; no text is spelled f
 };
 
 std::vector<Document> documents();
+
+constexpr size_t MOST_ROWS = 2048;
+
+// Its tree, as our reader gives it, by the dictionary g, f, h, a, b.
+Rows tree_of(const Document &document);

@@ -1,4 +1,4 @@
-// The four parts of the measurement. Each prints its table and adds its goals.
+// The five parts of the measurement. Each prints its table and adds its goals.
 #pragma once
 #include "goals.hpp"
 
@@ -13,3 +13,6 @@ void measure_tries(Goals &goals);
 
 // Page k of 100 beside page 1, and beside k pages listed from the start.
 void measure_pages(Goals &goals);
+
+// A panel of 16 times Q beside 16 calls of Q, on the 24 documents.
+void measure_panel(Goals &goals);

@@ -4,13 +4,15 @@
 
 static void append(Numbers &to, const Numbers &from) { to.insert(to.end(), from.begin(), from.end()); }
 
+static void append(Rows &to, const Rows &from) {
+    append(to.kind, from.kind);
+    append(to.name, from.name);
+    append(to.size, from.size);
+}
+
 Rows term(uint32_t kind, uint32_t name, const std::vector<Rows> &arguments) {
     Rows rows{{kind}, {name}, {1}};
-    for (const Rows &argument : arguments) {
-        append(rows.kind, argument.kind);
-        append(rows.name, argument.name);
-        append(rows.size, argument.size);
-    }
+    for (const Rows &argument : arguments) append(rows, argument);
     rows.size[0] = static_cast<uint32_t>(rows.size.size());
     return rows;
 }
@@ -28,11 +30,11 @@ Problem::Problem(const Rows &tree, const Rows &pattern, const Rows &expressions,
     for (size_t k = 0; k < constrained.size(); k++) constraint[2 * k] = constrained[k];
 }
 
-khargovsun_listing Problem::list(uint32_t budget, Numbers &out) const {
+khargovsun_listing Problem::list(uint32_t budget, uint32_t *out, size_t length) const {
     const Rows &p = pattern, &e = expressions;
     return khargovsun_list(label.data(), label.size(), size.data(), size.size(), p.kind.data(), p.kind.size(), p.name.data(),
                            p.name.size(), p.size.data(), p.size.size(), e.kind.data(), e.kind.size(), e.name.data(), e.name.size(),
-                           e.size.data(), e.size.size(), constraint.data(), constraint.size(), budget, out.data(), out.size());
+                           e.size.data(), e.size.size(), constraint.data(), constraint.size(), budget, out, length);
 }
 
 khargovsun_listing Problem::list_after(const Numbers &record, uint32_t budget, Numbers &out) const {
@@ -41,6 +43,33 @@ khargovsun_listing Problem::list_after(const Numbers &record, uint32_t budget, N
                                  p.name.size(), p.size.data(), p.size.size(), e.kind.data(), e.kind.size(), e.name.data(), e.name.size(),
                                  e.size.data(), e.size.size(), constraint.data(), constraint.size(), record.data(), record.size(), budget,
                                  out.data(), out.size());
+}
+
+Panel::Panel(const std::vector<Problem> &problems, uint32_t budget, uint32_t share)
+    : label(problems[0].label), size(problems[0].size), budgets(problems.size(), budget), shares(problems.size(), share) {
+    for (const Problem &one : problems) {
+        append(patterns, one.pattern);
+        append(expressions, one.expressions);
+        append(constraints, one.constraint);
+        pattern_rows.push_back(static_cast<uint32_t>(one.pattern.size.size()));
+        expression_rows.push_back(static_cast<uint32_t>(one.expressions.size.size()));
+        constraint_numbers.push_back(static_cast<uint32_t>(one.constraint.size()));
+    }
+}
+
+uint32_t Panel::list(Numbers &out, std::vector<khargovsun_listing> &answers) const {
+    const Rows &p = patterns, &e = expressions;
+    khargovsun_problems all{{label.data(), size.data(), size.size()},
+                            {p.kind.data(), p.name.data(), p.size.data(), p.size.size()},
+                            {e.kind.data(), e.name.data(), e.size.data(), e.size.size()},
+                            {constraints.data(), constraints.size()},
+                            pattern_rows.data(),
+                            expression_rows.data(),
+                            constraint_numbers.data(),
+                            budgets.data(),
+                            shares.data(),
+                            shares.size()};
+    return khargovsun_list_panel(&all, {out.data(), out.size()}, answers.data());
 }
 
 Rows between_a_and_b(uint32_t name, std::vector<Rows> before) {

@@ -34,9 +34,21 @@ struct Problem {
     // Constraints: for each variable the first row of its expression plus one, or 0. No flag is set.
     Problem(const Rows &tree, const Rows &pattern, const Rows &expressions = {}, const Numbers &constrained = {});
 
-    khargovsun_listing list(uint32_t budget, Numbers &out) const;
+    khargovsun_listing list(uint32_t budget, uint32_t *out, size_t length) const;
+    khargovsun_listing list(uint32_t budget, Numbers &out) const { return list(budget, out.data(), out.size()); }
     khargovsun_listing list_after(const Numbers &record, uint32_t budget, Numbers &out) const;
     size_t variables() const { return constraint.size() / 2; }
+};
+
+// Problems over one tree, laid end to end; each has the same budget and share.
+struct Panel {
+    Numbers label, size;
+    Rows patterns, expressions;
+    Numbers constraints, pattern_rows, expression_rows, constraint_numbers, budgets, shares;
+
+    Panel(const std::vector<Problem> &problems, uint32_t budget, uint32_t share);
+
+    uint32_t list(Numbers &out, std::vector<khargovsun_listing> &answers) const;
 };
 
 // Q: context 0 over f(sequence 1).

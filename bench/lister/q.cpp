@@ -11,9 +11,7 @@
 namespace {
 
 constexpr int ROUNDS = 60, TURNS = 21;
-constexpr size_t MOST_ROWS = 2048;
 constexpr uint32_t BUDGET = 4294967295u;
-const char DICTIONARY[] = "g\nf\nh\na\nb\n";
 
 struct Case {
     Document document;
@@ -29,18 +27,6 @@ struct Case {
 
     double ratio() const { return q_time.seconds() / pugixml_time.seconds(); }
 };
-
-const uint8_t *bytes(const char *text) { return reinterpret_cast<const uint8_t *>(text); }
-
-Rows read(const Document &d) {
-    Numbers label(MOST_ROWS), size(MOST_ROWS), start(MOST_ROWS), length(MOST_ROWS);
-    auto answer = khargovsun_read(bytes(DICTIONARY), sizeof DICTIONARY - 1, bytes(d.bytes.data()), d.bytes.size(), label.data(),
-                                  label.size(), size.data(), size.size(), start.data(), start.size(), length.data(), length.size());
-    if (answer.code != 0) fail(d.name.c_str(), "the reader refuses it");
-    label.resize(answer.rows);
-    size.resize(answer.rows);
-    return {{}, label, size};
-}
 
 // Q's matchers are the rows with label f: all of them are listed, each with a hole of its own, and the others find as many.
 void agree(Case &c, Numbers &out) {
@@ -141,7 +127,7 @@ void measure_q(Goals &goals) {
     std::vector<Case> cases;
     Numbers out(4 * MOST_ROWS);
     for (const Document &document : documents()) {
-        cases.emplace_back(document, read(document));
+        cases.emplace_back(document, tree_of(document));
         agree(cases.back(), out);
     }
     for (int round = 0; round < ROUNDS; round++) time_round(cases, out);

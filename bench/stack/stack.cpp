@@ -12,7 +12,7 @@
 
 namespace {
 
-constexpr size_t STACK = 1 << 20, DEEPEST = 64, MOST_ROWS = 2048, MOST_VARIABLES = 16;
+constexpr size_t STACK = 1 << 20, DEEPEST = 64, MOST_ROWS = 2048, MOST_VARIABLES = 16, ENTRIES = 2 * MOST_VARIABLES * 1000;
 constexpr unsigned char PAINT = 0xA5;
 const char DICTIONARY[] = "g\nf\nh\na\nb\n";
 
@@ -50,7 +50,7 @@ size_t touched(const std::function<void()> &wanted) {
 size_t taken(const std::function<void()> &wanted) { return touched(wanted) - touched([] {}); }
 
 struct Most {
-    size_t check = 0, read = 0, list = 0, list_after = 0, test = 0, instance = 0, spelling = 0;
+    size_t check = 0, read = 0, list = 0, list_after = 0, panel = 0, test = 0, instance = 0, spelling = 0;
 };
 
 void measure(size_t &most, const std::function<void()> &wanted) { most = std::max(most, taken(wanted)); }
@@ -168,7 +168,7 @@ std::vector<Numbers> records(const Problem &p, const Numbers &listed, size_t cou
 
 void measure_record(Most &most, const Problem &p, const Numbers &record) {
     const Rows &q = p.pattern, &e = p.expressions;
-    Numbers label(MOST_ROWS), size(MOST_ROWS), out(2 * MOST_VARIABLES * 1000);
+    Numbers label(MOST_ROWS), size(MOST_ROWS), out(ENTRIES);
     measure(most.list_after, [&] { p.list_after(record, 100000, out); });
     measure(most.test, [&] {
         khargovsun_test(p.label.data(), p.label.size(), p.size.data(), p.size.size(), q.kind.data(), q.kind.size(), q.name.data(),
@@ -182,11 +182,22 @@ void measure_record(Most &most, const Problem &p, const Numbers &record) {
     });
 }
 
+// As many times the problem as a panel may have.
+void measure_panel(Most &most, const Problem &p) {
+    Panel panel(std::vector<Problem>(KHARGOVSUN_MAX_PROBLEMS, p), 100000, ENTRIES);
+    Numbers out(KHARGOVSUN_MAX_PROBLEMS * ENTRIES);
+    std::vector<khargovsun_listing> answers(KHARGOVSUN_MAX_PROBLEMS);
+    uint32_t code = 0;
+    measure(most.panel, [&] { code = panel.list(out, answers); });
+    if (code != 0 || answers.back().code != 0) fail("a panel is refused: a fault in stack.cpp");
+}
+
 void measure_problem(Most &most, const Problem &p) {
-    Numbers out(2 * MOST_VARIABLES * 1000);
+    Numbers out(ENTRIES);
     khargovsun_listing answer;
     measure(most.list, [&] { answer = p.list(100000, out); });
     if (answer.code != 0) fail("a problem is refused: a fault in stack.cpp");
+    measure_panel(most, p);
     for (const Numbers &record : records(p, out, answer.records)) measure_record(most, p, record);
 }
 
@@ -201,7 +212,8 @@ int main() {
     for (const Problem &problem : problems()) measure_problem(most, problem);
     std::printf("| function | bytes of stack |\n|---|---|\n");
     std::printf("| khargovsun_check | %zu |\n| khargovsun_read | %zu |\n", most.check, most.read);
-    std::printf("| khargovsun_list | %zu |\n| khargovsun_list_after | %zu |\n", most.list, most.list_after);
+    std::printf("| khargovsun_list | %zu |\n| khargovsun_list_after | %zu |\n| khargovsun_panel | %zu |\n", most.list, most.list_after,
+                most.panel);
     std::printf("| khargovsun_test | %zu |\n| khargovsun_instance | %zu |\n| khargovsun_spelling | %zu |\n", most.test, most.instance,
                 most.spelling);
     return 0;

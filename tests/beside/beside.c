@@ -23,7 +23,8 @@ static const problem KNOWN[] = {
 enum {
     SEED = 2026,
     DAMAGES = 6, /* of each problem */
-    LISTED = 20  /* so many records of a list are tested and made with every room */
+    LISTED = 20, /* so many records of a list are tested and made with every room */
+    APART = 5    /* one in so many problems begins a panel */
 };
 
 /* Would the problem have more records without its constraints? */
@@ -89,6 +90,7 @@ static void compare_group(size_t group, const struct group *of) {
         chance chance = chance_of(group, number);
         make_problem(&chance, of, &problem);
         compare_problem(&chance, of->name, number, &problem, of->all_candidates);
+        if (number % APART == 0) compare_panels(&chance, of, number, &problem);
     }
 }
 

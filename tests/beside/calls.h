@@ -23,6 +23,12 @@ static inline khargovsun_listing call_list_after(const problem *p, const list *r
     return khargovsun_list_after(TREE(p), PATTERN(p), EXPRESSION(p), GIVEN(p->constraint), GIVEN(*record), budget, out, n);
 }
 
+static inline uint32_t call_panel(const panel *p, uint32_t *out, uint32_t *answer) {
+    return khargovsun_panel(TREE(p), PATTERN(p), EXPRESSION(p), GIVEN(p->constraint), GIVEN(p->pattern_length), GIVEN(p->expression_length),
+                            GIVEN(p->constraint_length), GIVEN(p->budget), GIVEN(p->share), p->out == 0 ? NULL : out, p->out,
+                            p->answer == 0 ? NULL : answer, p->answer);
+}
+
 static inline khargovsun_testing call_test(const problem *p, const list *record) {
     return khargovsun_test(TREE(p), PATTERN(p), EXPRESSION(p), GIVEN(p->constraint), GIVEN(*record));
 }

@@ -1,4 +1,4 @@
-/* The refusals 11 to 15 and 19: each rule on a list is one question. Sizes may be any numbers here. */
+/* The refusals 11 to 15, 19 and 21: each rule on a list is one question. Sizes may be any numbers here. */
 #include "decide.h"
 
 static bool all_below(const list *numbers, uint32_t bound) {
@@ -139,6 +139,31 @@ uint32_t code_of_problem(const problem *problem) {
     if (!good_expressions(&problem->expression)) return BAD_EXPRESSIONS;
     if (!good_constraint(problem)) return BAD_CONSTRAINT;
     return all_named(problem) ? ACCEPTED : FORGOTTEN;
+}
+
+static bool add_up(const list *lengths, uint64_t whole) {
+    uint64_t sum = 0;
+    for (size_t k = 0; k < lengths->n; k++) sum += lengths->at[k];
+    return sum == whole;
+}
+
+static bool add_up_to_rows(const list *lengths, const rows *rows) {
+    return add_up(lengths, rows->kind.n) && add_up(lengths, rows->name.n) && add_up(lengths, rows->size.n);
+}
+
+/* Do all lists that say something of each problem speak of the same number of them? */
+static bool agree(const panel *panel) {
+    size_t problems = panel->budget.n;
+    return panel->pattern_length.n == problems && panel->expression_length.n == problems && panel->constraint_length.n == problems &&
+           panel->share.n == problems && panel->answer == 4 * problems && problems <= PROBLEMS_OF_PANEL;
+}
+
+uint32_t code_of_panel(const panel *panel) {
+    if (!agree(panel)) return BAD_PANEL;
+    if (!add_up_to_rows(&panel->pattern_length, &panel->pattern)) return BAD_PANEL;
+    if (!add_up_to_rows(&panel->expression_length, &panel->expression)) return BAD_PANEL;
+    if (!add_up(&panel->constraint_length, panel->constraint.n)) return BAD_PANEL;
+    return add_up(&panel->share, panel->out) ? ACCEPTED : BAD_PANEL;
 }
 
 bool good_pair(const list *size, uint32_t kind, uint32_t first, uint32_t second) {

@@ -26,6 +26,14 @@ enum { OUT = MOST_RECORDS * 2 * VARIABLES + 64, DAMAGED_ROOM = 64 };
 /* Are these the records of the list from one on? */
 bool are_records(const uint32_t *out, const listing *all, size_t first, size_t records, size_t numbers);
 
+/* What a list or a page is answered with this room and budget. */
+typedef struct {
+    uint32_t ending;
+    size_t records, tries;
+} answer;
+
+answer expected(const page *page, size_t room, uint32_t budget);
+
 /* One call with a lent list of this length: the lister's, if there is no record, or else its page after the record. */
 void compare_page(const problem *problem, const page *page, const list *record, size_t length, uint32_t budget, enum comparison what);
 
@@ -37,6 +45,9 @@ void compare_pages(const problem *problem, const listing *all);
 
 /* The code of a page after a record, if it is no matcher's, of a problem that has this code. */
 void compare_page_code(const problem *problem, uint32_t code, const list *record, enum comparison what);
+
+/* A panel that begins with the problem, and the same with its lists altered in each way. */
+void compare_panels(chance *chance, const group *group, uint32_t number, const problem *first);
 
 /* The lister and, with one record, its page, the test and the instance maker on a problem that may be bad. */
 void compare_damaged(chance *chance, const problem *problem, const list *record);

@@ -7,13 +7,8 @@ enum {
     MANY = 60         /* of more rooms or budgets than these not all are */
 };
 
-typedef struct {
-    uint32_t ending;
-    size_t records, tries;
-} answer;
-
 /* The first record without room ends the list, if the budget lasts until it is reached; else a try without budget does. */
-static answer expected(const page *page, size_t room, uint32_t budget) {
+answer expected(const page *page, size_t room, uint32_t budget) {
     const size_t *reached = page->all->reached + page->first;
     size_t before = page->tries_before, records = page->all->records - page->first, tries = page->all->tries - before, within = 0;
     if (room < records && reached[room] - before <= budget) return (answer){NO_ROOM, room, reached[room] - before};

@@ -9,6 +9,9 @@
 /* The first code of 11 to 14 and 19, or 0. */
 uint32_t code_of_problem(const problem *problem);
 
+/* 21 or 0. */
+uint32_t code_of_panel(const panel *panel);
+
 /* Is the record good? The tree and the pattern have to be. */
 bool good_record(const problem *problem, const list *record);
 

@@ -55,9 +55,30 @@ void make_constraints(chance *chance, const group *group, alphabet alphabet, con
 /* The tree is the pattern under some record, or that with a row altered, or another tree. */
 void make_problem(chance *chance, const group *group, problem *out);
 
+/* Problems over the first one's tree, or over that damaged: it again, others of its group, and damaged ones of both. Each with no budget,
+ * too small a one, just enough or more, and a share alike. */
+void make_panel(chance *chance, const group *group, const problem *first, panel *out);
+
 /* ---- Damage ---- */
 
 /* Changes one number of the problem or the record, or the length of one of their lists. */
 void damage(chance *chance, problem *problem, list *record);
+
+/* What may be wrong with the lists of a panel. Where lengths are shifted, and where a problem without rows is added, they still add up. */
+enum alteration {
+    LIST_LONGER,
+    LIST_SHORTER,
+    TABLE_LONGER,
+    TABLE_SHORTER,
+    LENT_OTHERWISE,
+    LENGTH_CHANGED,
+    LENGTHS_SHIFTED,
+    LENGTHS_WRAPPED,
+    PROBLEM_MORE,
+    PROBLEM_LESS,
+    ALTERATIONS
+};
+
+void alter_panel(chance *chance, enum alteration how, panel *panel);
 
 #endif

@@ -27,7 +27,8 @@ enum code {
     NO_ROOM_FOR_INSTANCE = 17,
     FORGOTTEN = 19,
     NO_MATCHER = 20,
-    CODES = 21
+    BAD_PANEL = 21,
+    CODES = 22
 };
 
 enum limit {
@@ -36,6 +37,7 @@ enum limit {
     EXPRESSION_ROWS = 64,
     VARIABLES = 16,
     DEPTH = 64,
+    PROBLEMS_OF_PANEL = 32,
     LABELS = 65536,
     NAMES = 1024,
     DICTIONARY_BYTES = 16384,
@@ -64,6 +66,14 @@ typedef struct {
     rows pattern, expression;
     list constraint;
 } problem;
+
+/* Problems over one tree, laid end to end. The lengths say how much of the lists is each problem's own, the shares how much of what is lent. */
+typedef struct {
+    tree tree;
+    rows pattern, expression;
+    list constraint, pattern_length, expression_length, constraint_length, budget, share;
+    size_t out, answer; /* entries that are lent */
+} panel;
 
 /* ---- Places, in lists that keep the rules ---- */
 

@@ -23,6 +23,9 @@
     X(PAGE_MOVED, "pages after a matcher's values at other rows", 20000)                    \
     X(DAMAGED_PAGE, "pages with a damaged problem or record", 10000)                        \
     X(OWN_PAGE, "lists of ours by tries and by second numbers", 10000)                      \
+    X(PANEL, "panels, their code and what stands around their shares", 15000)               \
+    X(PANEL_PROBLEM, "panels' problems beside what was decided", 50000)                     \
+    X(PANEL_LIST, "panels' problems beside lists of their own", 50000)                      \
     X(CHECK, "checks of a document", 20000)                                                 \
     X(READING, "readings of a document", 20000)                                             \
     X(READ_BACK, "trees written as documents and read back", 2500)                          \
@@ -69,6 +72,18 @@
     X(PAGE_ENDING_1, "pages that end with 1", 20000)                                        \
     X(PAGE_ENDING_2, "pages that end with 2", 20000)                                        \
     X(TURNED, "pages turned where they are joined", 20000)                                  \
+    X(PANELS, "panels whose lists add up", 3000)                                            \
+    X(PANEL_OF_32, "  have 32 problems", 500)                                               \
+    X(PANEL_OF_NONE, "  have none", 100)                                                    \
+    X(PANEL_WITHOUT_TREE, "  are over a tree that is none", 500)                            \
+    X(SHIFTED, "  have lengths that were shifted from one to another", 400)                 \
+    X(WRAPPED, "panels whose lengths add up in 32 bits alone", 1000)                        \
+    X(BEHIND_REFUSED, "problems of a panel with a record, behind a refused one", 3000)      \
+    X(REFUSED_BEHIND, "refused problems of a panel, behind one with a record", 3000)        \
+    X(PANEL_ENDING_0, "problems of a panel that end with 0", 10000)                         \
+    X(PANEL_ENDING_1, "problems of a panel that end with 1", 3000)                          \
+    X(PANEL_ENDING_2, "problems of a panel that end with 2", 3000)                          \
+    X(SHARE_LEFT, "problems of a panel with a record that leave some of their share", 2000) \
     X(BOTH_SORTS, "documents with an element and a text of one spelling", 200)              \
     X(DEEP_DOCUMENTS, "documents that go deeper than 64 levels and come back", 250)         \
     X(CODE_1, "refusals 1", 500)                                                            \
@@ -85,7 +100,8 @@
     X(CODE_16, "refusals 16", 10)                                                           \
     X(CODE_17, "refusals 17", 5000)                                                         \
     X(CODE_19, "refusals 19", 20000)                                                        \
-    X(CODE_20, "refusals 20", 50000)
+    X(CODE_20, "refusals 20", 50000)                                                        \
+    X(CODE_21, "refusals 21", 8000)
 
 #define FIRST_OF_THREE(name, text, least) name,
 enum comparison { COMPARISONS(FIRST_OF_THREE) COMPARISONS_END };

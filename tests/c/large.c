@@ -3,8 +3,8 @@
  *
  * All of the memory is there, as the header asks: one region of 16 GB without reservation. Pages of it that are only read are all the same
  * page of zeros, and few are written. Every function is called so. Only the tree check reads on for so long (the labels, before it looks at
- * the number of rows): that takes some seconds, so that a tree of two such lists is given to the lister alone. Its pages, the test and the
- * instance maker make the same check. */
+ * the number of rows): that takes some seconds, so that a tree of two such lists is given to the lister alone. Its pages, the panel, the test
+ * and the instance maker make the same check. */
 #include <stdbool.h>
 #include <sys/mman.h>
 #include "compare.h"
@@ -100,6 +100,22 @@ static void page_is(const char *name, const list *l, uint32_t code) {
     holds(name, "the page", out, ROOM, code ? none : SECOND);
 }
 
+/* The lists with a number for each problem of a panel; here one problem, the good one. */
+enum { PATTERN_LENGTH, EXPRESSION_LENGTH, CONSTRAINT_LENGTH, BUDGET, SHARE, EACH };
+static const list ONE[EACH] = {LIST(3), LIST(2), LIST(4), LIST(1000), LIST(ROOM)};
+
+#define NUMBERS(e) LENT((e)[PATTERN_LENGTH]), LENT((e)[EXPRESSION_LENGTH]), LENT((e)[CONSTRAINT_LENGTH]), LENT((e)[BUDGET]), LENT((e)[SHARE])
+
+/* Only the tree is for the answer to judge. */
+static void panel_is(const char *name, const list *l, const list *each, uint32_t code, uint32_t code_of_answer) {
+    uint32_t out[ROOM], answer[4];
+    list none = NONE, found = LIST(0, 0, 2, 8), refused = LIST(code_of_answer, 0, 0, 0);
+    mark(out, ROOM), mark(answer, 4);
+    same(name, "the panel's code", khargovsun_panel(PROBLEM(l), NUMBERS(each), out, ROOM, answer, 4), code);
+    holds(name, "the panel's answer", answer, 4, code ? none : code_of_answer ? refused : found);
+    holds(name, "the panel's records", out, ROOM, code || code_of_answer ? none : RECORDS);
+}
+
 static void testing_is(const char *name, const list *l, uint32_t code) {
     khargovsun_testing got = khargovsun_test(PROBLEM(l), LENT(l[RECORD]));
     same(name, "the test's code", got.code, code);
@@ -125,9 +141,64 @@ static void problems(void) {
         listing_is(w->name, l, w->code == 15 ? 0 : w->code);
         if (w->lists == TREE) continue;
         page_is(w->name, l, w->code);
+        panel_is(w->name, l, ONE, w->code >= 12 && w->code <= 14 ? 21 : 0, w->code == 11 ? 11 : 0);
         testing_is(w->name, l, w->code);
         making_is(w->name, l, w->code == 13 || w->code == 14 ? 0 : w->code);
     }
+}
+
+/* ---- A panel of two problems, the second of which begins beyond 32 bits ---- */
+
+static const list TWO[EACH] = {LIST(3, 3), LIST(2, 2), LIST(4, 4), LIST(1000, 1000), LIST(ROOM, ROOM)};
+
+static list twice(list l, uint32_t *to) {
+    for (size_t k = 0; k < 2 * l.n; k++) to[k] = l.at[k % l.n];
+    return (list){to, 2 * l.n};
+}
+
+/* The list behind 4,294,967,295 entries, laid into the region from an entry on. */
+static list far_behind(list l, size_t at) {
+    for (size_t k = 0; k < l.n; k++) region[at + FAR + k] = l.at[k];
+    return (list){region + at, FAR + l.n};
+}
+
+/* These lists of the first problem are so long that it is refused; the second is answered as ever. */
+static void second_is(const char *name, unsigned lists, int length, uint32_t code) {
+    uint32_t both[LISTS][2 * ROOM], out[2 * ROOM], answer[8];
+    list l[LISTS], each[EACH], first = LIST(FAR, TWO[length].at[1]), none = NONE, answers = LIST(code, 0, 0, 0, 0, 0, 2, 8);
+    for (int i = 0; i < LISTS; i++)
+        l[i] = TREE & BIT(i) ? GOOD[i] : lists & BIT(i) ? far_behind(GOOD[i], (size_t)i * APART) : twice(GOOD[i], both[i]);
+    for (int i = 0; i < EACH; i++) each[i] = i == length ? first : TWO[i];
+    mark(out, 2 * ROOM), mark(answer, 8);
+    same(name, "the code", khargovsun_panel(PROBLEM(l), NUMBERS(each), out, 2 * ROOM, answer, 8), 0);
+    holds(name, "answer", answer, 8, answers);
+    holds(name, "the first share", out, ROOM, none);
+    holds(name, "the second share", out + ROOM, ROOM, RECORDS);
+}
+
+/* Both are answered, each in its share of the region. */
+static void second_share(void) {
+    uint32_t both[LISTS][2 * ROOM], answer[8];
+    list l[LISTS], each[EACH], shares = LIST(FAR, ROOM), answers = LIST(0, 0, 2, 8, 0, 0, 2, 8);
+    for (int i = 0; i < LISTS; i++) l[i] = TREE & BIT(i) ? GOOD[i] : twice(GOOD[i], both[i]);
+    for (int i = 0; i < EACH; i++) each[i] = i == SHARE ? shares : TWO[i];
+    mark(region, BEHIND), mark(region + FAR, BEHIND), mark(answer, 8);
+    same("a long share", "the code", khargovsun_panel(PROBLEM(l), NUMBERS(each), region, (size_t)FAR + ROOM, answer, 8), 0);
+    holds("a long share", "answer", answer, 8, answers);
+    holds("a long share", "out", region, BEHIND, RECORDS);
+    holds("a share behind a long one", "out", region + FAR, BEHIND, RECORDS);
+}
+
+static void panels(void) {
+    for (int k = 0; k < EACH; k++) {
+        list each[EACH];
+        for (int i = 0; i < EACH; i++) each[i] = i == k ? longer(ONE[i], 0) : ONE[i];
+        panel_is("a long list of numbers", GOOD, each, 21, 0);
+    }
+    second_is("a pattern behind a long one", PATTERN, PATTERN_LENGTH, 12);
+    second_is("expressions behind long ones", EXPRESSION, EXPRESSION_LENGTH, 13);
+    second_is("constraints behind long ones", BIT(CONSTRAINT), CONSTRAINT_LENGTH, 14);
+    second_share();
 }
 
 /* ---- Lists that are written: the low 32 bits of their lengths have no room, or room for one record ---- */
@@ -152,6 +223,17 @@ static void page_out(size_t more) {
     same("a long list for a page", "the ending", got.ending, 0);
     same("a long list for a page", "the records", got.records, 1);
     holds("a long list for a page", "out", region, BEHIND, SECOND);
+}
+
+/* The shares add up to less: nothing is written. */
+static void panel_out(void) {
+    uint32_t other[ROOM];
+    list none = NONE;
+    marked_region(), mark(other, ROOM);
+    same("a long list for shares", "the code", khargovsun_panel(PROBLEM(GOOD), NUMBERS(ONE), region, WIDE + ROOM, other, 4), 21);
+    same("a long list for answers", "the code", khargovsun_panel(PROBLEM(GOOD), NUMBERS(ONE), other, ROOM, region, WIDE + 4), 21);
+    holds("a long list for shares or answers", "the list", region, BEHIND, none);
+    holds("a long list for shares or answers", "the other", other, ROOM, none);
 }
 
 static void instance_out(void) {
@@ -249,8 +331,10 @@ int main(void) {
         return 0;
     }
     problems();
+    panels();
     records_out(0), records_out(4);
     page_out(0), page_out(3);
+    panel_out();
     instance_out();
     rows_out();
     readings();

@@ -24,6 +24,10 @@ pub record Same (r s : Listed) (v w : List ℕ) : Type 0 where
   pub tries : r .tries ≡ s .tries
   pub out : v ≡ w
 
+-- equal in each number is equal
+pub are-one : {r s : Listed} {v w : List ℕ} → Same r s v w → (r ≡ s) × (v ≡ w)
+are-one o = (λ i. record { code = o .code i; ending = o .ending i; records = o .records i; tries = o .tries i }, o .out)
+
 -- answers with one code are the same if they are where it is 0: a refusal has nothing in it
 same : (before : List ℕ) (r s : Listed) (v w : List ℕ) → r .code ≡ s .code → (r .code ≡ 0 → (r .ending ≡ s .ending) × (r .records ≡ s .records) × (r .tries ≡ s .tries) × (v ≡ w))
     → ((r .code ≡ 0 → ⊥) → (r .ending ≡ 0) × (r .records ≡ 0) × (r .tries ≡ 0) × (v ≡ before)) → ((s .code ≡ 0 → ⊥) → (s .ending ≡ 0) × (s .records ≡ 0) × (s .tries ≡ 0) × (w ≡ before))

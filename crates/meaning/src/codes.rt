@@ -16,3 +16,5 @@ pub const NO_ROOM: u32 = 17;
 pub const FORGOTTEN: u32 = 19;
 
 pub const NO_MATCHER: u32 = 20;
+
+pub const PANEL: u32 = 21;

@@ -51,6 +51,15 @@ Given l checked b =
 abbrev Names : Lists → Bool → Type 0
 Names l b = (es : List Expression) → l .expressionSize ≡ sizeRows es → Says b (AllNamed es (l .constraint))
 
+-- what the last check asks, whatever the tree
+pub names-asked : {kind name size kinds names sizes list : List ℕ} {checked : Checked} {b c : Bool} → PatternSettled kind name size checked → checked .good ≡ true
+    → Says b ((es : List Expression) × GoodTable kinds names sizes es) → b ≡ true
+    → ((es : List Expression) (Q : List Kind) → KindsAre Q (checked .variables) (checked .kinds) → sizes ≡ sizeRows es → Says c ((cs : List Constraint) × GoodConstraints es Q list cs))
+    → c ≡ true → NamedPre (checked .variables) sizes list
+names-asked {kind} {name} {size} {kinds} {names} {sizes} {list} checks has-pattern table has-table given has-constraints =
+    let (P, Q, es, cs, m) = list-judged kind name size kinds names sizes list checks table has-pattern has-table given .0 has-constraints in
+    record { some = (kinds, names, es, Q, cs, m .table, m .constraints, checks .found P Q (m .pattern) .0) }
+
 module _ (l : Lists) where
   pub no-tree : {r : Problem} {t : Bool} → Tree l t → t ≡ false → Empty r 11 → Answered l r
   no-tree s e o = answered-no {l = l} 11 (λ z. omega arith) o (inl (said-no s e, o .0))
@@ -73,28 +82,22 @@ module _ (l : Lists) where
             answered-no {l = l} 14 (λ z. omega arith) o
             (inr (tree .0 has-tree, inr (checks .judged .0 has-pattern, inr (table .0 has-table, inl (said-no judged e, o .0)))))
 
-        module _ (has-constraints : c ≡ true) where
-          pub names-asked : NamedPre (checked .variables) (l .expressionSize) (l .constraint)
-          names-asked =
-              let (P, Q, es, cs, m) = judged .0 has-constraints in
-              record { some = (l .expressionKind, l .expressionName, es, Q, cs, m .table, m .constraints, checks .found P Q (m .pattern) .0) }
+        module _ (has-constraints : c ≡ true) {n : Bool} (names : Names l n) where
+          named : Says n ((es : List Expression) × GoodTable (l .expressionKind) (l .expressionName) (l .expressionSize) es × AllNamed es (l .constraint))
+          named =
+              let t = table .0 has-table in
+              (λ e. (t .0, t .1, names (t .0) (sizes-are (t .0) (t .1)) .0 e), λ a. names (a .0) (sizes-are (a .0) (a .1)) .1 (a .2))
 
-          module _ {n : Bool} (names : Names l n) where
-            named : Says n ((es : List Expression) × GoodTable (l .expressionKind) (l .expressionName) (l .expressionSize) es × AllNamed es (l .constraint))
-            named =
-                let t = table .0 has-table in
-                (λ e. (t .0, t .1, names (t .0) (sizes-are (t .0) (t .1)) .0 e), λ a. names (a .0) (sizes-are (a .0) (a .1)) .1 (a .2))
+          pub forgotten : {r : Problem} → n ≡ false → Empty r 19 → Answered l r
+          forgotten e o =
+              answered-no {l = l} 19 (λ z. omega arith) o
+              (inr (tree .0 has-tree, inr (checks .judged .0 has-pattern, inr (table .0 has-table, inr (judged .0 has-constraints, inl (said-no named e, o .0))))))
 
-            pub forgotten : {r : Problem} → n ≡ false → Empty r 19 → Answered l r
-            forgotten e o =
-                answered-no {l = l} 19 (λ z. omega arith) o
-                (inr (tree .0 has-tree, inr (checks .judged .0 has-pattern, inr (table .0 has-table, inr (judged .0 has-constraints, inl (said-no named e, o .0))))))
-
-            pub all-good : {r : Problem} → n ≡ true → r ≡ record { code = 0; variables = checked .variables; kinds = checked .kinds } → Answered l r
-            all-good e o =
-                rw o
-                (record {
-                  code = inr (tree .0 has-tree, inr (checks .judged .0 has-pattern, inr (table .0 has-table, inr (judged .0 has-constraints, inr (named .0 e, refl)))));
-                  found = λ z P Q g. checks .found P Q g;
-                  refused = λ z. absurd (z refl);
-                })
+          pub all-good : {r : Problem} → n ≡ true → r ≡ record { code = 0; variables = checked .variables; kinds = checked .kinds } → Answered l r
+          all-good e o =
+              rw o
+              (record {
+                code = inr (tree .0 has-tree, inr (checks .judged .0 has-pattern, inr (table .0 has-table, inr (judged .0 has-constraints, inr (named .0 e, refl)))));
+                found = λ z P Q g. checks .found P Q g;
+                refused = λ z. absurd (z refl);
+              })

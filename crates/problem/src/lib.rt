@@ -1,5 +1,5 @@
 ghost use mathlib.Core.Path.{_≡_};
-ghost use Rattle.problem.specs.Answer.{Answered};
+ghost use Rattle.problem.specs.Answer.{Answered, AnsweredJudged};
 ghost use Rattle.problem.specs.Allowing.{AllowedPre, AllowedPost};
 ghost use Rattle.pattern.specs.Answer.{listed};
 ghost use mathlib.Core.List.{[]};
@@ -26,7 +26,46 @@ fn refused(code: u32) -> Problem
     }
 }
 
-// The first of the codes 11 to 14 and 19 that applies, in this order, or 0.
+// The first of the codes 11 to 14 and 19 that applies, in this order, or 0, of a tree that has been judged: where many problems are asked of
+// one tree, it is judged once.
+pub fn check_judged(
+    tree: bool,
+    kind: &[u32],
+    name: &[u32],
+    pattern_size: &[u32],
+    expression_kind: &[u32],
+    expression_name: &[u32],
+    expression_size: &[u32],
+    constraint: &[u32],
+) -> Problem
+    ensures { λ r. ⌜ AnsweredJudged tree (now (kind .entry)) (now (name .entry)) (now («pattern_size» .entry)) (now («expression_kind» .entry)) (now («expression_name» .entry)) (now («expression_size» .entry)) (now (constraint .entry)) r ⌝ }
+{
+    if !tree {
+        return refused(TREE);
+    }
+    let checked = pattern::check(kind, name, pattern_size);
+    if !checked.good {
+        return refused(PATTERN);
+    }
+    if !expression::good(expression_kind, expression_name, expression_size) {
+        return refused(EXPRESSIONS);
+    }
+    let kinds = checked.kinds;
+    let variables = checked.variables;
+    if !constraint::given(variables, &kinds, expression_size, constraint) {
+        return refused(CONSTRAINTS);
+    }
+    if !constraint::all_named(variables, expression_size, constraint) {
+        return refused(FORGOTTEN);
+    }
+    Problem {
+        code: 0,
+        variables,
+        kinds,
+    }
+}
+
+// The same, of any tree.
 pub fn check(
     label: &[u32],
     size: &[u32],
@@ -50,29 +89,16 @@ pub fn check(
       constraint = now (constraint .entry);
     }) r ⌝ }
 {
-    if !tree::good(label, size) {
-        return refused(TREE);
-    }
-    let checked = pattern::check(kind, name, pattern_size);
-    if !checked.good {
-        return refused(PATTERN);
-    }
-    if !expression::good(expression_kind, expression_name, expression_size) {
-        return refused(EXPRESSIONS);
-    }
-    let kinds = checked.kinds;
-    let variables = checked.variables;
-    if !constraint::given(variables, &kinds, expression_size, constraint) {
-        return refused(CONSTRAINTS);
-    }
-    if !constraint::all_named(variables, expression_size, constraint) {
-        return refused(FORGOTTEN);
-    }
-    Problem {
-        code: 0,
-        variables,
-        kinds,
-    }
+    check_judged(
+        tree::good(label, size),
+        kind,
+        name,
+        pattern_size,
+        expression_kind,
+        expression_name,
+        expression_size,
+        constraint,
+    )
 }
 
 // Whether the variable x may stand for the value that the numbers a and b mean: what its constraint says.

@@ -2,6 +2,7 @@ pub mod Refusals
 pub mod Answers
 pub mod Lists
 pub mod Pages
+pub mod Panels
 pub mod Examples
 pub mod Table
 pub mod Demands

@@ -16,8 +16,8 @@ use Rattle.problem.specs.Answer.{Answered}
 use Rattle.problem.specs.declared.Problem.{Problem}
 use Rattle.problem.proofs.Posed.{the, one-codes}
 use Rattle.test.proofs.Unique.{one-tested}
-use Rattle.lister.specs.declared.Listed.{Listed}
-use Rattle.lister.proofs.Unique.{Same, one-listed, one-paged}
+use Rattle.lister.proofs.Unique.{one-listed, one-paged, are-one}
+use Rattle.panel.proofs.Unique.{one-panel}
 use Rattle.instance.proofs.Promises.{one-making}
 use Rattle.promises.specs.Refusals.{Refusals}
 
@@ -41,14 +41,10 @@ one-problem {l} {r} {r'} a b = go (ℕ-discrete (r .code) 0)
         let h = b .refused (λ e. z (code ∙ e)) in
         whole (f .0 ∙ sym (h .0)) (f .1 ∙ sym (h .1))
 
--- equal in each number is equal
-pub one-answer-listed : {r s : Listed} {v w : List ℕ} → Same r s v w → (r ≡ s) × (v ≡ w)
-one-answer-listed o = (λ i. record { code = o .code i; ending = o .ending i; records = o .records i; tries = o .tries i }, o .out)
-
 pub refusals : Refusals
 refusals = record {
   reader = record { read = λ x. x .answer; unchanged = λ x. x .kept; check = λ x. (x .code, x .place, x .rows, x .answer, x .is); check-is-read = check-is-read };
-  matcher = record { list = λ s. s .code; list-after = λ s. s .code; test = λ s. s .code; instance = λ s. s .coded };
+  matcher = record { list = λ s. s .code; list-after = λ s. s .code; test = λ s. s .code; instance = λ s. s .coded; panel = λ s. s .code };
   one =
       record {
         read = λ x y. one-answer _ _ _ _ _ _ _ _ _ _ _ _ _ _ _ _ _ _ _ _ x y;
@@ -60,10 +56,11 @@ refusals = record {
         pattern = one-checked;
         problem = one-problem;
         test = λ {l} {list} {r} {s} a b. one-tested r s a b;
-        list = λ a b. one-answer-listed (one-listed a b);
-        list-after = λ a b. one-answer-listed (one-paged a b);
+        list = λ a b. are-one (one-listed a b);
+        list-after = λ a b. are-one (one-paged a b);
         instance = λ x y. one-making _ _ _ _ _ _ _ _ _ x y;
+        panel = one-panel;
         yes-or-no = λ {a} {b} h k. one-yes a b h k;
       };
-  nothing-written = record { list = λ s z. let f = s .refused z in (f .3, f .0, f .1, f .2); list-after = λ s z. let f = s .refused z in (f .3, f .0, f .1, f .2); instance = λ s z. let f = s .refused z in (f .1, f .2, f .0) };
+  nothing-written = record { list = λ s z. let f = s .refused z in (f .3, f .0, f .1, f .2); list-after = λ s z. let f = s .refused z in (f .3, f .0, f .1, f .2); instance = λ s z. let f = s .refused z in (f .1, f .2, f .0); panel = λ s. s .refused };
 }

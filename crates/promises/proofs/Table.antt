@@ -29,9 +29,8 @@ use Rattle.catalogue.proofs.Whole.{walked}
 use Rattle.catalogue.proofs.Stays.{run-stays, fitting-more}
 use Rattle.lister.specs.Listed.{Settled}
 use Rattle.lister.specs.declared.Listed.{Listed}
-use Rattle.lister.proofs.Unique.{one-listed}
+use Rattle.lister.proofs.Unique.{one-listed, are-one}
 use Rattle.promises.specs.Table.{Row, Serves, RowHolds, table, TableHolds}
-use Rattle.promises.proofs.Refusals.{one-answer-listed}
 use Rattle.promises.proofs.Lists.{ran, ran-meant}
 use Rattle.promises.proofs.Examples.{query-on-tree, two-sequences, in-choice, same-sequence, in-repetition, same-context, no-term-left, function-over-individual, is-ground}
 
@@ -94,7 +93,7 @@ answers {T} {P} {Q} {es} {cs} row p e = record { exactly = λ budget before h. e
         is = settled p budget before _ f
 
         to : Settled (row .lists) budget before r after → (r ≡ answerOf row) × (after ≡ outOf row before)
-        to s = one-answer-listed (one-listed s is)
+        to s = are-one (one-listed s is)
 
         from : (r ≡ answerOf row) × (after ≡ outOf row before) → Settled (row .lists) budget before r after
         from q = rw (q .0, q .1) is

@@ -4,6 +4,7 @@ use Rattle.promises.specs.Refusals.{Refusals}
 use Rattle.promises.specs.Answers.{Answers}
 use Rattle.promises.specs.Lists.{Listings}
 use Rattle.promises.specs.Pages.{Pages}
+use Rattle.promises.specs.Panels.{Panels}
 use Rattle.promises.specs.Table.{TableHolds}
 
 pub record Demands : Type 1 where
@@ -15,5 +16,7 @@ pub record Demands : Type 1 where
   pub listings : Listings
   -- 3, page by page: all that follow a record, and the pages joined are the list
   pub pages : Pages
+  -- 1 and 3, many problems in one call: each is answered as by a call of its own
+  pub panels : Panels
   -- and 01's examples
   pub examples : TableHolds

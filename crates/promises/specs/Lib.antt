@@ -3,4 +3,5 @@ pub mod Refusals
 pub mod Answers
 pub mod Lists
 pub mod Pages
+pub mod Panels
 pub mod Table

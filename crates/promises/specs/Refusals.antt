@@ -5,7 +5,7 @@ use mathlib.Core.Path.{_≡_}
 use mathlib.Core.List.{List}
 use lib.ListN.{length}
 use mathlib.Core.Bool.{Bool}
-use Rattle.meaning.specs.Calls.{accept, Says}
+use Rattle.meaning.specs.Calls.{refuse, accept, Says}
 use Rattle.dictionary.specs.Names.{DictionaryChecked}
 use Rattle.pattern.specs.Answer.{PatternSettled}
 use Rattle.pattern.specs.declared.Checked.{Checked as PatternChecked}
@@ -20,6 +20,7 @@ use Rattle.test.specs.declared.Tested.{Tested}
 use Rattle.lister.specs.Listed.{Settled}
 use Rattle.lister.specs.Page.{PageCodes, PageSettled}
 use Rattle.lister.specs.declared.Listed.{Listed}
+use Rattle.panel.specs.Panel.{Panel, Agree, AddUp, PanelSettled}
 use Rattle.instance.specs.Instance.{codeGiven, rowsGiven, InstanceLists, InstanceCodes, InstanceSettled}
 use Rattle.instance.specs.declared.Made.{Made}
 
@@ -33,12 +34,13 @@ pub record ReaderRefuses : Type 0 where
       → r ≡ code * 4294967296 + (place + rows)
 
 -- the lister, its pages, the test and the instance maker give the first code whose rule is broken, and 0 where none is: 01's from the lowest
--- up, 19 directly after 14 (02, #104), and 20 last (#105)
+-- up, 19 directly after 14 (02, #104), and 20 last (#105). A panel gives 21, before all of them, or 0 (#106)
 pub record MatcherRefuses : Type 0 where
   pub list : {l : Lists} {budget : ℕ} {before after : List ℕ} {r : Listed} → Settled l budget before r after → Codes l accept (r .code)
   pub list-after : {l : Lists} {list : List ℕ} {budget : ℕ} {before after : List ℕ} {r : Listed} → PageSettled l list budget before r after → PageCodes l list (r .code)
   pub test : {l : Lists} {list : List ℕ} {r : Tested} → TestSettled l list r → Codes l (Fifteen l list) (codeOf r)
   pub instance : {l : InstanceLists} {L S L' S' : List ℕ} {r : Made} → InstanceSettled l L S r L' S' → InstanceCodes l (length L) (length S) (codeGiven r)
+  pub panel : {p : Panel} {out answer out' answer' : List ℕ} {r : ℕ} → PanelSettled p out answer r out' answer' → refuse 21 (Agree p (length answer) × AddUp p (length out)) accept r
 
 -- every answer, refusals among them, is settled, with each lent list afterwards
 pub record OnlyOne : Type 1 where
@@ -57,16 +59,19 @@ pub record OnlyOne : Type 1 where
   pub list-after : {l : Lists} {list : List ℕ} {budget : ℕ} {before after after' : List ℕ} {r s : Listed} → PageSettled l list budget before r after → PageSettled l list budget before s after'
       → (r ≡ s) × (after ≡ after')
   pub instance : {l : InstanceLists} {L S L₁ S₁ L₂ S₂ : List ℕ} {r s : Made} → InstanceSettled l L S r L₁ S₁ → InstanceSettled l L S s L₂ S₂ → (r ≡ s) × (L₁ ≡ L₂) × (S₁ ≡ S₂)
+  pub panel : {p : Panel} {out answer out₁ answer₁ out₂ answer₂ : List ℕ} {r s : ℕ} → PanelSettled p out answer r out₁ answer₁ → PanelSettled p out answer s out₂ answer₂
+      → (r ≡ s) × (out₁ ≡ out₂) × (answer₁ ≡ answer₂)
   -- the other checks answer yes or no
   pub yes-or-no : {a b : Bool} {P : Type 0} → Says a P → Says b P → a ≡ b
 
--- a refusal by the lister or the instance maker changes no lent list, and its other numbers are 0
+-- a refusal by the lister, the instance maker or a panel changes no lent list, and its other numbers are 0
 pub record NothingWritten : Type 0 where
   pub list : {l : Lists} {budget : ℕ} {before after : List ℕ} {r : Listed} → Settled l budget before r after → (r .code ≡ 0 → ⊥)
       → (after ≡ before) × (r .ending ≡ 0) × (r .records ≡ 0) × (r .tries ≡ 0)
   pub list-after : {l : Lists} {list : List ℕ} {budget : ℕ} {before after : List ℕ} {r : Listed} → PageSettled l list budget before r after → (r .code ≡ 0 → ⊥)
       → (after ≡ before) × (r .ending ≡ 0) × (r .records ≡ 0) × (r .tries ≡ 0)
   pub instance : {l : InstanceLists} {L S L' S' : List ℕ} {r : Made} → InstanceSettled l L S r L' S' → (codeGiven r ≡ 0 → ⊥) → (L' ≡ L) × (S' ≡ S) × (rowsGiven r ≡ 0)
+  pub panel : {p : Panel} {out answer out' answer' : List ℕ} {r : ℕ} → PanelSettled p out answer r out' answer' → (r ≡ 0 → ⊥) → (out' ≡ out) × (answer' ≡ answer)
 
 pub record Refusals : Type 1 where
   pub reader : ReaderRefuses

@@ -3,6 +3,7 @@ ghost use Rattle.document.specs.Reading.{DocumentChecked, Read};
 ghost use Rattle.dictionary.specs.Spelling.{PartAnswered};
 ghost use Rattle.instance.specs.Instance.{lists};
 ghost use Rattle.answer.specs.Answers.{Lists, ListsAfter, Tests, Makes};
+ghost use Rattle.panel.specs.Panel.{PanelSettled};
 use answer::Listing;
 use answer::Making;
 use answer::Part;
@@ -117,6 +118,62 @@ pub extern "C" fn khargovsun_list_after(
         budget,
         page,
     ))
+}
+
+#[no_mangle]
+pub extern "C" fn khargovsun_panel(
+    label: &[u32],
+    size: &[u32],
+    kind: &[u32],
+    name: &[u32],
+    pattern_size: &[u32],
+    expression_kind: &[u32],
+    expression_name: &[u32],
+    expression_size: &[u32],
+    constraint: &[u32],
+    pattern_length: &[u32],
+    expression_length: &[u32],
+    constraint_length: &[u32],
+    budget: &[u32],
+    share: &[u32],
+    out: &mut [u32],
+    answer: &mut [u32],
+) -> u32
+    ensures { λ r. ⌜ PanelSettled (record {
+      label = now (label .entry);
+      size = now (size .entry);
+      kind = now (kind .entry);
+      name = now (name .entry);
+      patternSize = now («pattern_size» .entry);
+      expressionKind = now («expression_kind» .entry);
+      expressionName = now («expression_name» .entry);
+      expressionSize = now («expression_size» .entry);
+      constraint = now (constraint .entry);
+      patternLength = now («pattern_length» .entry);
+      expressionLength = now («expression_length» .entry);
+      constraintLength = now («constraint_length» .entry);
+      budget = now (budget .entry);
+      share = now (share .entry);
+    }) (now (out .entry)) (now (answer .entry)) r (now (out .exit)) (now (answer .exit)) ⌝ }
+{
+    panel::panel(
+        label,
+        size,
+        kind,
+        name,
+        pattern_size,
+        expression_kind,
+        expression_name,
+        expression_size,
+        constraint,
+        pattern_length,
+        expression_length,
+        constraint_length,
+        budget,
+        share,
+        out,
+        answer,
+    )
 }
 
 #[no_mangle]

@@ -1,0 +1,3 @@
+pub mod Parts
+pub mod Panel
+pub mod Inside
