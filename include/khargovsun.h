@@ -10,8 +10,8 @@
  * and signal handlers may call at the same time, as long as none writes a list that another call reads or writes.
  *
  * Stack, the most that was measured, in bytes (bench/stack/README.md: painted, on the deepest inputs; -O3, the larger of x86-64 and Arm): check
- * 19,360; read 35,920; list 60,648; list_after 72,264; test 39,688; instance 30,696; spelling 10,456. Give a thread 128 kB, or one that only
- * checks and reads documents 64 kB.
+ * 19,360; read 35,920; list 60,888; list_after 72,264; panel 65,560; test 39,688; instance 30,696; spelling 10,456. Give a thread 128 kB, or one
+ * that only checks and reads documents 64 kB.
  *
  * In a refusal the first code that applies is given, in the order that stands at the function, every other number is 0 (but the place of code
  * 3), and nothing is written. */
@@ -148,18 +148,19 @@ khargovsun_listing khargovsun_list_after(const uint32_t *label, size_t label_len
                                          const uint32_t *record, size_t record_length,
                                          uint32_t budget, uint32_t *out, size_t out_length);
 
-/* A panel: up to KHARGOVSUN_MAX_PROBLEMS problems over one tree, which is judged once. The problems' patterns are laid end to end in the three pattern lists,
- * their expression tables in the next three, their constraints in the next one: pattern_length[i] rows, expression_length[i] rows and
- * constraint_length[i] numbers belong to problem i. So do budget[i] and the next share[i] entries of out.
+/* A panel: up to KHARGOVSUN_MAX_PROBLEMS problems over one tree, which is judged once. The problems' patterns are laid end to end in the three
+ * pattern lists, their expression tables in the next three, their constraints in the next one: pattern_length[i] rows, expression_length[i]
+ * rows and constraint_length[i] numbers belong to problem i. So do budget[i] and the next share[i] entries of out.
  *
  * Each problem is answered as by a khargovsun_list of its own on its part of out, also where another is refused: answer[4 * i] up to
- * answer[4 * i + 3] are its code, ending, records and tries, and its records stand from the first entry of its part on, the rest of which is unchanged.
+ * answer[4 * i + 3] are its code, ending, records and tries, and its records stand from the first entry of its part on, the rest of which
+ * is unchanged.
  *
- * Gives 0; or 21, before all other codes, and then neither out nor answer is written. It gives 21 exactly unless all of these hold: the last five
- * lists before out have one common number of entries, at most 32, and answer has four times as many; the pattern lengths add up to the
- * number of entries of each pattern list, the expression lengths to that of each expression list, the constraint lengths to that of the constraint list,
- * and the shares to that of out, exactly and without wrapping. A tree that is none is no 21 but the 11 of each answer. No problem at all is
- * answered by 0. */
+ * Gives 0; or 21, before all other codes, and then neither out nor answer is written. It gives 21 exactly unless all of these hold: the last
+ * five lists before out have one common number of entries, at most 32, and answer has four times as many; the pattern lengths add up to
+ * the number of entries of each pattern list, the expression lengths to that of each expression list, the constraint lengths to that of the
+ * constraint list, and the shares to that of out, exactly and without wrapping. Rows that are no tree are no 21 but the 11 of each answer.
+ * No problem at all is answered by 0. */
 uint32_t khargovsun_panel(const uint32_t *label, size_t label_length, const uint32_t *size, size_t size_length,
                           const uint32_t *kind, size_t kind_length, const uint32_t *name, size_t name_length,
                           const uint32_t *pattern_size, size_t pattern_size_length,
@@ -257,8 +258,8 @@ typedef struct {
     khargovsun_constraints constraints;
 } khargovsun_problem;
 
-/* Problems over one tree: the rows and numbers of all of them end to end, and for each problem how many are its own, its budget and its share of
- * the entries that the lister fills. */
+/* Problems over one tree: the rows and numbers of all of them end to end, and for each problem how many are its own, its budget and its
+ * share of the entries that the lister fills. */
 typedef struct {
     khargovsun_tree tree;
     khargovsun_pattern patterns;

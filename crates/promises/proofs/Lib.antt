@@ -8,3 +8,4 @@ pub mod Table
 pub mod Demands
 pub mod Wrong
 pub mod Forgotten
+pub mod Lengths
