@@ -1,7 +1,7 @@
 -- The loop over the problems: what holds whenever it goes round, what its calls ask, and what each turn adds.
 use Prim.Native.Nat.{ℕ, _+_, _*_, _≤_, _<_}
 use mathlib.Core.Path.{_≡_, refl, ap, _∙_, sym}
-use mathlib.Core.Bool.{Bool, true, false, _&&_}
+use mathlib.Core.Bool.{Bool, true, false}
 use mathlib.Core.List.{List}
 use lib.ListN.{length, getD, take}
 use native.Mathlib.Omega.{arith}
@@ -10,9 +10,9 @@ use Rattle.meaning.proofs.Answers.{said-no}
 use Rattle.tree.specs.Rows.{GoodRows}
 use Rattle.answer.specs.declared.Listing.{Listing}
 use Rattle.panel.specs.Parts.{sum}
-use Rattle.panel.specs.Panel.{Panel, problems, Agree, AddUp, PanelSettled}
-use Rattle.portion.specs.Portion.{most, Within, PortionPre, PortionPost}
-use Rattle.panel.specs.Inside.{Agreeing, Whole, Filling, NextPre, written}
+use Rattle.panel.specs.Panel.{Panel, problems, ListsAgree, LengthsAddUp, PanelSettled}
+use Rattle.portion.specs.Portion.{most, EndsIn, PortionPre, PortionPost}
+use Rattle.panel.specs.Inside.{Agreeing, AllReach, Filling, WithNextPre, written}
 use Rattle.portion.specs.declared.Reach.{Reach}
 use Rattle.panel.proofs.Parts.{sum-next, sum-within}
 use Rattle.panel.proofs.Upto.{Upto, upto-none, upto-next, tables, reach, panel-done, panel-refused}
@@ -31,23 +31,23 @@ module _ (p : Panel) (out answer : List ℕ) where
   AgreeingLists = Agreeing (problems p) (length (p .patternLength)) (length (p .expressionLength)) (length (p .constraintLength)) (length (p .budget)) (length answer)
 
   abbrev WholeLists : Reach → Type 0
-  WholeLists all = Whole (p .patternLength) (p .expressionLength) (p .constraintLength) (p .share) all
+  WholeLists all = AllReach (p .patternLength) (p .expressionLength) (p .constraintLength) (p .share) all
 
   abbrev FillingLists : Reach → Type 0
   FillingLists all =
       Filling all (length (p .kind)) (length (p .name)) (length (p .patternSize)) (length (p .expressionKind)) (length (p .expressionName)) (length (p .expressionSize)) (length (p .constraint)) (length out)
 
-  agree-is : AgreeingLists → Agree p (length answer)
+  agree-is : AgreeingLists → ListsAgree p (length answer)
   agree-is a = let l = a .lists in record { patterns = l .0; expressions = l .1; constraints = l .2; budgets = l .3; answers = l .4; few = a .few }
 
-  is-agree : Agree p (length answer) → AgreeingLists
+  is-agree : ListsAgree p (length answer) → AgreeingLists
   is-agree a = record { few = a .few; lists = (a .patterns, a .expressions, a .constraints, a .budgets, a .answers) }
 
   pub lists-disagree : {r : Bool} → Says r AgreeingLists → r ≡ false → PanelSettled p out answer 21 out answer
   lists-disagree s e = panel-refused p out answer (λ g. said-no s e (is-agree (g .0)))
 
   module _ {all : Reach} (w : WholeLists all) where
-    add-up-is : FillingLists all → AddUp p (length out)
+    add-up-is : FillingLists all → LengthsAddUp p (length out)
     add-up-is f =
         let g : FillingLists (record { rows = sum (p .patternLength); expressions = sum (p .expressionLength); numbers = sum (p .constraintLength); entries = sum (p .share) }) = rw (w .is) at f in
         record {
@@ -61,7 +61,7 @@ module _ (p : Panel) (out answer : List ℕ) where
           out = g .entries;
         }
 
-    is-add-up : AddUp p (length out) → FillingLists all
+    is-add-up : LengthsAddUp p (length out) → FillingLists all
     is-add-up u =
         rw (w .is)
         (record {
@@ -76,8 +76,8 @@ module _ (p : Panel) (out answer : List ℕ) where
 
 -- whenever the loop goes round: the first i problems are answered, and `from` is how far they reach
 pub record Going (p : Panel) (tree : Bool) (out answer : List ℕ) (i : ℕ) (from : Reach) (out' answer' : List ℕ) : Type 0 where
-  pub agree : Agree p (length answer)
-  pub add : AddUp p (length out)
+  pub agree : ListsAgree p (length answer)
+  pub add : LengthsAddUp p (length out)
   pub all : Reach
   pub small : WholeLists p out answer all
   pub judged : Says tree (GoodRows (p .label) (p .size))
@@ -101,7 +101,7 @@ begins p out answer {all = all} s e w fill h judged =
     }
 
 -- where one part of a list ends, by how far the problems reach
-ends-within : (i : ℕ) (lengths list : List ℕ) → i < length lengths → sum lengths ≤ most → sum lengths ≡ length list → Within (sum (take i lengths)) (sum (take (i + 1) lengths)) list
+ends-within : (i : ℕ) (lengths list : List ℕ) → i < length lengths → sum lengths ≤ most → sum lengths ≡ length list → EndsIn (sum (take i lengths)) (sum (take (i + 1) lengths)) list
 ends-within i lengths list h f e =
     let n = sum-next i lengths h in
     let w = sum-within i lengths h in
@@ -120,7 +120,7 @@ module _ {p : Panel} {tree : Bool} {out answer : List ℕ} {i : ℕ} {from : Rea
   pub budget-there : i < length (p .budget)
   budget-there = omega (arith, g .agree .budgets)
 
-  pub next-asked : NextPre (p .patternLength) (p .expressionLength) (p .constraintLength) (p .share) i from
+  pub next-asked : WithNextPre (p .patternLength) (p .expressionLength) (p .constraintLength) (p .share) i from
   next-asked =
       record {
         rows = record { is = ap (λ (r : Reach). r .rows) (g .is); there = in-patterns; fits = g .small .rows };

@@ -9,7 +9,7 @@ use native.Mathlib.Omega.{arith}
 use Rattle.catalogue.specs.Listing.{joined}
 use Rattle.panel.specs.Parts.{sum, part, firstParts, PartsJoined}
 use Rattle.portion.specs.Portion.{most}
-use Rattle.panel.specs.Inside.{Whole, HasNext, NextPre, reachOf}
+use Rattle.panel.specs.Inside.{AllReach, HasNext, WithNextPre, reachOf}
 use Rattle.portion.specs.declared.Reach.{Reach}
 
 -- the sum of one more length
@@ -54,7 +54,7 @@ next-fits {lengths} {i} h = omega (arith, h .is, h .fits, sum-within i lengths (
 pub next-is : {lengths : List ℕ} {i n : ℕ} → HasNext lengths i n → n + getD lengths i 0 ≡ sum (take (i + 1) lengths)
 next-is {lengths} {i} h = omega (arith, h .is, sum-next i lengths (h .there))
 
-pub reach-next : {patterns expressions constraints shares : List ℕ} {i : ℕ} {before : Reach} {rows expressionRows numbers entries : ℕ} → NextPre patterns expressions constraints shares i before
+pub reach-next : {patterns expressions constraints shares : List ℕ} {i : ℕ} {before : Reach} {rows expressionRows numbers entries : ℕ} → WithNextPre patterns expressions constraints shares i before
     → rows ≡ getD patterns i 0 → expressionRows ≡ getD expressions i 0 → numbers ≡ getD constraints i 0 → entries ≡ getD shares i 0
     → _≡_ {A = Reach} (record { rows = before .rows + rows; expressions = before .expressions + expressionRows; numbers = before .numbers + numbers; entries = before .entries + entries })
     (reachOf patterns expressions constraints shares (i + 1))
@@ -108,7 +108,7 @@ module _ (lengths xs ys : List ℕ) (i : ℕ) (h : i < length lengths) (filled :
 
 -- four sums are how far all problems reach
 pub whole-is : {patterns expressions constraints shares : List ℕ} {a b c d : ℕ} → (a ≡ sum patterns) × (a ≤ most) → (b ≡ sum expressions) × (b ≤ most) → (c ≡ sum constraints) × (c ≤ most)
-    → (d ≡ sum shares) × (d ≤ most) → Whole patterns expressions constraints shares (record { rows = a; expressions = b; numbers = c; entries = d })
+    → (d ≡ sum shares) × (d ≤ most) → AllReach patterns expressions constraints shares (record { rows = a; expressions = b; numbers = c; entries = d })
 whole-is a b c d =
     record {
       is = rw (a .0, b .0, c .0, d .0);

@@ -3,7 +3,6 @@ use Prim.Native.Nat.{ℕ, _*_, _≤_}
 use mathlib.Core.Path.{_≡_, refl}
 use mathlib.Core.Bool.{Bool, true, false, _&&_}
 use lib.Dec.{eqb}
-use native.Mathlib.Omega.{arith}
 use Rattle.meaning.specs.Calls.{Says}
 use Rattle.meaning.proofs.Answers.{says-no, said-no, says-equal}
 use Rattle.portion.specs.declared.Reach.{Reach}

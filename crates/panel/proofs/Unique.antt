@@ -1,9 +1,9 @@
 -- The promise settles a panel's code and both lent lists; and a problem's answer is what a call of its own gives, whoever makes it.
-use Prim.Native.Nat.{ℕ, zero, suc, _+_, _*_, _≤_, _<_}
+use Prim.Native.Nat.{ℕ, zero, suc, _+_, _*_, _<_}
 use mathlib.Core.Path.{_≡_, refl, ap, _∙_, sym}
 use mathlib.Core.Logic.{inl, inr}
 use mathlib.Core.List.{List, [], _∷_, _++_}
-use lib.ListN.{length, getD, take, drop}
+use lib.ListN.{length, getD}
 use lib.Seq.{ext-getD}
 use native.Mathlib.Omega.{arith}
 use native.Mathlib.Decide.{ℕ-discrete}
@@ -14,7 +14,7 @@ use Rattle.lister.specs.Listed.{Settled}
 use Rattle.lister.specs.declared.Listed.{Listed}
 use Rattle.lister.proofs.Unique.{one-listed, are-one}
 use Rattle.panel.specs.Parts.{sum, part, firstParts}
-use Rattle.panel.specs.Panel.{Panel, problems, problem, answerAt, Agree, AddUp, PanelSettled}
+use Rattle.panel.specs.Panel.{Panel, problems, problem, answerAt, ListsAgree, LengthsAddUp, PanelSettled}
 use Rattle.panel.proofs.Parts.{parts-joined}
 
 -- lists whose parts are the same are the same
@@ -56,10 +56,10 @@ by-answers n xs ys a b e = ext-getD 0 xs ys (a ∙ sym b) (λ k h. at k (place k
     at k (tries i z) h = rw z (ap (λ (r : Listed). r .tries) (e i (omega arith)))
 
 -- 21 is given exactly where a rule is broken; where none is, the lists agree and add up
-pub adds-up : {p : Panel} {out answer out' answer' : List ℕ} {r : ℕ} → PanelSettled p out answer r out' answer' → r ≡ 0 → Agree p (length answer) × AddUp p (length out)
+pub adds-up : {p : Panel} {out answer out' answer' : List ℕ} {r : ℕ} → PanelSettled p out answer r out' answer' → r ≡ 0 → ListsAgree p (length answer) × LengthsAddUp p (length out)
 adds-up {p} {out} {answer} {r = r} s z = go (s .code)
   where
-    go : refuse 21 (Agree p (length answer) × AddUp p (length out)) accept r → Agree p (length answer) × AddUp p (length out)
+    go : refuse 21 (ListsAgree p (length answer) × LengthsAddUp p (length out)) accept r → ListsAgree p (length answer) × LengthsAddUp p (length out)
     go (inl a) = absurd (omega (arith, a .1))
     go (inr a) = a .0
 

@@ -1,18 +1,17 @@
 -- The problems answered one after another: what holds when the first i are, and what one more adds.
-use Prim.Native.Nat.{ℕ, zero, suc, _+_, _-_, _*_, _≤_, _<_}
+use Prim.Native.Nat.{ℕ, _+_, _-_, _*_, _<_}
 use mathlib.Core.Path.{_≡_, refl, ap, _∙_, sym}
 use mathlib.Core.Logic.{inl, inr}
-use mathlib.Core.List.{List, [], _∷_}
+use mathlib.Core.List.{List}
 use lib.ListN.{length, getD, take, drop, set, length-set}
 use lib.Seq.{drop-drop, getD-set-same, getD-set-other}
 use native.Mathlib.Omega.{arith}
 use borrow.Author.Count.{below-more}
 use Rattle.problem.specs.Problem.{Lists}
 use Rattle.lister.specs.Listed.{Settled}
-use Rattle.lister.specs.declared.Listed.{Listed}
 use Rattle.answer.specs.declared.Listing.{Listing}
 use Rattle.panel.specs.Parts.{sum, part}
-use Rattle.panel.specs.Panel.{Panel, problems, problem, answerAt, Agree, AddUp, PanelSettled}
+use Rattle.panel.specs.Panel.{Panel, problems, problem, answerAt, ListsAgree, LengthsAddUp, PanelSettled}
 use Rattle.portion.specs.Portion.{PortionPost}
 use Rattle.panel.specs.Inside.{reachOf, written}
 use Rattle.portion.specs.declared.Reach.{Reach}
@@ -107,7 +106,7 @@ span : (i : ℕ) (lengths : List ℕ) → i < length lengths → sum (take (i + 
 span i lengths h = omega (arith, sum-next i lengths h)
 
 -- one more problem is answered
-module _ (p : Panel) (out answer : List ℕ) (agree : Agree p (length answer)) (add : AddUp p (length out)) (i : ℕ) (h : i < problems p) where
+module _ (p : Panel) (out answer : List ℕ) (agree : ListsAgree p (length answer)) (add : LengthsAddUp p (length out)) (i : ℕ) (h : i < problems p) where
   rows : sum (take (i + 1) (p .patternLength)) - sum (take i (p .patternLength)) ≡ getD (p .patternLength) i 0
   rows = span i (p .patternLength) (omega (arith, agree .patterns))
 
@@ -160,8 +159,8 @@ module _ (p : Panel) (out answer : List ℕ) (agree : Agree p (length answer)) (
       before j b = rw (answer-other j i answers x b, ap (λ (l : List ℕ). part j (p .share) l) is ∙ put-before (p .share) now (post .share) i h filled long j b) (u .each j b)
 
 -- nothing is written where the lists do not agree or do not add up
-pub panel-refused : (p : Panel) (out answer : List ℕ) → (Agree p (length answer) × AddUp p (length out) → ⊥) → PanelSettled p out answer 21 out answer
+pub panel-refused : (p : Panel) (out answer : List ℕ) → (ListsAgree p (length answer) × LengthsAddUp p (length out) → ⊥) → PanelSettled p out answer 21 out answer
 panel-refused p out answer n = record { code = inl (n, refl); each = λ e. absurd (omega arith); long = (refl, refl); refused = λ e. (refl, refl) }
 
-pub panel-done : (p : Panel) {out answer out' answer' : List ℕ} → Agree p (length answer) → AddUp p (length out) → Upto p out answer (problems p) out' answer' → PanelSettled p out answer 0 out' answer'
+pub panel-done : (p : Panel) {out answer out' answer' : List ℕ} → ListsAgree p (length answer) → LengthsAddUp p (length out) → Upto p out answer (problems p) out' answer' → PanelSettled p out answer 0 out' answer'
 panel-done p agree add u = record { code = inr ((agree, add), refl); each = λ e. u .each; long = (u .out-long, u .answer-long); refused = λ e. absurd (e refl) }

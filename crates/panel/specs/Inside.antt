@@ -8,20 +8,20 @@ use Rattle.portion.specs.Portion.{most}
 use Rattle.portion.specs.declared.Reach.{Reach}
 use Rattle.panel.specs.Parts.{sum}
 
--- as `Agree`, of lists of these lengths
+-- as `ListsAgree`, of lists of these lengths
 pub record Agreeing (problems patterns expressions constraints budgets answers : ℕ) : Type 0 where
   pub few : problems ≤ 32
   pub lists : (patterns ≡ problems) × (expressions ≡ problems) × (constraints ≡ problems) × (budgets ≡ problems) × (answers ≡ problems * 4)
 
 -- how far all problems reach; the sums are numbers of the machine
-pub record Whole (patterns expressions constraints shares : List ℕ) (all : Reach) : Type 0 where
+pub record AllReach (patterns expressions constraints shares : List ℕ) (all : Reach) : Type 0 where
   pub is : all ≡ record { rows = sum patterns; expressions = sum expressions; numbers = sum constraints; entries = sum shares }
   pub rows : sum patterns ≤ most
   pub expression-rows : sum expressions ≤ most
   pub numbers : sum constraints ≤ most
   pub entries : sum shares ≤ most
 
--- as `AddUp`, of lists of these lengths
+-- as `LengthsAddUp`, of lists of these lengths
 pub record Filling (all : Reach) (kind name patternSize expressionKind expressionName expressionSize constraint out : ℕ) : Type 0 where
   pub rows : (all .rows ≡ kind) × (all .rows ≡ name) × (all .rows ≡ patternSize)
   pub expression-rows : (all .expressions ≡ expressionKind) × (all .expressions ≡ expressionName) × (all .expressions ≡ expressionSize)
@@ -39,7 +39,7 @@ pub record HasNext (lengths : List ℕ) (i n : ℕ) : Type 0 where
   pub there : i < length lengths
   pub fits : sum lengths ≤ most
 
-pub record NextPre (patterns expressions constraints shares : List ℕ) (i : ℕ) (before : Reach) : Type 0 where
+pub record WithNextPre (patterns expressions constraints shares : List ℕ) (i : ℕ) (before : Reach) : Type 0 where
   pub rows : HasNext patterns i (before .rows)
   pub expression-rows : HasNext expressions i (before .expressions)
   pub numbers : HasNext constraints i (before .numbers)

@@ -59,7 +59,7 @@ answerAt i answer =
     }
 
 -- the lists agree on the number of problems, and it is not over 32; n is the length of the list of answers
-pub record Agree (p : Panel) (n : ℕ) : Type 0 where
+pub record ListsAgree (p : Panel) (n : ℕ) : Type 0 where
   pub patterns : length (p .patternLength) ≡ problems p
   pub expressions : length (p .expressionLength) ≡ problems p
   pub constraints : length (p .constraintLength) ≡ problems p
@@ -68,7 +68,7 @@ pub record Agree (p : Panel) (n : ℕ) : Type 0 where
   pub few : problems p ≤ 32
 
 -- lengths and shares add up to the lists lent; n is the length of out
-pub record AddUp (p : Panel) (n : ℕ) : Type 0 where
+pub record LengthsAddUp (p : Panel) (n : ℕ) : Type 0 where
   pub kind : sum (p .patternLength) ≡ length (p .kind)
   pub name : sum (p .patternLength) ≡ length (p .name)
   pub pattern-size : sum (p .patternLength) ≡ length (p .patternSize)
@@ -80,7 +80,7 @@ pub record AddUp (p : Panel) (n : ℕ) : Type 0 where
 
 -- what a panel promises of its code and of the two lent lists, for any lists
 pub record PanelSettled (p : Panel) (out answer : List ℕ) (r : ℕ) (out' answer' : List ℕ) : Type 0 where
-  pub code : refuse 21 (Agree p (length answer) × AddUp p (length out)) accept r
+  pub code : refuse 21 (ListsAgree p (length answer) × LengthsAddUp p (length out)) accept r
   -- each problem's four numbers, and its share of out afterwards, are those that the lister promises
   pub each : r ≡ 0 → (i : ℕ) → i < problems p → Settled (problem p i) (getD (p .budget) i 0) (part i (p .share) out) (answerAt i answer') (part i (p .share) out')
   -- both lists are as long as they were: every entry belongs to one share, or to one answer

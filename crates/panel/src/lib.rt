@@ -1,12 +1,12 @@
 // A panel of patterns: up to 32 problems over one tree in one call, each answered as by a call of its own.
 ghost use mathlib.Core.Path.{_≡_};
 ghost use Prim.Native.Nat.{_+_, _*_, _<_, _≤_};
-ghost use lib.ListN.{length, getD};
+ghost use lib.ListN.{length};
 ghost use Rattle.meaning.specs.Calls.{Says};
 ghost use Rattle.portion.specs.Portion.{most};
 ghost use Rattle.panel.specs.Parts.{sum};
 ghost use Rattle.panel.specs.Panel.{PanelSettled};
-ghost use Rattle.panel.specs.Inside.{Agreeing, Whole, Filling, reachOf, NextPre, written};
+ghost use Rattle.panel.specs.Inside.{Agreeing, AllReach, Filling, reachOf, WithNextPre, written};
 use answer::Listing;
 use meaning::codes::PANEL;
 use portion::Reach;
@@ -50,7 +50,7 @@ fn agree(
 // How far all problems reach.
 fn whole(patterns: &[u32], expressions: &[u32], constraints: &[u32], shares: &[u32]) -> Reach
     requires { ⌜ (length (now patterns) ≤ 32) × (length (now expressions) ≤ 32) × (length (now constraints) ≤ 32) × (length (now shares) ≤ 32) ⌝ }
-    ensures { λ r. ⌜ Whole (now (patterns .entry)) (now (expressions .entry)) (now (constraints .entry)) (now (shares .entry)) r ⌝ }
+    ensures { λ r. ⌜ AllReach (now (patterns .entry)) (now (expressions .entry)) (now (constraints .entry)) (now (shares .entry)) r ⌝ }
 {
     Reach {
         rows: total(patterns),
@@ -95,7 +95,7 @@ fn with_next(
     i: usize,
     before: Reach,
 ) -> Reach
-    requires { ⌜ NextPre (now patterns) (now expressions) (now constraints) (now shares) i before ⌝ }
+    requires { ⌜ WithNextPre (now patterns) (now expressions) (now constraints) (now shares) i before ⌝ }
     ensures { λ r. ⌜ r ≡ reachOf (now (patterns .entry)) (now (expressions .entry)) (now (constraints .entry)) (now (shares .entry)) (i + 1) ⌝ }
 {
     let rows = before.rows + at(patterns, i);

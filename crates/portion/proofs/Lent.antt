@@ -9,11 +9,11 @@ use Rattle.lister.specs.Listed.{Settled}
 use Rattle.lister.specs.declared.Listed.{Listed}
 use Rattle.answer.specs.declared.Listing.{Listing}
 use Rattle.answer.proofs.Whole.{list-whole}
-use Rattle.portion.specs.Portion.{cut, cutLists, Within, PortionPost}
+use Rattle.portion.specs.Portion.{stretch, stretchLists, EndsIn, PortionPost}
 use Rattle.portion.specs.declared.Reach.{Reach}
 
-pub portion-done : {l : Lists} {from to : Reach} {budget : ℕ} {out share : List ℕ} {x : Listed} {r : Listing} → Within (from .entries) (to .entries) out
-    → length share ≡ length (cut (from .entries) (to .entries) out) → Settled (cutLists l from to) budget (cut (from .entries) (to .entries) out) x share
+pub portion-done : {l : Lists} {from to : Reach} {budget : ℕ} {out share : List ℕ} {x : Listed} {r : Listing} → EndsIn (from .entries) (to .entries) out
+    → length share ≡ length (stretch (from .entries) (to .entries) out) → Settled (stretchLists l from to) budget (stretch (from .entries) (to .entries) out) x share
     → (r .code ≡ x .code) × (r .ending ≡ x .ending) × (r .records ≡ x .records) × (r .tries ≡ x .tries)
     → PortionPost l from to budget out r (take (from .entries) out ++ (share ++ drop (to .entries - from .entries) (drop (from .entries) out)))
 portion-done {from = from} {to} {out = out} {share} w long s z =

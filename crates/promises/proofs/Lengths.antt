@@ -2,7 +2,6 @@
 use Prim.Native.Nat.{ℕ}
 use mathlib.Core.Path.{_≡_, refl, sym}
 use mathlib.Core.List.{List, []}
-use lib.ListN.{length}
 use native.Mathlib.Omega.{arith}
 use Rattle.panel.specs.Parts.{sum, firstParts}
 use Rattle.panel.specs.Panel.{Panel, problems, PanelSettled}

@@ -3,13 +3,13 @@ use Prim.Native.Nat.{ℕ, _<_}
 use mathlib.Core.Path.{_≡_, refl, _∙_, sym}
 use mathlib.Core.Logic.{_↔_, inl, inr}
 use mathlib.Core.List.{List}
-use lib.ListN.{length, getD}
+use lib.ListN.{getD}
 use native.Mathlib.Omega.{arith}
 use Rattle.meaning.specs.Calls.{refuse, accept}
 use Rattle.tree.specs.Rows.{GoodRows}
 use Rattle.lister.specs.Listed.{Settled}
 use Rattle.panel.specs.Parts.{part}
-use Rattle.panel.specs.Panel.{Panel, problems, problem, answerAt, Agree, AddUp, PanelSettled}
+use Rattle.panel.specs.Panel.{Panel, problems, problem, answerAt, PanelSettled}
 use Rattle.panel.proofs.Parts.{parts-joined}
 use Rattle.panel.proofs.Unique.{adds-up, as-alone}
 use Rattle.promises.specs.Panels.{Panels}

@@ -2,14 +2,14 @@
 use Prim.Native.Nat.{ℕ, _<_}
 use mathlib.Core.Path.{_≡_}
 use mathlib.Core.Logic.{_↔_}
-use mathlib.Core.List.{List, []}
+use mathlib.Core.List.{List}
 use lib.ListN.{length, getD}
 use Rattle.catalogue.specs.Listing.{joined}
 use Rattle.tree.specs.Rows.{GoodRows}
 use Rattle.lister.specs.Listed.{Settled}
 use Rattle.lister.specs.declared.Listed.{Listed}
 use Rattle.panel.specs.Parts.{part, firstParts, PartsJoined}
-use Rattle.panel.specs.Panel.{Panel, problems, problem, answerAt, Agree, AddUp, PanelSettled}
+use Rattle.panel.specs.Panel.{Panel, problems, problem, answerAt, ListsAgree, LengthsAddUp, PanelSettled}
 
 -- of every answer that keeps a panel's promise, for any lists
 pub record Panels : Type 0 where
@@ -17,8 +17,8 @@ pub record Panels : Type 0 where
   pub as-alone : {p : Panel} {out answer out' answer' : List ℕ} {r : ℕ} → PanelSettled p out answer r out' answer' → r ≡ 0 → (i : ℕ) → i < problems p → {x : Listed} {after : List ℕ}
       → Settled (problem p i) (getD (p .budget) i 0) (part i (p .share) out) x after → (x ≡ answerAt i answer') × (after ≡ part i (p .share) out')
   -- 0 is given exactly where the lists agree and add up, and 21 exactly where they do not
-  pub accepted : {p : Panel} {out answer out' answer' : List ℕ} {r : ℕ} → PanelSettled p out answer r out' answer' → (r ≡ 0) ↔ (Agree p (length answer) × AddUp p (length out))
-  pub refused : {p : Panel} {out answer out' answer' : List ℕ} {r : ℕ} → PanelSettled p out answer r out' answer' → (r ≡ 21) ↔ (Agree p (length answer) × AddUp p (length out) → ⊥)
+  pub accepted : {p : Panel} {out answer out' answer' : List ℕ} {r : ℕ} → PanelSettled p out answer r out' answer' → (r ≡ 0) ↔ (ListsAgree p (length answer) × LengthsAddUp p (length out))
+  pub refused : {p : Panel} {out answer out' answer' : List ℕ} {r : ℕ} → PanelSettled p out answer r out' answer' → (r ≡ 21) ↔ (ListsAgree p (length answer) × LengthsAddUp p (length out) → ⊥)
   -- every entry of out belongs to one share: before and after, the shares joined are out. So it is with the tables and their lengths
   pub shares-are-all : {p : Panel} {out answer out' answer' : List ℕ} {r : ℕ} → PanelSettled p out answer r out' answer' → r ≡ 0
       → (joined (firstParts (problems p) (p .share) out) ≡ out) × (joined (firstParts (problems p) (p .share) out') ≡ out')

@@ -20,7 +20,7 @@ use Rattle.test.specs.declared.Tested.{Tested}
 use Rattle.lister.specs.Listed.{Settled}
 use Rattle.lister.specs.Page.{PageCodes, PageSettled}
 use Rattle.lister.specs.declared.Listed.{Listed}
-use Rattle.panel.specs.Panel.{Panel, Agree, AddUp, PanelSettled}
+use Rattle.panel.specs.Panel.{Panel, ListsAgree, LengthsAddUp, PanelSettled}
 use Rattle.instance.specs.Instance.{codeGiven, rowsGiven, InstanceLists, InstanceCodes, InstanceSettled}
 use Rattle.instance.specs.declared.Made.{Made}
 
@@ -40,7 +40,7 @@ pub record MatcherRefuses : Type 0 where
   pub list-after : {l : Lists} {list : List ℕ} {budget : ℕ} {before after : List ℕ} {r : Listed} → PageSettled l list budget before r after → PageCodes l list (r .code)
   pub test : {l : Lists} {list : List ℕ} {r : Tested} → TestSettled l list r → Codes l (Fifteen l list) (codeOf r)
   pub instance : {l : InstanceLists} {L S L' S' : List ℕ} {r : Made} → InstanceSettled l L S r L' S' → InstanceCodes l (length L) (length S) (codeGiven r)
-  pub panel : {p : Panel} {out answer out' answer' : List ℕ} {r : ℕ} → PanelSettled p out answer r out' answer' → refuse 21 (Agree p (length answer) × AddUp p (length out)) accept r
+  pub panel : {p : Panel} {out answer out' answer' : List ℕ} {r : ℕ} → PanelSettled p out answer r out' answer' → refuse 21 (ListsAgree p (length answer) × LengthsAddUp p (length out)) accept r
 
 -- every answer, refusals among them, is settled, with each lent list afterwards
 pub record OnlyOne : Type 1 where

@@ -1,5 +1,4 @@
 use borrow.Author.Needs.{needs}
-use borrow.Author.Tests.{ltb-false}
 use native.Mathlib.Omega.{arith}
 use Rattle.meaning.proofs.Answers.{says-no}
 use Rattle.panel.proofs.Says.{agrees}

@@ -1,5 +1,4 @@
 use Prim.Native.Nat.{_-_}
-use mathlib.Core.Path.{refl}
 use lib.ListN.{length}
 use native.Mathlib.Omega.{arith}
 use borrow.Author.Tests.{not-true, not-false}
@@ -7,13 +6,6 @@ use Rattle.panel.proofs.Going.{Going, lists-disagree, few-lengths, do-n
 use borrow.Author.Needs.{needs}
 use Rattle.panel.proofs.panel.Statement.{statement}
 use Rattle.panel.proofs.panel.Tie as tie
-use Rattle.panel.proofs.panel.Reads as reads
-use Rattle.panel.proofs.panel.Lts as lts
-use Rattle.panel.proofs.agree.Reads as agree-reads
-use Rattle.panel.proofs.fill.Reads as fill-reads
-use Rattle.panel.proofs.put.Reads as put-reads
-use Rattle.panel.proofs.with_next.Reads as with-next-reads
-use Rattle.tree.proofs.good.Reads as good-reads
 
 abbrev Inv-loop : tie.InvT-loop
 Inv-loop label size kind name pattern-size expression-kind expression-name expression-size constraint pattern-length expression-length constraint-length budget share out₀ answer₀ problems tree from₀ i₀ out answer from i =

@@ -4,10 +4,6 @@ use native.Mathlib.Omega.{arith}
 use borrow.Author.Needs.{needs}
 use Rattle.portion.proofs.list.Statement.{statement}
 use Rattle.portion.proofs.list.Tie as tie
-use Rattle.portion.proofs.list.Reads as reads
-use Rattle.portion.proofs.list.Lts as lts
-use Rattle.answer.proofs.of_lister.Reads as of-lister-reads
-use Rattle.lister.proofs.list_judged.Reads as list-judged-reads
 
 mul-list-judged : tie.Need-mul-list-judged
 mul-list-judged c = search needs
