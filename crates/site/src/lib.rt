@@ -136,7 +136,7 @@ pub extern "C" fn khargovsun_panel(
     constraint_length: &[u32],
     budget: &[u32],
     share: &[u32],
-    out: &mut [u32],
+    records: &mut [u32],
     answer: &mut [u32],
 ) -> u32
     ensures { λ r. ⌜ PanelSettled (record {
@@ -154,7 +154,7 @@ pub extern "C" fn khargovsun_panel(
       constraintLength = now («constraint_length» .entry);
       budget = now (budget .entry);
       share = now (share .entry);
-    }) (now (out .entry)) (now (answer .entry)) r (now (out .exit)) (now (answer .exit)) ⌝ }
+    }) (now (records .entry)) (now (answer .entry)) r (now (records .exit)) (now (answer .exit)) ⌝ }
 {
     panel::panel(
         label,
@@ -171,7 +171,7 @@ pub extern "C" fn khargovsun_panel(
         constraint_length,
         budget,
         share,
-        out,
+        records,
         answer,
     )
 }
