@@ -1,12 +1,9 @@
 -- 01, "What the contracts have to decide": the result on all inputs, refused ones too.
-use Prim.Native.Nat.{ℕ}
 use mathlib.Core.Path.{_≡_}
-use mathlib.Core.Bool.{Bool}
 use mathlib.Core.List.{List, []}
 use lib.ListN.{length}
 use Rattle.meaning.specs.Pattern.{Pattern, Kind}
-use Rattle.meaning.specs.Calls.{accept, Says}
-use Rattle.tree.specs.Rows.{GoodRows}
+use Rattle.meaning.specs.Calls.{accept}
 use Rattle.pattern.specs.Rows.{GoodPattern}
 use Rattle.pattern.specs.Answer.{listed}
 use Rattle.problem.specs.Problem.{Lists, Codes}
@@ -17,18 +14,3 @@ pub record Answered (l : Lists) (r : Problem) : Type 0 where
   pub code : Codes l accept (r .code)
   pub found : r .code ≡ 0 → (P : Pattern) (Q : List Kind) → GoodPattern (l .kind) (l .name) (l .patternSize) P Q → (r .variables ≡ length Q) × (r .kinds ≡ listed Q)
   pub refused : (r .code ≡ 0 → ⊥) → (r .variables ≡ 0) × (r .kinds ≡ listed [])
-
--- the same for every tree on which the judgement is right
-pub record AnsweredJudged (tree : Bool) (kind name patternSize expressionKind expressionName expressionSize constraint : List ℕ) (r : Problem) : Type 0 where
-  pub on : (label size : List ℕ) → Says tree (GoodRows label size)
-      → Answered (record {
-        label = label;
-        size = size;
-        kind = kind;
-        name = name;
-        patternSize = patternSize;
-        expressionKind = expressionKind;
-        expressionName = expressionName;
-        expressionSize = expressionSize;
-        constraint = constraint;
-      }) r

@@ -1,3 +1,4 @@
 pub mod Problem
 pub mod Answer
+pub mod Judgement
 pub mod Allowing

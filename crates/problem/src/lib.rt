@@ -1,5 +1,6 @@
 ghost use mathlib.Core.Path.{_≡_};
-ghost use Rattle.problem.specs.Answer.{Answered, AnsweredJudged};
+ghost use Rattle.problem.specs.Answer.{Answered};
+ghost use Rattle.problem.specs.Judgement.{AnsweredJudged};
 ghost use Rattle.problem.specs.Allowing.{AllowedPre, AllowedPost};
 ghost use Rattle.pattern.specs.Answer.{listed};
 ghost use mathlib.Core.List.{[]};
