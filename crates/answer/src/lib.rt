@@ -1,4 +1,6 @@
 // The answers as C has them: 32-bit numbers, laid out as C lays out a struct, and 01's numbers where the answer is an enum.
+#![tactic(auto)]
+
 ghost use Rattle.std.specs.Prelude.{◌≡◌, ◌<◌};
 ghost use Rattle.test.specs.Tested.{code_of, yes_of};
 ghost use Rattle.instance.specs.Instance.{code_given, rows_given};

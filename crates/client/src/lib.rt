@@ -1,4 +1,6 @@
 // A client that knows the lister by its contract alone: whether a problem has a matcher at all.
+#![tactic(auto)]
+
 ghost use Rattle.client.specs.Solvable.{Settled};
 
 #[derive(Drop)]

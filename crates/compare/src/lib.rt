@@ -1,4 +1,6 @@
 // A variable's later appearance: what it stands for, at its place in the tree, against what stands where it appears again.
+#![tactic(auto)]
+
 ghost use Rattle.compare.specs.Appear.{AlikePre, AlikePost, AgainPre, AgainPost, LeftPre, LeftPost, LevelPre, FitsPre, LevelPost, FitsPost};
 
 // A row that is looked for: where a sequence ends, or where a context has its hole.

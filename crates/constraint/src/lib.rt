@@ -1,3 +1,5 @@
+#![tactic(auto)]
+
 ghost use Rattle.std.specs.Prelude.{◌≡◌, List};
 ghost use Rattle.meaning.specs.Calls.{Says};
 ghost use Rattle.meaning.specs.Pattern.{Kind};

@@ -1,4 +1,6 @@
 // The dictionary: names, each ended by byte 10; labels; and the spelling lookup.
+#![tactic(auto)]
+
 ghost use Rattle.std.specs.Prelude.{◌≡◌, ◌+◌, ◌≤◌, length, drop};
 ghost use Rattle.dictionary.specs.Names.{DictionaryChecked};
 ghost use Rattle.dictionary.specs.Scan.{upto};

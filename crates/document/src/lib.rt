@@ -1,4 +1,6 @@
 // The document reader: notes the rows in lists of its own, so that a refusal writes nothing, and then fills the four lists.
+#![tactic(auto)]
+
 ghost use Rattle.std.specs.Prelude.{◌≡◌, List, ℕ, ◌≤◌, ◌<◌};
 ghost use Rattle.meaning.specs.Calls.{Says};
 ghost use Rattle.judge.specs.Verdict.{Verdict};

@@ -1,4 +1,6 @@
 // How the search is entered: from its first walk on, before any choice; or from the levels that stand at a record.
+#![tactic(auto)]
+
 ghost use Rattle.entry.specs.Begun.{BeginPre, BeginPost};
 ghost use Rattle.entry.specs.Resumed.{ResumePre, ResumePost};
 

@@ -1,4 +1,6 @@
 // Answers the worked examples of standard input, one to a line: `WORD | TEXT | LIST / LIST / ..`. For each line it prints `TEXT: ANSWER`.
+#![tactic(auto)]
+
 mod answers;
 
 use libc::{STDIN_FILENO, STDOUT_FILENO};

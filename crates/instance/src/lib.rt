@@ -1,4 +1,6 @@
 // The instance maker: labels and sizes of a pattern under a record.
+#![tactic(auto)]
+
 ghost use Rattle.instance.specs.Instance.{lists, InstanceSettled};
 
 mod counting;

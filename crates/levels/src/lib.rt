@@ -1,4 +1,6 @@
 // The levels of the search: a choice each, in the order of the pattern's rows, with the values that are left; and one try.
+#![tactic(auto)]
+
 ghost use Rattle.std.specs.Prelude.{◌≡◌, ◌+◌, ◌<◌, ◌≤◌, length};
 ghost use Rattle.catalogue.proofs.Back.{BackTo};
 ghost use Rattle.walk.specs.Packed.{root_of};
@@ -75,7 +77,7 @@ pub fn back(levels: &[usize; 1536], depth: usize) -> usize
 
 // A value to be tried: the variable x at the pattern row p, which starts at the row s, takes the value v, and the walk goes on at the
 // row u. Behind it values are left, and before it some were passed over that fail.
-#[derive(Drop)]
+#[derive(Clone, Copy)]
 pub struct Try {
     pub p: usize,
     pub x: usize,

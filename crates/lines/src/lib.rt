@@ -1,4 +1,6 @@
 // A line: `WORD | TEXT | LIST / LIST / ..`. A list is numbers with spaces between; `N*C` is N repeated C times, and `A..B` counts down from A to B.
+#![tactic(auto)]
+
 ghost use Rattle.std.specs.Prelude.{◌≤◌, length};
 
 pub mod fields;

@@ -1,4 +1,6 @@
 // Reads a document from standard input and lists Q on it: context 0 over f(sequence 1), with the dictionary g, f, h, a, b.
+#![tactic(auto)]
+
 ghost use Rattle.std.specs.Prelude.{◌≡◌};
 
 use libc::{STDIN_FILENO, STDOUT_FILENO};

@@ -1,4 +1,6 @@
 // The lister of matchers: checks the problem, and lists every matcher once, in order, as far as room and budget go.
+#![tactic(auto)]
+
 ghost use Rattle.std.specs.Prelude.{◌≡◌};
 ghost use Rattle.catalogue.proofs.Back.{fitting};
 ghost use Rattle.lister.specs.Inside.{nothing, whole, CheckedPre, NoPage};
@@ -13,7 +15,7 @@ use meaning::codes::{NO_MATCHER, RECORD};
 use search::Found;
 
 // What the lister answers; all but the code are 0 in a refusal.
-#[derive(Drop)]
+#[derive(Clone, Copy)]
 pub struct Listed {
     pub code: u32,
     pub ending: u32,

@@ -1,4 +1,6 @@
 // What the instance maker answers, for a record that was listed and for one of a line.
+#![tactic(auto)]
+
 pub mod parts;
 pub mod printing;
 

@@ -1,5 +1,7 @@
 // What has been read of each choice's sequence, so that a choice that grows by one term reads one more letter; and a context's path
 // goes on from the last one's.
+#![tactic(auto)]
+
 ghost use Rattle.std.specs.Prelude.{◌≡◌, ◌<◌, ◌-◌, length};
 ghost use Rattle.memory.specs.Memory.{kept, RecallPre, RecallPost, GrownPre, GrownPost, GrowPre, GrowPost};
 

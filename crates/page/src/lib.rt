@@ -1,4 +1,6 @@
 // The levels of the search as they stand at a record: each choice is the record's own second number, judged and walked with as a try is.
+#![tactic(auto)]
+
 ghost use Rattle.page.specs.Page.{ChoosePre, ChoosePost, ReachPre, ReachPost};
 
 use levels::{Try, advance, attempt, enter};

@@ -1,4 +1,6 @@
 // A panel of patterns: up to 32 problems over one tree in one call, each answered as by a call of its own.
+#![tactic(auto)]
+
 ghost use Rattle.std.specs.Prelude.{◌≡◌, ◌+◌, ◌*◌, ◌<◌, ◌≤◌, length};
 ghost use Rattle.meaning.specs.Calls.{Says};
 ghost use Rattle.portion.specs.Portion.{most};

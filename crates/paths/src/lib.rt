@@ -1,5 +1,7 @@
 // The path of a context variable: the states along it are kept by depth, so that the next hole reads only the labels that are new to it.
 // What is kept is one path, that of the context that was last judged.
+#![tactic(auto)]
+
 ghost use Rattle.std.specs.Prelude.{◌≡◌, ◌+◌, ◌<◌, ◌≤◌, length};
 ghost use Rattle.paths.specs.Paths.{ChildFromPre, ChildFromPost, HoldingPre, HoldingPost, RecallPre, RecallPost, AcceptedPre, AcceptedPost};
 ghost use Rattle.paths.specs.Paths as kept;

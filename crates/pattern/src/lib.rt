@@ -1,4 +1,6 @@
 // The pattern check: whether three lists are the rows of a pattern within the limits, and the kinds of its variables.
+#![tactic(auto)]
+
 ghost use Rattle.std.specs.Prelude.{◌≡◌, ◌<◌, ◌≤◌, length};
 ghost use Rattle.meaning.specs.Calls.{Says};
 ghost use Rattle.pattern.specs.Answer.{PatternSettled};

@@ -1,10 +1,12 @@
 // One problem of many whose tables are laid end to end: a portion of each table, answered as the lister answers it.
+#![tactic(auto)]
+
 ghost use Rattle.portion.specs.Portion.{PortionPre, PortionPost};
 
 use answer::Listing;
 
 // How far some of the problems reach in the tables of all: rows of patterns, rows of expressions, numbers of constraints, entries of out.
-#[derive(Drop)]
+#[derive(Clone, Copy)]
 pub struct Reach {
     pub rows: usize,
     pub expressions: usize,

@@ -1,3 +1,5 @@
+#![tactic(auto)]
+
 ghost use Rattle.std.specs.Prelude.{◌≡◌, []};
 ghost use Rattle.problem.specs.Answer.{Answered};
 ghost use Rattle.problem.specs.Judgement.{AnsweredJudged};

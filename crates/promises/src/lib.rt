@@ -1,1 +1,3 @@
 // The three demands in one place, and the examples that are proved: no code.
+#![tactic(auto)]
+

@@ -5,6 +5,8 @@
 // A PROBLEM is KIND / NAME / SIZE / KIND / NAME / SIZE / CONSTRAINT / BUDGET / ROOM: a pattern, an expression table, the constraint
 // list, and how long the list for the records is. For a problem it prints `TEXT: ` with code, ending, records and tries, and then each
 // record with the rows of its instance, and whether that is the tree.
+#![tactic(auto)]
+
 mod listings;
 mod trees;
 

@@ -1,5 +1,7 @@
 // Reads the worked documents of standard input, one to a line: `TEXT | ROOM | DICTIONARY | DOCUMENT`. The room is the
 // lengths of the four lists. For each line it prints `TEXT: ` and what the reader answers.
+#![tactic(auto)]
+
 mod answers;
 mod expand;
 

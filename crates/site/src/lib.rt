@@ -1,4 +1,6 @@
 // What the site's server, written in C, calls: thin exports over the proved functions. `include/khargovsun.h` declares them in C.
+#![tactic(auto)]
+
 ghost use Rattle.document.specs.Reading.{DocumentChecked, Read};
 ghost use Rattle.dictionary.specs.Spelling.{PartAnswered};
 ghost use Rattle.instance.specs.Instance.{lists};

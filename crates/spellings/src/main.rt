@@ -1,4 +1,6 @@
 // Prints the spellings of nine rows, by the dictionary g, f, h, a, b and then by a bad one, which has no names.
+#![tactic(auto)]
+
 use libc::STDOUT_FILENO;
 
 const DOCUMENT: [u8; 14] = *b"<g>a<query/>  ";

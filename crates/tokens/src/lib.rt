@@ -1,4 +1,6 @@
 // The token loops: each goes on while the bytes stay in the token, and answers where it ends.
+#![tactic(auto)]
+
 ghost use Rattle.std.specs.Prelude.{◌≡◌, true, ℕ, ◌+◌, ◌-◌, ◌≤◌, ◌<◌, min, length};
 ghost use Rattle.grammar.specs.Classes.{white};
 ghost use Rattle.grammar.specs.Machine.{brackets};

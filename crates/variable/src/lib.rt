@@ -1,6 +1,8 @@
 // What stands at a place of the tree, against a symbol or a variable of the pattern. Where n variables are bound, the variable x of a good
 // pattern appears for the first time if x is n, and is bound to what stands there; otherwise x < n, and what stands there is compared with
 // what x stands for.
+#![tactic(auto)]
+
 ghost use Rattle.std.specs.Prelude.{◌≡◌, ◌+◌, ◌<◌, length, set};
 ghost use Rattle.variable.specs.Steps.{IndividualPre, IndividualPost, HeadPre, HeadPost, SequencePre, SequencePost, ContextPre, ContextPost};
 

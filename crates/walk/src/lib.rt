@@ -1,4 +1,6 @@
 // The deterministic walk of a pattern over a tree, up to the first variable that has to be chosen; and how it goes on from there.
+#![tactic(auto)]
+
 ghost use Rattle.std.specs.Prelude.{◌≡◌, ◌+◌, ◌*◌, ◌<◌, length, get_or};
 ghost use Rattle.walk.specs.Packed.{Packed, Bounds, PackPre, Put, HolderPre, HolderPost};
 ghost use Rattle.walk.specs.Above.{Came};

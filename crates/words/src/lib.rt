@@ -1,4 +1,6 @@
 // Bytes several at a time.
+#![tactic(auto)]
+
 ghost use Rattle.std.specs.Prelude.{◌≡◌, true, ◌+◌, ◌≤◌, ◌<◌};
 ghost use lib.ListN.{length};
 ghost use Rattle.meaning.specs.Calls.{Says};
