@@ -81,6 +81,6 @@ pub split_at : {L S : List ℕ} {t e : ℕ} (c : ℕ) {us : Forest} → TermsAt 
 unfolding take_t drop_t
 split_at {t = t} zero h = (t, nothing_at t (omega (arith, terms_end h, terms_le h)) (omega (arith, terms_end h, terms_le h)), h)
 split_at {e = e} (suc c) (stop h a b) = (e, stop h a b, stop refl a b)
-split_at (suc c) (step r i b k) =
-    let x = split_at c k in
+split_at {t = t} (suc c) (step {us = us} r i b k) =
+    let x = split_at {t = t + suc (rows us)} c k in
     (x.0, step {e = x.0} r i (terms_le x.1) x.1, x.2)

@@ -5,19 +5,19 @@ use borrow.Author.Rules.{rules}
 use Rattle.answer.proofs.of_instance.Statement.{statement}
 use Rattle.answer.proofs.of_instance.Tie as tie
 
-enum_known_answer : tie.Need-enum-known-answer
+enum_known_answer : tie.Need-enum_known-answer
 enum_known_answer c = search rules
 
-enum_known_answer_2 : tie.Need-enum-known-answer-2
+enum_known_answer_2 : tie.Need-enum_known-answer-in-Rows-1
 enum_known_answer_2 c = search rules
 
 narrow_requires : tie.Need-narrow-requires
-narrow_requires c κs = omega (arith, ap rows_given c.before.answer2.given.1)
+narrow_requires c κs = omega (arith, ap rows_given c.answer-in-Rows-1.given.1)
 
-returns : tie.Need-returns
+returns : tie.Need-returns-in-Refused
 returns c = search rules
 
-returns_2 : tie.Need-returns-2
+returns_2 : tie.Need-returns-in-Rows
 returns_2 c = search rules
 
 pub of_instance_spec : {M : Type 1} → statement M

@@ -5,33 +5,33 @@ use Rattle.choice.proofs.Counts.{Leaving, leaving_all, leaving_next, leaving_mor
 use Rattle.choice.proofs.fewer.Statement.{statement}
 use Rattle.choice.proofs.fewer.Tie as tie
 
-abbrev invariant_loop : tie.invariant_loop
+abbrev invariant_loop : tie.invariant-loop-row
 invariant_loop size u s left row₀ n₀ row n =
     Leaving size u left row n
 
-abbrev decreases_loop : tie.decreases_loop
+abbrev decreases_loop : tie.decreases-loop-row
 decreases_loop size u s left row₀ n₀ row n =
     s - row
 
-loop_holds : tie.Need-loop-init invariant_loop decreases_loop
+loop_holds : tie.Need-loop-row-init invariant_loop decreases_loop
 loop_holds c = leaving_all
 
-next_requires : tie.Need-next-requires invariant_loop decreases_loop
-next_requires c κs = (leaving_next c.before.loop.invariant c.before.before.before.requires c.loop-test.true).0
+next_requires : tie.Need-next-row-requires invariant_loop decreases_loop
+next_requires c κs = (leaving_next c.loop-row.invariant c.requires c.loop-row-test.true).0
 
-sub_n : tie.Need-overflow-sub-n invariant_loop decreases_loop
-sub_n c = omega (arith, leaving_next c.before.before.loop.invariant c.before.before.before.before.requires c.before.loop-test.true)
+sub_n : tie.Need-overflow_sub-n invariant_loop decreases_loop
+sub_n c = omega (arith, leaving_next c.loop-row.invariant c.requires c.loop-row-test.true)
 
-loop_less : tie.Need-loop-smaller invariant_loop decreases_loop
-loop_less c = omega (arith, leaving_next c.before.before.loop.invariant c.before.before.before.before.requires c.before.loop-test.true, c.next.ensures, c.before.loop-test.true)
+loop_less : tie.Need-loop-row-smaller invariant_loop decreases_loop
+loop_less c = omega (arith, leaving_next c.loop-row.invariant c.requires c.loop-row-test.true, c.next-row.ensures, c.loop-row-test.true)
 
-loop_again : tie.Need-loop-preserved invariant_loop decreases_loop
-loop_again c = leaving_more c.before.before.loop.invariant c.before.before.before.before.requires c.before.loop-test.true c.next.ensures
+loop_again : tie.Need-loop-row-preserved invariant_loop decreases_loop
+loop_again c = leaving_more c.loop-row.invariant c.requires c.loop-row-test.true c.next-row.ensures
 
-returns : tie.Need-returns invariant_loop decreases_loop
-returns c = leaving_there c.before.before.loop.invariant c.if1.true
+returns : tie.Need-returns-then-row-s invariant_loop decreases_loop
+returns c = leaving_there c.loop-row.invariant c.if-row-s.true
 
-returns_2 : tie.Need-returns-2 invariant_loop decreases_loop
+returns_2 : tie.Need-returns invariant_loop decreases_loop
 returns_2 c = elsewhere
 
 pub fewer_spec : {M : Type 1} → statement M

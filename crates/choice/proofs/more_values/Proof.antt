@@ -5,43 +5,43 @@ use Rattle.choice.proofs.more_values.Statement.{statement}
 use Rattle.choice.proofs.more_values.Tie as tie
 
 kind_requires : tie.Need-kind-requires
-kind_requires c κs = (more_room c.before.requires).1
+kind_requires c κs = (more_room c.requires).1
 
-kind_requires_2 : tie.Need-kind-requires-2
-kind_requires_2 c κs = (values_room (more_at c.before.before.before.requires)).1
+kind_requires_2 : tie.Need-kind-requires-then-kind-eq-SEQUENCE
+kind_requires_2 c κs = (values_room (more_at c.requires)).1
 
 holder_requires : tie.Need-holder-requires
-holder_requires c κs = (more_room c.before.before.before.before.before.requires).1
+holder_requires c κs = (more_room c.requires).1
 
-holder_requires_2 : tie.Need-holder-requires-2
-holder_requires_2 c κs = (values_room (more_at c.before.before.before.before.before.before.requires)).1
+holder_requires_2 : tie.Need-holder-requires-then-kind-eq-SEQUENCE-2
+holder_requires_2 c κs = (values_room (more_at c.requires)).1
 
 fewer_requires : tie.Need-fewer-requires
-fewer_requires c κs = more_fewer c.before.before.before.before.before.before.kind.ensures c.before.before.before.before.before.if1.true c.before.before.before.before.kind2.ensures c.before.before.before.if2.true c.before.before.holder.ensures c.before.holder2.ensures c.if3.true c.before.before.before.before.before.before.before.before.requires
+fewer_requires c κs = more_fewer c.kind.ensures c.if-kind-eq-SEQUENCE.true c.kind-then-kind-eq-SEQUENCE.ensures c.if-kind-eq-SEQUENCE-2.true c.holder.ensures c.holder-then-kind-eq-SEQUENCE-2.ensures c.if-holder.true c.requires
 
-enum_told : tie.Need-enum-told
+enum_told : tie.Need-enum_told-1
 enum_told c = search rules
 
 values_requires : tie.Need-values-requires
-values_requires c κs = more_at c.before.before.before.before.before.before.before.before.before.before.before.requires
+values_requires c κs = more_at c.requires
 
-enum_known_n : tie.Need-enum-known-n
+enum_known_n : tie.Need-enum_known-n
 enum_known_n c = search rules
 
-add_result : tie.Need-overflow-add-result
-add_result c = omega (arith, more_fewer_small c.before.before.before.before.before.before.before.before.before.before.kind.ensures c.before.before.before.before.before.before.before.before.before.if1.true c.before.before.before.before.before.before.before.before.kind2.ensures c.before.before.before.before.before.before.before.if2.true c.before.before.before.before.before.before.holder.ensures c.before.before.before.before.before.holder2.ensures c.before.before.before.before.if3.true c.before.before.before.fewer.ensures c.before.n.given.1 c.before.before.before.before.before.before.before.before.before.before.before.before.requires, c.before.before.before.before.before.before.before.before.before.before.before.before.well-formed)
+add_result : tie.Need-overflow_add-result
+add_result c = omega (arith, more_fewer_small c.kind.ensures c.if-kind-eq-SEQUENCE.true c.kind-then-kind-eq-SEQUENCE.ensures c.if-kind-eq-SEQUENCE-2.true c.holder.ensures c.holder-then-kind-eq-SEQUENCE-2.ensures c.if-holder.true c.fewer.ensures c.n-1.given.1 c.requires, c.well_formed)
 
-returns : tie.Need-returns
+returns : tie.Need-returns-in-Unknown
 returns c = more_all c.values.ensures
 
-returns_2 : tie.Need-returns-2
-returns_2 c = more_terms c.before.before.before.before.before.before.before.before.before.before.kind.ensures c.before.before.before.before.before.before.before.before.before.if1.true c.before.before.before.before.before.before.before.before.kind2.ensures c.before.before.before.before.before.before.before.if2.true c.before.before.before.before.before.before.holder.ensures c.before.before.before.before.before.holder2.ensures c.before.before.before.before.if3.true c.before.before.before.fewer.ensures c.before.n.given.1
+returns_2 : tie.Need-returns-in-Terms
+returns_2 c = more_terms c.kind.ensures c.if-kind-eq-SEQUENCE.true c.kind-then-kind-eq-SEQUENCE.ensures c.if-kind-eq-SEQUENCE-2.true c.holder.ensures c.holder-then-kind-eq-SEQUENCE-2.ensures c.if-holder.true c.fewer.ensures c.n-1.given.1
 
 values_requires_2 : tie.Need-values-requires-2
-values_requires_2 c κs = more_at c.before.before.before.requires
+values_requires_2 c κs = more_at c.requires
 
-returns_3 : tie.Need-returns-3
-returns_3 c = more_all c.values2.ensures
+returns_3 : tie.Need-returns
+returns_3 c = more_all c.values-2.ensures
 
 pub more_values_spec : {M : Type 1} → statement M
 more_values_spec =

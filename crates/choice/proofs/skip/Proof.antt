@@ -5,36 +5,36 @@ use Rattle.choice.proofs.skip.Statement.{statement}
 use Rattle.choice.proofs.skip.Tie as tie
 
 kind_requires : tie.Need-kind-requires
-kind_requires c κs = (skip_room c.before.before.requires).1
+kind_requires c κs = (skip_room c.requires).1
 
 terms_requires : tie.Need-terms-requires
-terms_requires c κs = (c.before.before.before.before.requires, sym c.before.kind.ensures ∙ c.if1.true)
+terms_requires c κs = (c.requires, sym c.kind.ensures ∙ c.if-kind-eq-SEQUENCE.true)
 
-returns : tie.Need-returns
+returns : tie.Need-returns-then-kind-eq-SEQUENCE
 returns c = c.terms.ensures
 
-add_kind : tie.Need-overflow-add-kind
-add_kind c = omega (arith, skip_room c.before.before.before.before.requires)
+add_kind : tie.Need-overflow_add-p
+add_kind c = omega (arith, skip_room c.requires)
 
 kind_requires_2 : tie.Need-kind-requires-2
-kind_requires_2 c κs = skip_under c.before.kind.ensures c.if1.false c.before.before.before.before.requires
+kind_requires_2 c κs = skip_under c.kind.ensures c.if-kind-eq-SEQUENCE.false c.requires
 
-add_name : tie.Need-overflow-add-name
-add_name c = omega (arith, skip_room c.before.before.before.before.before.before.requires)
+add_name : tie.Need-overflow_add-p-then-kind-eq-SYMBOL
+add_name c = omega (arith, skip_room c.requires)
 
-name_requires : tie.Need-name-requires
-name_requires c κs = skip_under c.before.before.before.kind.ensures c.before.before.if1.false c.before.before.before.before.before.before.requires
+name_requires : tie.Need-name-symbol-requires
+name_requires c κs = skip_under c.kind.ensures c.if-kind-eq-SEQUENCE.false c.requires
 
-holes_requires : tie.Need-holes-requires
-holes_requires c κs = skip_holes_pre c.before.before.before.before.kind.ensures c.before.before.before.if1.false c.before.before.before.before.before.before.before.requires
+holes_requires : tie.Need-holes-count-requires
+holes_requires c κs = skip_holes_pre c.kind.ensures c.if-kind-eq-SEQUENCE.false c.requires
 
-add_row : tie.Need-overflow-add-row
-add_row c = omega (arith, skip_holes_pre c.before.before.before.before.before.kind.ensures c.before.before.before.before.if1.false c.before.before.before.before.before.before.before.before.requires, c.holes.ensures.few, c.before.before.before.before.before.before.before.before.well-formed)
+add_row : tie.Need-overflow_add-row
+add_row c = omega (arith, skip_holes_pre c.kind.ensures c.if-kind-eq-SEQUENCE.false c.requires, c.holes-count.ensures.few, c.well_formed)
 
-returns_2 : tie.Need-returns-2
-returns_2 c = skip_holes c.before.before.before.before.before.kind.ensures c.before.before.before.before.if1.false c.before.before.before.before.before.before.before.before.requires.fewer c.before.before.before.kind2.ensures c.before.before.if2.true c.before.name.ensures c.holes.ensures
+returns_2 : tie.Need-returns-then-kind-eq-SYMBOL
+returns_2 c = skip_holes c.kind.ensures c.if-kind-eq-SEQUENCE.false c.requires.fewer c.kind-2.ensures c.if-kind-eq-SYMBOL.true c.name-symbol.ensures c.holes-count.ensures
 
-returns_3 : tie.Need-returns-3
+returns_3 : tie.Need-returns
 returns_3 c = skip_none
 
 pub skip_spec : {M : Type 1} → statement M

@@ -5,50 +5,50 @@ use borrow.Author.Rules.{rules}
 use Rattle.compare.proofs.fits.Statement.{statement}
 use Rattle.compare.proofs.fits.Tie as tie
 
-abbrev invariant_loop : tie.invariant_loop
+abbrev invariant_loop : tie.invariant-loop-from
 invariant_loop label size a b t from₀ row₀ from row = Fitted label size a b t from row
 
-abbrev decreases_loop : tie.decreases_loop
+abbrev decreases_loop : tie.decreases-loop-from
 decreases_loop label size a b t from₀ row₀ from row = b - from
 
-loop_holds : tie.Need-loop-init invariant_loop decreases_loop
+loop_holds : tie.Need-loop-from-init invariant_loop decreases_loop
 loop_holds c = fitted_first
 
 at_requires : tie.Need-at-requires invariant_loop decreases_loop
-at_requires c κs = (fitted_rows c.before.loop.invariant c.before.before.before.before.requires).0
+at_requires c κs = (fitted_rows c.loop-from.invariant c.requires).0
 
-at_requires_2 : tie.Need-at-requires-2 invariant_loop decreases_loop
-at_requires_2 c κs = (fitted_rows c.before.before.loop.invariant c.before.before.before.before.before.requires).1
+at_requires_2 : tie.Need-at-requires-in-loop-from invariant_loop decreases_loop
+at_requires_2 c κs = (fitted_rows c.loop-from.invariant c.requires).1
 
-returns : tie.Need-returns invariant_loop decreases_loop
-returns c = fitted_labels c.before.before.before.before.loop.invariant c.before.before.before.loop-test.true c.before.before.at.ensures.0 c.before.at2.ensures.0 c.if1.true
+returns : tie.Need-returns-then-at invariant_loop decreases_loop
+returns c = fitted_labels c.loop-from.invariant c.loop-from-test.true c.at.ensures.0 c.at-in-loop-from.ensures.0 c.if-at.true
 
 level_requires : tie.Need-level-requires invariant_loop decreases_loop
-level_requires c κs = fitted_level_pre c.before.before.before.before.loop.invariant c.before.before.before.loop-test.true c.before.before.at.ensures.0 c.before.at2.ensures.0 c.if1.false c.before.before.before.before.before.before.before.requires
+level_requires c κs = fitted_level_pre c.loop-from.invariant c.loop-from-test.true c.at.ensures.0 c.at-in-loop-from.ensures.0 c.if-at.false c.requires
 
-enum_told : tie.Need-enum-told invariant_loop decreases_loop
+enum_told : tie.Need-enum_told-1 invariant_loop decreases_loop
 enum_told c = search rules
 
-returns_2 : tie.Need-returns-2 invariant_loop decreases_loop
-returns_2 c = fitted_fails c.before.before.before.before.before.before.before.loop.invariant c.before.before.before.before.before.before.loop-test.true c.before.before.level.ensures c.enum_told.given.1
+returns_2 : tie.Need-returns-in-Fail invariant_loop decreases_loop
+returns_2 c = fitted_fails c.loop-from.invariant c.loop-from-test.true c.level.ensures c.enum_told-1.given.1
 
-enum_known_v : tie.Need-enum-known-v invariant_loop decreases_loop
+enum_known_v : tie.Need-enum_known-v invariant_loop decreases_loop
 enum_known_v c = search rules
 
-sub_from : tie.Need-overflow-sub-from invariant_loop decreases_loop
-sub_from c = omega (arith, fitted_less c.before.before.before.before.before.before.before.before.loop.invariant c.before.before.before.before.before.before.before.loop-test.true c.before.before.before.level.ensures c.before.v.given.1 c.before.before.before.before.before.before.before.before.before.before.before.requires)
+sub_from : tie.Need-overflow_sub-from invariant_loop decreases_loop
+sub_from c = omega (arith, fitted_less c.loop-from.invariant c.loop-from-test.true c.level.ensures c.v-1.given.1 c.requires)
 
-add_from : tie.Need-overflow-add-from invariant_loop decreases_loop
-add_from c = omega (arith, fitted_less c.before.before.before.before.before.before.before.before.loop.invariant c.before.before.before.before.before.before.before.loop-test.true c.before.before.before.level.ensures c.before.v.given.1 c.before.before.before.before.before.before.before.before.before.before.before.requires, c.before.before.before.before.before.before.before.before.before.before.before.well-formed)
+add_from : tie.Need-overflow_add-from invariant_loop decreases_loop
+add_from c = omega (arith, fitted_less c.loop-from.invariant c.loop-from-test.true c.level.ensures c.v-1.given.1 c.requires, c.well_formed)
 
-loop_less : tie.Need-loop-smaller invariant_loop decreases_loop
-loop_less c = omega (arith, fitted_less c.before.before.before.before.before.before.before.before.loop.invariant c.before.before.before.before.before.before.before.loop-test.true c.before.before.before.level.ensures c.before.v.given.1 c.before.before.before.before.before.before.before.before.before.before.before.requires)
+loop_less : tie.Need-loop-from-smaller invariant_loop decreases_loop
+loop_less c = omega (arith, fitted_less c.loop-from.invariant c.loop-from-test.true c.level.ensures c.v-1.given.1 c.requires)
 
-loop_again : tie.Need-loop-preserved invariant_loop decreases_loop
-loop_again c = fitted_more c.before.before.before.before.before.before.before.before.loop.invariant c.before.before.before.before.before.before.before.loop-test.true c.before.before.before.level.ensures c.before.v.given.1
+loop_again : tie.Need-loop-from-preserved invariant_loop decreases_loop
+loop_again c = fitted_more c.loop-from.invariant c.loop-from-test.true c.level.ensures c.v-1.given.1
 
-returns_3 : tie.Need-returns-3 invariant_loop decreases_loop
-returns_3 c = fitted_done c.before.loop.invariant c.loop-test.false
+returns_3 : tie.Need-returns invariant_loop decreases_loop
+returns_3 c = fitted_done c.loop-from.invariant c.loop-from-test.false
 
 pub fits_spec : {M : Type 1} → statement M
 fits_spec =

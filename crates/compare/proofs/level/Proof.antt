@@ -4,53 +4,53 @@ use borrow.Author.Rules.{rules}
 use Rattle.compare.proofs.level.Statement.{statement}
 use Rattle.compare.proofs.level.Tie as tie
 
-next_requires : tie.Need-next-requires
-next_requires c κs = (level_rows c.before.before.requires).1.sized
+next_requires : tie.Need-next-e-requires
+next_requires c κs = (level_rows c.requires).1.sized
 
-add_left : tie.Need-overflow-add-left
-add_left c = omega (arith, level_rows c.before.before.before.requires, c.before.before.before.well-formed)
+add_left : tie.Need-overflow_add-a
+add_left c = omega (arith, level_rows c.requires, c.well_formed)
 
-add_left_2 : tie.Need-overflow-add-left-2
-add_left_2 c = omega (arith, level_rows c.before.before.before.requires, c.before.before.before.well-formed)
+add_left_2 : tie.Need-overflow_add-t
+add_left_2 c = omega (arith, level_rows c.requires, c.well_formed)
 
 left_requires : tie.Need-left-requires
-left_requires c κs = level_left_pre c.next.ensures c.before.before.before.requires
+left_requires c κs = level_left_pre c.next-e.ensures c.requires
 
-enum_told : tie.Need-enum-told
+enum_told : tie.Need-enum_told-1
 enum_told c = search rules
 
-enum_known_v : tie.Need-enum-known-v
+enum_known_v : tie.Need-enum_known-v
 enum_known_v c = search rules
 
-returns : tie.Need-returns
-returns c = level_none c.before.before.before.before.before.next.ensures c.before.before.before.before.left.ensures c.before.before.v.given.1 c.if1.true
+returns : tie.Need-returns-then-v-e
+returns c = level_none c.next-e.ensures c.left.ensures c.v-1.given.1 c.if-v-e.true
 
-sub_next : tie.Need-overflow-sub-next
-sub_next c = omega (arith, level_places c.before.before.before.before.before.next.ensures c.before.before.before.before.left.ensures c.before.before.v.given.1 c.if1.false c.before.before.before.before.before.before.before.before.requires)
+sub_next : tie.Need-overflow_sub-v
+sub_next c = omega (arith, level_places c.next-e.ensures c.left.ensures c.v-1.given.1 c.if-v-e.false c.requires)
 
-add_next : tie.Need-overflow-add-next
-add_next c = omega (arith, level_places c.before.before.before.before.before.next.ensures c.before.before.before.before.left.ensures c.before.before.v.given.1 c.if1.false c.before.before.before.before.before.before.before.before.requires, c.before.before.before.before.before.before.before.before.well-formed)
+add_next : tie.Need-overflow_add-a-in-At
+add_next c = omega (arith, level_places c.next-e.ensures c.left.ensures c.v-1.given.1 c.if-v-e.false c.requires, c.well_formed)
 
-next_requires_2 : tie.Need-next-requires-2
-next_requires_2 c κs = (level_places c.before.before.before.before.before.next.ensures c.before.before.before.before.left.ensures c.before.before.v.given.1 c.if1.false c.before.before.before.before.before.before.before.before.requires).1
+next_requires_2 : tie.Need-next-right-requires
+next_requires_2 c κs = (level_places c.next-e.ensures c.left.ensures c.v-1.given.1 c.if-v-e.false c.requires).1
 
-next_requires_3 : tie.Need-next-requires-3
-next_requires_3 c κs = (level_rows c.before.before.before.before.before.before.before.before.before.requires).0.sized
+next_requires_3 : tie.Need-next-end-requires
+next_requires_3 c κs = (level_rows c.requires).0.sized
 
-next_requires_4 : tie.Need-next-requires-4
-next_requires_4 c κs = (level_places c.before.before.before.before.before.before.before.next.ensures c.before.before.before.before.before.before.left.ensures c.before.before.before.before.v.given.1 c.before.before.if1.false c.before.before.before.before.before.before.before.before.before.before.requires).2
+next_requires_4 : tie.Need-next-there-requires
+next_requires_4 c κs = (level_places c.next-e.ensures c.left.ensures c.v-1.given.1 c.if-v-e.false c.requires).2
 
 alike_requires : tie.Need-alike-requires
-alike_requires c κs = level_alike_pre c.before.before.before.before.before.before.before.before.next.ensures c.before.before.before.before.before.before.before.left.ensures c.before.before.before.before.before.v.given.1 c.before.before.before.if1.false c.before.before.next2.ensures c.before.next3.ensures c.next4.ensures c.before.before.before.before.before.before.before.before.before.before.before.requires
+alike_requires c κs = level_alike_pre c.next-e.ensures c.left.ensures c.v-1.given.1 c.if-v-e.false c.next-right.ensures c.next-end.ensures c.next-there.ensures c.requires
 
-returns_2 : tie.Need-returns-2
-returns_2 c = level_at c.before.before.before.before.before.before.before.before.before.before.next.ensures c.before.before.before.before.before.before.before.before.before.left.ensures c.before.before.before.before.before.before.before.v.given.1 c.before.before.before.before.before.if1.false c.before.before.before.before.next2.ensures c.before.before.before.next3.ensures c.before.before.next4.ensures c.before.alike.ensures c.before.before.before.before.before.before.before.before.before.before.before.before.before.requires.label c.if2.true
+returns_2 : tie.Need-returns-then-alike
+returns_2 c = level_at c.next-e.ensures c.left.ensures c.v-1.given.1 c.if-v-e.false c.next-right.ensures c.next-end.ensures c.next-there.ensures c.alike.ensures c.requires.label c.if-alike.true
 
-returns_3 : tie.Need-returns-3
-returns_3 c = level_differ c.before.before.before.next.ensures c.before.before.left.ensures c.enum_told.given.1
+returns_3 : tie.Need-returns-in-Fail
+returns_3 c = level_differ c.next-e.ensures c.left.ensures c.enum_told-1.given.1
 
-returns_4 : tie.Need-returns-4
-returns_4 c = level_right c.before.before.before.before.before.before.before.before.before.before.next.ensures c.before.before.before.before.before.before.before.before.before.left.ensures c.before.before.before.before.before.before.before.v.given.1 c.before.before.before.before.before.if1.false c.before.before.before.before.next2.ensures c.before.before.before.next3.ensures c.before.before.next4.ensures c.before.alike.ensures c.if2.false
+returns_4 : tie.Need-returns-else-alike
+returns_4 c = level_right c.next-e.ensures c.left.ensures c.v-1.given.1 c.if-v-e.false c.next-right.ensures c.next-end.ensures c.next-there.ensures c.alike.ensures c.if-alike.false
 
 pub level_spec : {M : Type 1} → statement M
 level_spec =

@@ -6,33 +6,33 @@ use Rattle.constraint.proofs.Readings.{all_heads}
 use Rattle.constraint.proofs.obeys.Statement.{statement}
 use Rattle.constraint.proofs.obeys.Tie as tie
 
-returns : tie.Need-returns
-returns c = obeys_free _ _ _ _ _ _ _ _ (omega (arith, c.if1.true))
+returns : tie.Need-returns-then-start-eq0
+returns c = obeys_free _ _ _ _ _ _ _ _ (omega (arith, c.if-start-eq0.true))
 
 forbidden_requires : tie.Need-forbidden-requires
 forbidden_requires c κs = search rules
 
-returns_2 : tie.Need-returns-2
-returns_2 c = obeys_forbidden _ _ _ _ _ _ _ _ c.before.before.if1.false c.before.forbidden.ensures c.if2.true
+returns_2 : tie.Need-returns-then-forbidden
+returns_2 c = obeys_forbidden _ _ _ _ _ _ _ _ c.if-start-eq0.false c.forbidden.ensures c.if-forbidden.true
 
-sub_root : tie.Need-overflow-sub-root
+sub_root : tie.Need-overflow_sub-root
 sub_root c = search rules
 
-after_heads_requires : tie.Need-after-heads-requires
-after_heads_requires c κs = heads_asked c.before.before.before.before.before.before.requires c.before.before.before.if1.false refl c.if3.true
+after_heads_requires : tie.Need-after_heads-state-requires
+after_heads_requires c κs = heads_asked c.requires c.if-start-eq0.false refl c.if-kind-eq-SEQUENCE.true
 
-returns_3 : tie.Need-returns-3
+returns_3 : tie.Need-returns-then-kind-eq-SEQUENCE
 returns_3 c =
-    obeys_read _ _ _ _ _ _ _ _ c.before.before.before.before.if1.false c.before.before.before.forbidden.ensures c.before.before.if2.false refl
-    (heads_after _ _ _ _ _ _ c.before.if3.true (all_heads c.after-heads.ensures))
+    obeys_read _ _ _ _ _ _ _ _ c.if-start-eq0.false c.forbidden.ensures c.if-forbidden.false refl
+    (heads_after _ _ _ _ _ _ c.if-kind-eq-SEQUENCE.true (all_heads c.after_heads-state.ensures))
 
-after_path_requires : tie.Need-after-path-requires
-after_path_requires c κs = path_asked c.before.before.before.before.before.before.requires c.before.before.before.if1.false refl c.if3.false
+after_path_requires : tie.Need-after_path-state-requires
+after_path_requires c κs = path_asked c.requires c.if-start-eq0.false refl c.if-kind-eq-SEQUENCE.false
 
-returns_4 : tie.Need-returns-4
+returns_4 : tie.Need-returns
 returns_4 c =
-    obeys_read _ _ _ _ _ _ _ _ c.before.before.before.before.if1.false c.before.before.before.forbidden.ensures c.before.before.if2.false refl
-    (path_after _ _ _ _ _ _ c.before.if3.false c.after-path.ensures)
+    obeys_read _ _ _ _ _ _ _ _ c.if-start-eq0.false c.forbidden.ensures c.if-forbidden.false refl
+    (path_after _ _ _ _ _ _ c.if-kind-eq-SEQUENCE.false c.after_path-state.ensures)
 
 pub obeys_spec : {M : Type 1} → statement M
 obeys_spec =

@@ -5,29 +5,29 @@ use Rattle.constraint.proofs.Pairs.{without_expression, flag_above, kind_without
 use Rattle.constraint.proofs.paired.Statement.{statement}
 use Rattle.constraint.proofs.paired.Tie as tie
 
-returns : tie.Need-returns
-returns c = λ es k p q. without_expression es k _ _ c.if1.true
+returns : tie.Need-returns-then-first-eq0
+returns c = λ es k p q. without_expression es k _ _ c.if-first-eq0.true
 
-returns_2 : tie.Need-returns-2
-returns_2 c = λ es k p q. says_no (flag_above es k _ _ (omega (arith, c.if2.true)))
+returns_2 : tie.Need-returns-then-flag-gt1
+returns_2 c = λ es k p q. says_no (flag_above es k _ _ (omega (arith, c.if-flag-gt1.true)))
 
-returns_3 : tie.Need-returns-3
-returns_3 c = λ es k p q. says_no (kind_without es k _ _ c.before.before.if1.false (may_not k (λ e. omega (arith, q, c.if3.true)) (λ e. omega (arith, q, c.if3.true))))
+returns_3 : tie.Need-returns-then-kind-eq-INDIVIDUAL
+returns_3 c = λ es k p q. says_no (kind_without es k _ _ c.if-first-eq0.false (may_not k (λ e. omega (arith, q, c.if-kind-eq-INDIVIDUAL.true)) (λ e. omega (arith, q, c.if-kind-eq-INDIVIDUAL.true))))
 
-returns_4 : tie.Need-returns-4
-returns_4 c = λ es k p q. says_no (kind_without es k _ _ c.before.before.before.if1.false (may_not k (λ e. omega (arith, q, c.if4.true)) (λ e. omega (arith, q, c.if4.true))))
+returns_4 : tie.Need-returns-then-kind-eq-FUNCTION
+returns_4 c = λ es k p q. says_no (kind_without es k _ _ c.if-first-eq0.false (may_not k (λ e. omega (arith, q, c.if-kind-eq-FUNCTION.true)) (λ e. omega (arith, q, c.if-kind-eq-FUNCTION.true))))
 
-sub_starts : tie.Need-overflow-sub-starts
+sub_starts : tie.Need-overflow_sub-above
 sub_starts c = search rules
 
 starts_requires : tie.Need-starts-requires
 starts_requires c κs = search rules
 
-returns_5 : tie.Need-returns-5
+returns_5 : tie.Need-returns
 returns_5 c = λ es k p q.
     let at = c.before in
-    with_expression es k _ _ at.before.before.before.if1.false (omega (arith, at.before.before.if2.false))
-    (may k (λ e. omega (arith, q, at.before.if3.false)) (λ e. omega (arith, q, at.if4.false)))
+    with_expression es k _ _ at.if-first-eq0.false (omega (arith, at.if-flag-gt1.false))
+    (may k (λ e. omega (arith, q, at.if-kind-eq-INDIVIDUAL.false)) (λ e. omega (arith, q, at.if-kind-eq-FUNCTION.false)))
     (c.starts.ensures es p)
 
 pub paired_spec : {M : Type 1} → statement M

@@ -5,10 +5,10 @@ use Rattle.dictionary.proofs.Learning.{fresh}
 use Rattle.dictionary.proofs.check.Statement.{statement}
 use Rattle.dictionary.proofs.check.Tie as tie
 
-slice_aggregate_learn_names : tie.Need-slice-aggregate-learn-names
+slice_aggregate_learn_names : tie.Need-slice_bounds-learn_names-end
 slice_aggregate_learn_names c = search rules
 
-learn_names_requires : tie.Need-learn-names-requires
+learn_names_requires : tie.Need-learn_names-requires
 learn_names_requires c κs = fresh 5120 (omega arith)
 
 returns : tie.Need-returns

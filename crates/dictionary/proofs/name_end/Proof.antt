@@ -9,32 +9,32 @@ use borrow.Author.Rules.{rules}
 use Rattle.dictionary.proofs.name_end.Statement.{statement}
 use Rattle.dictionary.proofs.name_end.Tie as tie
 
-abbrev invariant_loop : tie.invariant_loop
+abbrev invariant_loop : tie.invariant-loop-end
 invariant_loop dictionary start end₀ end = (end ≤ length dictionary) × (end + upto (drop end dictionary) ≡ start + upto (drop start dictionary))
 
-abbrev decreases_loop : tie.decreases_loop
+abbrev decreases_loop : tie.decreases-loop-end
 decreases_loop dictionary start end₀ end = length dictionary - end
 
-loop_holds : tie.Need-loop-init invariant_loop decreases_loop
+loop_holds : tie.Need-loop-end-init invariant_loop decreases_loop
 loop_holds c = search rules
 
-shared_slice_read_if1 : tie.Need-shared-slice-read-if1 invariant_loop decreases_loop
+shared_slice_read_if1 : tie.Need-bounds-dictionary-end invariant_loop decreases_loop
 shared_slice_read_if1 c = search rules
 
-returns : tie.Need-returns invariant_loop decreases_loop
-returns c = omega (arith, upto_ten c.before.before.before.before.args.dictionary.now c.before.before.before.loop.end c.before.before.loop-test.true c.if1.true)
+returns : tie.Need-returns-then-dictionary-end-eq10 invariant_loop decreases_loop
+returns c = omega (arith, upto_ten c.args.dictionary.now c.loop-end.end c.loop-end-test.true c.if-dictionary-end-eq10.true)
 
-add_end_lem : tie.Need-overflow-add-end invariant_loop decreases_loop
+add_end_lem : tie.Need-overflow_add-end invariant_loop decreases_loop
 add_end_lem c = search rules
 
-loop_less : tie.Need-loop-smaller invariant_loop decreases_loop
+loop_less : tie.Need-loop-end-smaller invariant_loop decreases_loop
 loop_less c = search rules
 
-loop_again : tie.Need-loop-preserved invariant_loop decreases_loop
-loop_again c = omega (arith, upto_more c.before.before.before.before.args.dictionary.now c.before.before.before.loop.end c.before.before.loop-test.true c.if1.false)
+loop_again : tie.Need-loop-end-preserved invariant_loop decreases_loop
+loop_again c = omega (arith, upto_more c.args.dictionary.now c.loop-end.end c.loop-end-test.true c.if-dictionary-end-eq10.false)
 
-returns_2 : tie.Need-returns-2 invariant_loop decreases_loop
-returns_2 c = omega (arith, upto_end c.before.before.args.dictionary.now c.before.loop.end c.loop-test.false)
+returns_2 : tie.Need-returns invariant_loop decreases_loop
+returns_2 c = omega (arith, upto_end c.args.dictionary.now c.loop-end.end c.loop-end-test.false)
 
 pub name_end_spec : {M : Type 1} → statement M
 name_end_spec =

@@ -5,25 +5,25 @@ use borrow.Author.Rules.{rules}
 use Rattle.document.proofs.check.Statement.{statement}
 use Rattle.document.proofs.check.Tie as tie
 
-check_requires : tie.Need-check-requires
+check_requires : tie.Need-check-checked-requires
 check_requires c κs = search rules
 
 wider_requires : tie.Need-wider-requires
 wider_requires c κs = search rules
 
-mul_result : tie.Need-overflow-mul-result
+mul_result : tie.Need-overflow_mul-result
 mul_result c = search rules
 
-returns : tie.Need-returns
-returns c = checks_bad c.before.before.check.ensures (not-true _ c.before.if1.true) c.wider.ensures
+returns : tie.Need-returns-then-not-good
+returns c = checks_bad c.check-checked.ensures (not-true _ c.if-not-good.true) c.wider.ensures
 
-verdict_requires : tie.Need-verdict-requires
+verdict_requires : tie.Need-verdict-judged-requires
 verdict_requires c κs = search rules
 
 wider_requires_2 : tie.Need-wider-requires-2
 wider_requires_2 c κs = search rules
 
-mul_result_2 : tie.Need-overflow-mul-result-2
+mul_result_2 : tie.Need-overflow_mul-result-2
 mul_result_2 c = search rules
 
 wider_requires_3 : tie.Need-wider-requires-3
@@ -32,18 +32,18 @@ wider_requires_3 c κs = search rules
 wider_requires_4 : tie.Need-wider-requires-4
 wider_requires_4 c κs = search rules
 
-add_result : tie.Need-overflow-add-result
+add_result : tie.Need-overflow_add-result
 add_result c = search rules
 
-add_result_2 : tie.Need-overflow-add-result-2
+add_result_2 : tie.Need-overflow_add-result-2
 add_result_2 c =
     let v = c.before.before.before in
-    omega (arith, few_codes v.verdict.ensures, c.before.before.wider2.ensures, c.before.wider3.ensures, c.wider4.ensures)
+    omega (arith, few_codes v.verdict-judged.ensures, c.wider-2.ensures, c.wider-3.ensures, c.wider-4.ensures)
 
-returns_2 : tie.Need-returns-2
+returns_2 : tie.Need-returns
 returns_2 c =
     let v = c.before.before.before in
-    checks_judged v.before.before.check.ensures (not-false _ v.before.if1.false) v.verdict.ensures c.before.before.wider2.ensures c.before.wider3.ensures c.wider4.ensures
+    checks_judged v.check-checked.ensures (not-false _ v.if-not-good.false) v.verdict-judged.ensures c.wider-2.ensures c.wider-3.ensures c.wider-4.ensures
 
 pub check_spec : {M : Type 1} → statement M
 check_spec =

@@ -16,17 +16,17 @@ abbrev begun : tie.After-note → tie.Start
 begun n = n.before.before.before.before.before.before.before.before.before.before.before
 
 -- .. from the rows that are noted to the notes
-abbrev notes : tie.After-known-told2 → tie.After-note
+abbrev notes : tie.In-Rows → tie.After-note
 notes c = c.before.before.before
 
 -- .. and from the copies back to where the rows fit
-abbrev fitting : tie.After-copy-rows → tie.Else1
+abbrev fitting : tie.After-copy_rows → tie.Else-not-fits
 fitting c = c.before.before.before.before.before.before.before
 
-abbrev rows_told : tie.Else1 → tie.After-known-told2
+abbrev rows_told : tie.Else-not-fits → tie.In-Rows
 rows_told e = e.before.before
 
-abbrev copies : tie.After-lengths3 → tie.After-copy-rows
+abbrev copies : tie.After-lengths-in-Rows-2-1 → tie.After-copy_rows
 copies c = c.before.before.before.before.before.before.before.before.before.before
 
 -- WHAT IS KNOWN THERE
@@ -36,28 +36,28 @@ may n = (begun n).requires.1
 abbrev noted : tie.After-note → Noted → Type 0
 noted n = Notes (begun n).args.document.now n.note.new.1.0 n.note.new.1.1.0 n.note.new.1.1.1.0
 
-rows_noted : (c : tie.After-known-told2) → noted (notes c) (Rows c.before.rows.given.0.0)
-rows_noted c = subst (noted (notes c)) c.before.rows.given.1 (notes c).note.ensures
+rows_noted : (c : tie.In-Rows) → noted (notes c) (Rows c.rows-1.given.0.0)
+rows_noted c = subst (noted (notes c)) c.rows-1.given.1 (notes c).note.ensures
 
 -- THE NEEDS
 note_requires : tie.Need-note-requires
 note_requires c κs = search rules
 
-enum_known_place : tie.Need-enum-known-place
+enum_known_place : tie.Need-enum_known-place
 enum_known_place c = search rules
 
 outside_requires : tie.Need-outside-requires
 outside_requires c κs =
     let n = c.before.before.before in
-    omega (arith, (subst (noted n) c.before.place.given.1 n.note.ensures).within, (may n).short)
+    omega (arith, (subst (noted n) c.place-1.given.1 n.note.ensures).within, (may n).short)
 
-enum_told : tie.Need-enum-told
+enum_told : tie.Need-enum_told-1
 enum_told c = search rules
 
 judge_requires : tie.Need-judge-requires
 judge_requires c κs = search rules
 
-enum_known_rows : tie.Need-enum-known-rows
+enum_known_rows : tie.Need-enum_known-rows
 enum_known_rows c = search rules
 
 fits_requires : tie.Need-fits-requires
@@ -66,21 +66,21 @@ fits_requires c κs = search rules
 refusal_requires : tie.Need-refusal-requires
 refusal_requires c κs = search rules
 
-returns : tie.Need-returns
+returns : tie.Need-returns-then-not-fits
 returns c =
     let t = c.before.before.before in
     let m = may (notes t) in
     answers_small m.learnt.checked refl (noted_verdict m.short (rows_noted t)) refl
-    (λ h. true≢false (sym (c.before.before.fits2.ensures.1 h) ∙ not-true _ c.before.if1.true)) c.refusal.ensures
+    (λ h. true≢false (sym (c.before.before.fits2.ensures.1 h) ∙ not-true _ c.if-not-fits.true)) c.refusal.ensures
 
-copy_rows_requires : tie.Need-copy-rows-requires
+copy_rows_requires : tie.Need-copy_rows-requires
 copy_rows_requires c κs =
     let e = c.before.before.before.before.before.before in
     let r = rows_noted (rows_told e) in
-    let h = e.before.fits2.ensures.0 (not-false _ e.if1.false) in
+    let h = e.before.fits2.ensures.0 (not-false _ e.if-not-fits.false) in
     (r.long, omega (arith, r.few), h.2, h.3, h.1)
 
-label_rows_requires : tie.Need-label-rows-requires
+label_rows_requires : tie.Need-label_rows-requires
 label_rows_requires c κs =
     let e = fitting (copies c) in
     let t = rows_told e in
@@ -92,40 +92,40 @@ accepted_requires c κs =
     let l = c.before.before.before.before in
     (rows_noted (rows_told (fitting (copies l.before)))).few
 
-returns_2 : tie.Need-returns-2
+returns_2 : tie.Need-returns-in-Outside
 returns_2 c =
     let t = c.before in
     let n = t.before.before.before in
-    answers_refused (may n).learnt.checked refl (outside_verdict (may n).short (subst (noted n) t.before.place.given.1 n.note.ensures) c.outside.ensures)
+    answers_refused (may n).learnt.checked refl (outside_verdict (may n).short (subst (noted n) t.place-1.given.1 n.note.ensures) c.outside.ensures)
     (λ e. omega (arith, e, c.outside.ensures.0))
 
-returns_3 : tie.Need-returns-3
+returns_3 : tie.Need-returns-in-Beyond
 returns_3 c =
     let n = c.before.before.before in
-    answers_refused (may n).learnt.checked refl c.judge.ensures (beyond_refused (subst (noted n) c.before.enum_told.given.1 n.note.ensures) c.judge.ensures)
+    answers_refused (may n).learnt.checked refl c.judge.ensures (beyond_refused (subst (noted n) c.enum_told-1.given.1 n.note.ensures) c.judge.ensures)
 
-same_length : tie.Need-same-length
+same_length : tie.Need-shape_of-index
 same_length c = search rules
 
-same_length_2 : tie.Need-same-length-2
+same_length_2 : tie.Need-shape_of-label
 same_length_2 c = search rules
 
-same_length_3 : tie.Need-same-length-3
+same_length_3 : tie.Need-shape_of-size
 same_length_3 c = search rules
 
-same_length_4 : tie.Need-same-length-4
+same_length_4 : tie.Need-shape_of-start
 same_length_4 c = search rules
 
-same_length_5 : tie.Need-same-length-5
+same_length_5 : tie.Need-shape_of-length
 same_length_5 c = search rules
 
-returns_4 : tie.Need-returns-4
+returns_4 : tie.Need-returns-else-not-fits
 returns_4 c =
     let l = c.before.before.before.before.before in
     let k = copies l.before in
     let e = fitting k in
     let t = rows_told e in
-    answers_read _ _ _ _ (may (notes t)) (rows_noted t) (e.before.fits2.ensures.0 (not-false _ e.if1.left)) k.copy-rows.ensures l.label-rows.ensures c.accepted.ensures
+    answers_read _ _ _ _ (may (notes t)) (rows_noted t) (e.before.fits2.ensures.0 (not-false _ e.if-not-fits.left)) k.copy_rows.ensures l.label_rows.ensures c.accepted.ensures
 
 pub read_rows_spec : {M : Type 1} → statement M
 read_rows_spec =

@@ -7,51 +7,51 @@ use Rattle.document.proofs.verdict.Tie as tie
 refusal_requires : tie.Need-refusal-requires
 refusal_requires c κs = search rules
 
-returns : tie.Need-returns
-returns c = long_verdict c.before.if1.true c.refusal.ensures
+returns : tie.Need-returns-then-document-gt-MOST_BYTES
+returns c = long_verdict c.if-document-gt-MOST_BYTES.true c.refusal.ensures
 
 note_requires : tie.Need-note-requires
 note_requires c κs = search rules
 
-enum_known_place : tie.Need-enum-known-place
+enum_known_place : tie.Need-enum_known-place
 enum_known_place c = search rules
 
 outside_requires : tie.Need-outside-requires
 outside_requires c κs =
     let c₃ = c.before.before.before in
     let c₇ = c₃.before.before.before.before in
-    omega (arith, (rw c.before.place.given.1 at c₃.note.ensures).within, c₇.if1.false)
+    omega (arith, (rw c.place-1.given.1 at c₃.note.ensures).within, c₇.if-document-gt-MOST_BYTES.false)
 
-enum_told : tie.Need-enum-told
+enum_told : tie.Need-enum_told-1
 enum_told c = search rules
 
 judge_requires : tie.Need-judge-requires
 judge_requires c κs = search rules
 
-enum_known_rows : tie.Need-enum-known-rows
+enum_known_rows : tie.Need-enum_known-rows
 enum_known_rows c = search rules
 
 accepted_requires : tie.Need-accepted-requires
 accepted_requires c κs =
     let c₃ = c.before.before.before in
-    (rw c.before.rows.given.1 at c₃.note.ensures).few
+    (rw c.rows-1.given.1 at c₃.note.ensures).few
 
-returns_2 : tie.Need-returns-2
+returns_2 : tie.Need-returns-in-Outside
 returns_2 c =
     let c₂ = c.before.before in
     let c₄ = c₂.before.before in
     let c₈ = c₄.before.before.before.before in
-    outside_verdict c₈.if1.false (rw c₂.place.given.1 at c₄.note.ensures) c.outside.ensures
+    outside_verdict c₈.if-document-gt-MOST_BYTES.false (rw c₂.place-1.given.1 at c₄.note.ensures) c.outside.ensures
 
-returns_3 : tie.Need-returns-3
+returns_3 : tie.Need-returns-in-Beyond
 returns_3 c = search rules
 
-returns_4 : tie.Need-returns-4
+returns_4 : tie.Need-returns-in-Rows
 returns_4 c =
     let c₂ = c.before.before in
     let c₄ = c₂.before.before in
     let c₈ = c₄.before.before.before.before in
-    accepted_verdict c₈.if1.false (rw c₂.rows.given.1 at c₄.note.ensures) c.accepted.ensures
+    accepted_verdict c₈.if-document-gt-MOST_BYTES.false (rw c₂.rows-1.given.1 at c₄.note.ensures) c.accepted.ensures
 
 pub verdict_spec : {M : Type 1} → statement M
 verdict_spec =

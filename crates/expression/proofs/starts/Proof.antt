@@ -14,64 +14,64 @@ use borrow.Author.Rules.{rules}
 use Rattle.expression.proofs.starts.Statement.{statement}
 use Rattle.expression.proofs.starts.Tie as tie
 
-abbrev invariant_loop : tie.invariant_loop
+abbrev invariant_loop : tie.invariant-loop-at
 invariant_loop size row at₀ at = (es : List Expression) → size ≡ size_rows es → Walked es at × ((e : Expression) → StartsAt es e row → at ≤ row)
 
-abbrev decreases_loop : tie.decreases_loop
+abbrev decreases_loop : tie.decreases-loop-at
 decreases_loop size row at₀ at = length size - at
 
 -- in a turn: the expression that the walk stands at
-here : (c : tie.In-loop invariant_loop decreases_loop) (es : List Expression) → c.before.before.before.args.size.now ≡ size_rows es
-    → (e : Expression) × StartsAt es e c.before.loop.at
-here c es q = walk_meets (c.before.loop.invariant es q).0 (omega (arith, sizes_length es q, c.loop-test.true))
+here : (c : tie.In-loop-at invariant_loop decreases_loop) (es : List Expression) → c.args.size.now ≡ size_rows es
+    → (e : Expression) × StartsAt es e c.loop-at.at
+here c es q = walk_meets (c.loop-at.invariant es q).0 (omega (arith, sizes_length es q, c.loop-at-test.true))
 
 -- after a turn: what the walk adds
-step : (c : tie.After-wide invariant_loop decreases_loop) (es : List Expression) (q : c.before.before.before.before.before.before.args.size.now ≡ size_rows es)
-    → c.wide.result ≡ rows (here c.before.before.before es q).0
-step c es q = c.wide.ensures.0 ∙ start_size q (here c.before.before.before es q).1
+step : (c : tie.After-wide-at invariant_loop decreases_loop) (es : List Expression) (q : c.args.size.now ≡ size_rows es)
+    → c.wide-at.result ≡ rows (here c.before.before.before es q).0
+step c es q = c.wide-at.ensures.0 ∙ start_size q (here c.before.before.before es q).1
 
-loop_holds : tie.Need-loop-init invariant_loop decreases_loop
+loop_holds : tie.Need-loop-at-init invariant_loop decreases_loop
 loop_holds c = λ es q. (walk_begins es, λ e s. omega arith)
 
-returns : tie.Need-returns invariant_loop decreases_loop
+returns : tie.Need-returns-then-row-at invariant_loop decreases_loop
 returns c =
     let st = c.before.before.before.before in
-    λ es q. says_equal st.args.row c.before.before.loop.at
+    λ es q. says_equal st.args.row c.loop-at.at
     (λ z.
     let h = here c.before es q in
     (h.0, subst (λ (j : ℕ). StartsAt es h.0 j) (sym z) h.1))
-    (λ s. omega (arith, (c.before.before.loop.invariant es q).1 s.0 s.1, c.if1.true))
+    (λ s. omega (arith, (c.loop-at.invariant es q).1 s.0 s.1, c.if-row-at.true))
 
-mul_wide : tie.Need-overflow-mul-wide invariant_loop decreases_loop
+mul_wide : tie.Need-offset_bounds-size-at invariant_loop decreases_loop
 mul_wide c = search rules
 
-shared_slice_read_wide : tie.Need-shared-slice-read-wide invariant_loop decreases_loop
+shared_slice_read_wide : tie.Need-bounds-size-at invariant_loop decreases_loop
 shared_slice_read_wide c = search rules
 
-wide_requires : tie.Need-wide-requires invariant_loop decreases_loop
+wide_requires : tie.Need-wide-at-requires invariant_loop decreases_loop
 wide_requires c κs = search rules
 
-add_at : tie.Need-overflow-add-at invariant_loop decreases_loop
+add_at : tie.Need-overflow_add-at invariant_loop decreases_loop
 add_at c =
-    let q = c.before.before.before.before.before.before.requires.1 in
-    let h = here c.before.before.before c.before.before.before.before.before.before.requires.0 q in
-    omega (arith, step c c.before.before.before.before.before.before.requires.0 q, start_in h.1, sizes_length c.before.before.before.before.before.before.requires.0 q)
+    let q = c.requires.1 in
+    let h = here c.before.before.before c.requires.0 q in
+    omega (arith, step c c.requires.0 q, start_in h.1, sizes_length c.requires.0 q)
 
-loop_less : tie.Need-loop-smaller invariant_loop decreases_loop
+loop_less : tie.Need-loop-at-smaller invariant_loop decreases_loop
 loop_less c =
-    let q = c.before.before.before.before.before.before.requires.1 in
-    let h = here c.before.before.before c.before.before.before.before.before.before.requires.0 q in
-    omega (arith, step c c.before.before.before.before.before.before.requires.0 q, rows_positive h.0, c.before.before.before.loop-test.true)
+    let q = c.requires.1 in
+    let h = here c.before.before.before c.requires.0 q in
+    omega (arith, step c c.requires.0 q, rows_positive h.0, c.loop-at-test.true)
 
-loop_again : tie.Need-loop-preserved invariant_loop decreases_loop
+loop_again : tie.Need-loop-at-preserved invariant_loop decreases_loop
 loop_again c =
     λ es q.
     let h = here c.before.before.before es q in
-    rw (step c es q) (walk_on h.1, λ e s. later_start h.1 (s) (omega (arith, c.before.before.if1.false)))
+    rw (step c es q) (walk_on h.1, λ e s. later_start h.1 (s) (omega (arith, c.if-row-at.false)))
 
-returns_2 : tie.Need-returns-2 invariant_loop decreases_loop
+returns_2 : tie.Need-returns invariant_loop decreases_loop
 returns_2 c =
-    λ es q. says_no (λ s. omega (arith, start_in s.1, rows_positive s.0, sizes_length es q, (c.before.loop.invariant es q).1 s.0 s.1, c.loop-test.false))
+    λ es q. says_no (λ s. omega (arith, start_in s.1, rows_positive s.0, sizes_length es q, (c.loop-at.invariant es q).1 s.0 s.1, c.loop-at-test.false))
 
 pub starts_spec : {M : Type 1} → statement M
 starts_spec =

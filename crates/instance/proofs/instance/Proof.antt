@@ -11,82 +11,82 @@ use Rattle.instance.proofs.instance.Statement.{statement}
 use Rattle.instance.proofs.instance.Tie as tie
 
 -- where the three checks have passed: the instance of the lists
-found : (c : tie.Else3) →
-    let a = c.before.before.before.before.before.before.before.before.before.before.before.before.before.before.before.before.before.args in
+found : (c : tie.Else-not-fits) →
+    let a = c.args in
     (U : Term) × Instance (lists a.label.now a.size.now a.kind.now a.name.now a.pattern_size.now a.«record».now) U
 found c =
-    let a = c.before.before.before.before.before.before.before.before.before.before.before.before.before.before.before.before.before.args in
-    let t = c.before.before.before.before.before.before.before.before.good2.ensures.0 (not-false _ c.before.before.before.before.before.before.before.if1.false) in
-    let g = (record_judged t c.before.before.before.before.before.before.check.ensures (not-false _ c.before.before.before.before.if2.false) c.before.fits2.ensures).0 (not-false _ c.if3.false) in
+    let a = c.args in
+    let t = c.before.before.before.before.before.before.before.before.good2.ensures.0 (not-false _ c.if-not-good.false) in
+    let g = (record_judged t c.check-p.ensures (not-false _ c.if-not-p.false) c.before.fits2.ensures).0 (not-false _ c.if-not-fits.false) in
     (_, its_instance (lists a.label.now a.size.now a.kind.now a.name.now a.pattern_size.now a.«record».now) g)
 
 good_requires : tie.Need-good-requires
 good_requires c κs = search rules
 
-returns : tie.Need-returns
-returns c = refused_tree _ _ _ c.before.good2.ensures (not-true _ c.if1.true)
+returns : tie.Need-returns-then-not-good
+returns c = refused_tree _ _ _ c.before.good2.ensures (not-true _ c.if-not-good.true)
 
-check_requires : tie.Need-check-requires
+check_requires : tie.Need-check-p-requires
 check_requires c κs = search rules
 
-returns_2 : tie.Need-returns-2
-returns_2 c = refused_pattern _ _ _ (c.before.before.before.before.good2.ensures.0 (not-false _ c.before.before.before.if1.false)) c.before.before.check.ensures.judged (not-true _ c.if2.true)
+returns_2 : tie.Need-returns-then-not-p
+returns_2 c = refused_pattern _ _ _ (c.before.before.before.before.good2.ensures.0 (not-false _ c.if-not-good.false)) c.check-p.ensures.judged (not-true _ c.if-not-p.true)
 
 fits_requires : tie.Need-fits-requires
-fits_requires c κs = record_pre (c.before.before.before.before.before.before.good2.ensures.0 (not-false _ c.before.before.before.before.before.if1.false)) c.before.before.before.before.check.ensures (not-false _ c.before.before.if2.false)
+fits_requires c κs = record_pre (c.before.before.before.before.before.before.good2.ensures.0 (not-false _ c.if-not-good.false)) c.check-p.ensures (not-false _ c.if-not-p.false)
 
-returns_3 : tie.Need-returns-3
+returns_3 : tie.Need-returns-then-not-fits
 returns_3 c =
-    let t = c.before.before.before.before.before.before.before.before.good2.ensures.0 (not-false _ c.before.before.before.before.before.before.before.if1.false) in
-    let e = not-false _ c.before.before.before.before.if2.false in
-    refused_record _ _ _ t (c.before.before.before.before.before.before.check.ensures.judged.0 e) (record_judged t c.before.before.before.before.before.before.check.ensures e c.before.fits2.ensures) (not-true _ c.if3.true)
+    let t = c.before.before.before.before.before.before.before.before.good2.ensures.0 (not-false _ c.if-not-good.false) in
+    let e = not-false _ c.if-not-p.false in
+    refused_record _ _ _ t (c.check-p.ensures.judged.0 e) (record_judged t c.check-p.ensures e c.before.fits2.ensures) (not-true _ c.if-not-fits.true)
 
-rows_of_requires : tie.Need-rows-of-requires
+rows_of_requires : tie.Need-rows_of-rows-requires
 rows_of_requires c κs = rows_pre (found c).1
 
-returns_4 : tie.Need-returns-4
+returns_4 : tie.Need-returns-then-rows-gt2048
 returns_4 c =
     let f = found c.before.before in
-    refused_rows _ _ _ f.1 (omega (arith, c.if4.true, rows_is f.1 c.before.rows_of.ensures))
+    refused_rows _ _ _ f.1 (omega (arith, c.if-rows-gt2048.true, rows_is f.1 c.rows_of-rows.ensures))
 
-returns_5 : tie.Need-returns-5
+returns_5 : tie.Need-returns-then-out_label-rows
 returns_5 c =
     let f = found c.before.before.before in
-    let z = rows_is f.1 c.before.before.rows_of.ensures in
-    refused_room _ _ _ f.1 (omega (arith, c.before.if4.false)) (inl (omega (arith, c.if5.true)))
+    let z = rows_is f.1 c.rows_of-rows.ensures in
+    refused_room _ _ _ f.1 (omega (arith, c.if-rows-gt2048.false)) (inl (omega (arith, c.if-out_label-rows.true)))
 
-returns_6 : tie.Need-returns-6
+returns_6 : tie.Need-returns-then-out_size-rows
 returns_6 c =
     let f = found c.before.before.before.before in
-    let z = rows_is f.1 c.before.before.before.rows_of.ensures in
-    refused_room _ _ _ f.1 (omega (arith, c.before.before.if4.false)) (inr (omega (arith, c.if6.true)))
+    let z = rows_is f.1 c.rows_of-rows.ensures in
+    refused_room _ _ _ f.1 (omega (arith, c.if-rows-gt2048.false)) (inr (omega (arith, c.if-out_size-rows.true)))
 
-slice_aggregate_pack : tie.Need-slice-aggregate-pack
+slice_aggregate_pack : tie.Need-slice_bounds-pack-end
 slice_aggregate_pack c = search rules
 
 pack_requires : tie.Need-pack-requires
 pack_requires c κs = pack_pre (found c.before.before.before.before.before).1 refl
 
-slice_aggregate_term : tie.Need-slice-aggregate-term
+slice_aggregate_term : tie.Need-slice_bounds-term-end
 slice_aggregate_term c = search rules
 
 term_requires : tie.Need-term-requires
 term_requires c κs =
     let f = found c.before.before.before.before.before.before.before.before.before.before in
-    let z = rows_is f.1 c.before.before.before.before.before.before.before.before.before.rows_of.ensures in
-    term_whole f.1 c.before.before.before.before.pack.ensures (omega (arith, c.before.before.before.before.before.before.before.before.if4.false)) (omega (arith, c.before.before.before.before.before.before.before.if5.false)) (omega (arith, c.before.before.before.before.before.before.if6.false))
+    let z = rows_is f.1 c.rows_of-rows.ensures in
+    term_whole f.1 c.pack.ensures (omega (arith, c.if-rows-gt2048.false)) (omega (arith, c.if-out_label-rows.false)) (omega (arith, c.if-out_size-rows.false))
 
-same_length : tie.Need-same-length
+same_length : tie.Need-shape_of-out_label
 same_length c = search rules
 
-same_length_2 : tie.Need-same-length-2
+same_length_2 : tie.Need-shape_of-out_size
 same_length_2 c = search rules
 
-returns_7 : tie.Need-returns-7
+returns_7 : tie.Need-returns
 returns_7 c =
     let f = found c.before.before.before.before.before.before.before.before.before.before.before.before.before.before.before in
-    let z = rows_is f.1 c.before.before.before.before.before.before.before.before.before.before.before.before.before.before.rows_of.ensures in
-    made_whole _ _ _ f.1 (omega (arith, c.before.before.before.before.before.before.before.before.before.before.before.before.before.if4.false)) (omega (arith, c.before.before.before.before.before.before.before.before.before.before.before.before.if5.false)) (omega (arith, c.before.before.before.before.before.before.before.before.before.before.before.if6.false)) z (written_whole f.1 c.before.before.before.before.before.before.before.before.before.pack.ensures c.before.before.before.before.term.ensures)
+    let z = rows_is f.1 c.rows_of-rows.ensures in
+    made_whole _ _ _ f.1 (omega (arith, c.if-rows-gt2048.false)) (omega (arith, c.if-out_label-rows.false)) (omega (arith, c.if-out_size-rows.false)) z (written_whole f.1 c.pack.ensures c.term.ensures)
 
 pub instance_spec : {M : Type 1} → statement M
 instance_spec =

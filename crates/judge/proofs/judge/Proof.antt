@@ -3,16 +3,16 @@ use borrow.Author.Rules.{rules}
 use Rattle.judge.proofs.judge.Statement.{statement}
 use Rattle.judge.proofs.judge.Tie as tie
 
-returns : tie.Need-returns
-returns c = long c.if1.true
+returns : tie.Need-returns-then-document-gt-MOST_BYTES
+returns c = long c.if-document-gt-MOST_BYTES.true
 
-table_requires : tie.Need-table-requires
+table_requires : tie.Need-table-class-requires
 table_requires c κs = search rules
 
 pass_requires : tie.Need-pass-requires
-pass_requires c κs = (c.before.table.ensures, c.before.before.if1.false)
+pass_requires c κs = (c.table-class.ensures, c.if-document-gt-MOST_BYTES.false)
 
-returns_2 : tie.Need-returns-2
+returns_2 : tie.Need-returns
 returns_2 c = search rules
 
 pub judge_spec : {M : Type 1} → statement M

@@ -13,207 +13,207 @@ use borrow.Author.Rules.{rules}
 use Rattle.judge.proofs.pass.Statement.{statement}
 use Rattle.judge.proofs.pass.Tie as tie
 
-abbrev invariant_loop : tie.invariant_loop
+abbrev invariant_loop : tie.invariant-loop-names
 invariant_loop document class names₀ levels₀ kept₀ depth₀ seen₀ i₀ names levels kept depth seen i = Scanned document names levels i kept depth seen.rows seen.deep
 
-abbrev decreases_loop : tie.decreases_loop
+abbrev decreases_loop : tie.decreases-loop-names
 decreases_loop document class names₀ levels₀ kept₀ depth₀ seen₀ i₀ names levels kept depth seen i = length document - i
 
 -- THE PLACES: back from a tag to the count of its turn, to the run, to the turn's head, and to the function's start
-abbrev looked : tie.After-next-tag invariant_loop decreases_loop → tie.Else1 invariant_loop decreases_loop
+abbrev looked : tie.After-next_tag invariant_loop decreases_loop → tie.Else-byte_at-ne60 invariant_loop decreases_loop
 looked t = t.before.before.before
 
-abbrev counted : tie.After-next-tag invariant_loop decreases_loop → tie.After-more invariant_loop decreases_loop
+abbrev counted : tie.After-next_tag invariant_loop decreases_loop → tie.After-more-seen invariant_loop decreases_loop
 counted t = (looked t).before.before
 
-abbrev ran : tie.After-more invariant_loop decreases_loop → tie.After-run-end invariant_loop decreases_loop
+abbrev ran : tie.After-more-seen invariant_loop decreases_loop → tie.After-run_end-text invariant_loop decreases_loop
 ran m = m.before.before
 
-abbrev head : tie.After-next-tag invariant_loop decreases_loop → tie.At-loop invariant_loop decreases_loop
+abbrev head : tie.After-next_tag invariant_loop decreases_loop → tie.At-loop-names invariant_loop decreases_loop
 head t = (ran (counted t)).before
 
-abbrev begun : tie.At-loop invariant_loop decreases_loop → tie.Start invariant_loop decreases_loop
+abbrev begun : tie.At-loop-names invariant_loop decreases_loop → tie.Start invariant_loop decreases_loop
 begun h = h.before.before
 
 -- .. and from the arms of the match to the tag
-abbrev opening : tie.After-known-told2 invariant_loop decreases_loop → tie.After-next-tag invariant_loop decreases_loop
+abbrev opening : tie.In-Opens invariant_loop decreases_loop → tie.After-next_tag invariant_loop decreases_loop
 opening c = c.before.before.before
 
-abbrev emptying : tie.After-known-told3 invariant_loop decreases_loop → tie.After-next-tag invariant_loop decreases_loop
+abbrev emptying : tie.In-Empty invariant_loop decreases_loop → tie.After-next_tag invariant_loop decreases_loop
 emptying c = c.before.before.before
 
-abbrev closing : tie.After-known-told4 invariant_loop decreases_loop → tie.After-next-tag invariant_loop decreases_loop
+abbrev closing : tie.In-Closes invariant_loop decreases_loop → tie.After-next_tag invariant_loop decreases_loop
 closing c = c.before.before.before
 
 -- WHAT IS KNOWN THERE
 -- the run ends where
-abbrev end : tie.After-next-tag invariant_loop decreases_loop → ℕ
+abbrev end : tie.After-next_tag invariant_loop decreases_loop → ℕ
 end t = (ran (counted t)).run-end.result.end
 
 -- the document is short
-short : (h : tie.At-loop invariant_loop decreases_loop) → length (begun h).args.document.now ≤ 32768
+short : (h : tie.At-loop-names invariant_loop decreases_loop) → length (begun h).args.document.now ≤ 32768
 short h = (begun h).requires.1
 
 -- what a tag of this turn does
-abbrev does : tie.After-next-tag invariant_loop decreases_loop → Tag → Type 0
+abbrev does : tie.After-next_tag invariant_loop decreases_loop → Tag → Type 0
 does t =
     let w = (begun (head t)).args.document.now in
-    let l = (head t).loop in
+    let l = (head t).loop-names in
     Does w (end t + 1) l.inv.o l.inv.f (bytes w l.i (end t - l.i))
 
-told : (t : tie.After-next-tag invariant_loop decreases_loop) → does t t.next-tag.result
+told : (t : tie.After-next_tag invariant_loop decreases_loop) → does t t.next_tag.result
 told t =
     let m = counted t in
-    t.next-tag.ensures _ _ _
-    (tagging (head t).loop.invariant (ran m).run-end.ensures (short (head t)) m.more.ensures t.before.innermost.ensures.1 (sym (looked t).before.byte_at.ensures ∙ (looked t).if1.false))
+    t.next_tag.ensures _ _ _
+    (tagging (head t).loop-names.invariant (ran m).run_end-text.ensures (short (head t)) m.more-seen.ensures t.innermost-name.ensures.1 (sym (looked t).byte_at.ensures ∙ (looked t).if-byte_at-ne60.false))
 
-refused_at : (c : tie.After-known-told invariant_loop decreases_loop) → does c.before.before.before (Refused c.before.place.given.0.0)
-refused_at c = subst (does c.before.before.before) c.before.place.given.1 (told c.before.before.before)
+refused_at : (c : tie.In-Refused invariant_loop decreases_loop) → does c.before.before.before (Refused c.place-1.given.0.0)
+refused_at c = subst (does c.before.before.before) c.place-1.given.1 (told c.before.before.before)
 
-opened_to : (c : tie.After-known-told2 invariant_loop decreases_loop) → does (opening c) (Opens c.before.next.given.0.0 c.before.next.given.0.1.0)
-opened_to c = subst (does (opening c)) c.before.next.given.1 (told (opening c))
+opened_to : (c : tie.In-Opens invariant_loop decreases_loop) → does (opening c) (Opens c.next-1.given.0.0 c.next-1.given.0.1.0)
+opened_to c = subst (does (opening c)) c.next-1.given.1 (told (opening c))
 
-emptied_to : (c : tie.After-known-told3 invariant_loop decreases_loop) → does (emptying c) (Empty c.before.next2.given.0.0 c.before.next2.given.0.1.0)
-emptied_to c = subst (does (emptying c)) c.before.next2.given.1 (told (emptying c))
+emptied_to : (c : tie.In-Empty invariant_loop decreases_loop) → does (emptying c) (Empty c.next-in-Empty-1.given.0.0 c.next-in-Empty-1.given.0.1.0)
+emptied_to c = subst (does (emptying c)) c.next-in-Empty-1.given.1 (told (emptying c))
 
-closed_to : (c : tie.After-known-told4 invariant_loop decreases_loop) → does (closing c) (Closes c.before.next3.given.0.0)
-closed_to c = subst (does (closing c)) c.before.next3.given.1 (told (closing c))
+closed_to : (c : tie.In-Closes invariant_loop decreases_loop) → does (closing c) (Closes c.next-in-Closes-1.given.0.0)
+closed_to c = subst (does (closing c)) c.next-in-Closes-1.given.1 (told (closing c))
 
 -- where a tag opens there are not too many
-room : (c : tie.After-known-told2 invariant_loop decreases_loop) → (head (opening c)).loop.depth < 10922
+room : (c : tie.In-Opens invariant_loop decreases_loop) → (head (opening c)).loop.depth < 10922
 room c = let h = head (opening c) in room_open h.loop.inv (ran (counted (opening c))).run-end.ensures (short h) _ (opened_to c).1
 
-may : (c : tie.After-known-told2 invariant_loop decreases_loop) → ((head (opening c)).loop.kept ≡ 64 → LowNames (head (opening c)).loop.names) × (end (opening c) + 1 < 65536)
+may : (c : tie.In-Opens invariant_loop decreases_loop) → ((head (opening c)).loop.kept ≡ 64 → LowNames (head (opening c)).loop.names) × (end (opening c) + 1 < 65536)
 may c = let h = head (opening c) in may_open_lem h.loop.inv (ran (counted (opening c))).run-end.ensures (short h)
 
 -- where one closes, one is open
-some : (c : tie.After-known-told4 invariant_loop decreases_loop) → 0 < (head (closing c)).loop.depth
+some : (c : tie.In-Closes invariant_loop decreases_loop) → 0 < (head (closing c)).loop.depth
 some c = let h = head (closing c) in some_open h.loop.inv (ran (counted (closing c))).run-end.ensures (short h) (closed_to c).1
 
-now_few : (t : tie.After-next-tag invariant_loop decreases_loop) → (counted t).more.result.rows ≤ 65537
-now_few t = let m = counted t in bound_now (head t).loop.invariant (ran m).run-end.ensures (short (head t)) m.more.ensures
+now_few : (t : tie.After-next_tag invariant_loop decreases_loop) → (counted t).more-seen.result.rows ≤ 65537
+now_few t = let m = counted t in bound_now (head t).loop-names.invariant (ran m).run_end-text.ensures (short (head t)) m.more-seen.ensures
 
 -- the turn ends behind where it began
-less : (t : tie.After-next-tag invariant_loop decreases_loop) {e : ℕ} → end t + 1 < e → e ≤ length (begun (head t)).args.document.now →
-    length (begun (head t)).args.document.now - e < length (begun (head t)).args.document.now - (head t).loop.i
+less : (t : tie.After-next_tag invariant_loop decreases_loop) {e : ℕ} → end t + 1 < e → e ≤ length (begun (head t)).args.document.now →
+    length (begun (head t)).args.document.now - e < length (begun (head t)).args.document.now - (head t).loop-names.i
 less t h k = omega (arith, h, k, (ran (counted t)).run-end.ensures.span.passed.from)
 
 -- THE NEEDS
-loop_holds : tie.Need-loop-init invariant_loop decreases_loop
+loop_holds : tie.Need-loop-names-init invariant_loop decreases_loop
 loop_holds c = begins _ _ _ (record { names_long = length-replicate {A = ℕ} 64 0; levels_long = length-replicate {A = ℕ} 64 0; few = omega arith })
 
-run_end_requires : tie.Need-run-end-requires invariant_loop decreases_loop
-run_end_requires c κs = ((begun c).requires.0, c.loop.invariant.here.within)
+run_end_requires : tie.Need-run_end-text-requires invariant_loop decreases_loop
+run_end_requires c κs = ((begun c).requires.0, c.loop-names.invariant.here.within)
 
-add_more : tie.Need-overflow-add-more invariant_loop decreases_loop
-add_more c = let r = c.before in let h = r.before in omega (arith, room_close h.loop.invariant r.run-end.ensures (short h), r.run-end.ensures.few)
+add_more : tie.Need-overflow_add-depth invariant_loop decreases_loop
+add_more c = let r = c.before in let h = r.before in omega (arith, room_close h.loop-names.invariant r.run_end-text.ensures (short h), r.run_end-text.ensures.few)
 
-more_requires : tie.Need-more-requires invariant_loop decreases_loop
+more_requires : tie.Need-more-seen-requires invariant_loop decreases_loop
 more_requires c κs =
     let r = c.before in
     let h = r.before in
-    (omega (arith, bound h.loop.invariant r.run-end.ensures (short h)), r.run-end.ensures.few)
+    (omega (arith, bound h.loop-names.invariant r.run_end-text.ensures (short h)), r.run_end-text.ensures.few)
 
-byte_at_requires : tie.Need-byte-at-requires invariant_loop decreases_loop
+byte_at_requires : tie.Need-byte_at-requires invariant_loop decreases_loop
 byte_at_requires c κs = search rules
 
 last_requires : tie.Need-last-requires invariant_loop decreases_loop
-last_requires c κs = let r = ran c.before.before in omega (arith, r.run-end.ensures.span.passed.within, short r.before)
+last_requires c κs = let r = ran c.before.before in omega (arith, r.run_end-text.ensures.span.passed.within, short r.before)
 
-returns : tie.Need-returns invariant_loop decreases_loop
+returns : tie.Need-returns-then-byte_at-ne60 invariant_loop decreases_loop
 returns c =
     let b = c.before.before in
     let m = b.before in
     let r = ran m in
     let h = r.before in
-    ends h.loop.inv r.run-end.ensures (short h) m.more.ensures (λ e. c.before.if1.true (b.byte_at.ensures ∙ e)) c.last.ensures
+    ends h.loop.inv r.run_end-text.ensures (short h) m.more-seen.ensures (λ e. c.if-byte_at-ne60.true (b.byte_at.ensures ∙ e)) c.last.ensures
 
-innermost_requires : tie.Need-innermost-requires invariant_loop decreases_loop
-innermost_requires c κs = let k = (ran c.before.before.before).before.loop.inv.keeping in (k.names_long, k.few)
+innermost_requires : tie.Need-innermost-name-requires invariant_loop decreases_loop
+innermost_requires c κs = let k = (ran c.before.before.before).loop-names.inv.keeping in (k.names_long, k.few)
 
-next_tag_requires : tie.Need-next-tag-requires invariant_loop decreases_loop
+next_tag_requires : tie.Need-next_tag-requires invariant_loop decreases_loop
 next_tag_requires c κs =
     let l = c.before.before in
     let r = ran l.before.before in
     let h = r.before in
-    ((begun h).pre.0, there (begun h).args.document.now r.run-end.result.end 59 (sym l.before.byte_at.ensures ∙ l.if1.false), c.innermost.ensures.0)
+    ((begun h).pre.0, there (begun h).args.document.now r.run_end-text.result.end 59 (sym l.byte_at.ensures ∙ l.if-byte_at-ne60.false), c.innermost-name.ensures.0)
 
-enum_known_place : tie.Need-enum-known-place invariant_loop decreases_loop
+enum_known_place : tie.Need-enum_known-place invariant_loop decreases_loop
 enum_known_place c = search rules
 
 outside_requires : tie.Need-outside-requires invariant_loop decreases_loop
 outside_requires c κs = omega (arith, (refused_at c).within, short (head c.before.before.before))
 
-returns_2 : tie.Need-returns-2 invariant_loop decreases_loop
+returns_2 : tie.Need-returns-in-Refused invariant_loop decreases_loop
 returns_2 c = outside_is (short (head c.before.before.before.before)) (refused_at c.before) c.outside.ensures
 
-enum_known_next : tie.Need-enum-known-next invariant_loop decreases_loop
+enum_known_next : tie.Need-enum_known-next invariant_loop decreases_loop
 enum_known_next c = search rules
 
-add_open : tie.Need-overflow-add-open invariant_loop decreases_loop
+add_open : tie.Need-overflow_add-at invariant_loop decreases_loop
 add_open c = omega (arith, may c.before.before)
 
-open_requires : tie.Need-open-requires invariant_loop decreases_loop
+open_requires : tie.Need-open-kept-requires invariant_loop decreases_loop
 open_requires c κs =
     let o = c.before.before in
     ((head (opening o)).loop.inv.keeping, (may o).0, omega (arith, room o), (may o).1)
 
-add_depth : tie.Need-overflow-add-depth invariant_loop decreases_loop
+add_depth : tie.Need-overflow_add-depth-in-Opens invariant_loop decreases_loop
 add_depth c = omega (arith, room c.before.before.before)
 
-more_requires_2 : tie.Need-more-requires-2 invariant_loop decreases_loop
+more_requires_2 : tie.Need-more-seen-requires-in-Opens invariant_loop decreases_loop
 more_requires_2 c κs = (now_few (opening c.before.before.before), omega arith)
 
-loop_less : tie.Need-loop-smaller invariant_loop decreases_loop
+loop_less : tie.Need-loop-names-smaller-in-Opens invariant_loop decreases_loop
 loop_less c = let o = c.before.before.before.before in less (opening o) (opened_to o).0 (opened_to o).1.here.within
 
-loop_again : tie.Need-loop-preserved invariant_loop decreases_loop
+loop_again : tie.Need-loop-names-preserved-in-Opens invariant_loop decreases_loop
 loop_again c =
     let o = c.before.before.before.before in
     let m = counted (opening o) in
     let h = head (opening o) in
-    opens h.loop.inv (ran m).run-end.ensures (short h) m.more.ensures _ (opened_to o).0 (opened_to o).1 c.more2.ensures c.before.open.ensures
+    opens h.loop.inv (ran m).run_end-text.ensures (short h) m.more.ensures _ (opened_to o).0 (opened_to o).1 c.more-seen-in-Opens.ensures c.open-kept.ensures
 
-enum_known_next_2 : tie.Need-enum-known-next-2 invariant_loop decreases_loop
+enum_known_next_2 : tie.Need-enum_known-next-in-Empty-1 invariant_loop decreases_loop
 enum_known_next_2 c = search rules
 
-add_more_2 : tie.Need-overflow-add-more-2 invariant_loop decreases_loop
+add_more_2 : tie.Need-overflow_add-depth-in-Empty invariant_loop decreases_loop
 add_more_2 c = let h = head (emptying c) in omega (arith, room_close h.loop.inv (ran (counted (emptying c))).run-end.ensures (short h))
 
-more_requires_3 : tie.Need-more-requires-3 invariant_loop decreases_loop
+more_requires_3 : tie.Need-more-seen-requires-in-Empty invariant_loop decreases_loop
 more_requires_3 c κs = (now_few (emptying c), omega arith)
 
-loop_less_2 : tie.Need-loop-smaller-2 invariant_loop decreases_loop
+loop_less_2 : tie.Need-loop-names-smaller-in-Empty invariant_loop decreases_loop
 loop_less_2 c = let o = c.before in less (emptying o) (emptied_to o).0 (emptied_to o).1.here.within
 
-loop_again_2 : tie.Need-loop-preserved-2 invariant_loop decreases_loop
+loop_again_2 : tie.Need-loop-names-preserved-in-Empty invariant_loop decreases_loop
 loop_again_2 c =
     let o = c.before in
     let m = counted (emptying o) in
     let h = head (emptying o) in
-    empties h.loop.inv (ran m).run-end.ensures (short h) m.more.ensures _ (emptied_to o).0 (emptied_to o).1 c.more3.ensures
+    empties h.loop.inv (ran m).run_end-text.ensures (short h) m.more.ensures _ (emptied_to o).0 (emptied_to o).1 c.more-seen-in-Empty.ensures
 
-enum_known_next_3 : tie.Need-enum-known-next-3 invariant_loop decreases_loop
+enum_known_next_3 : tie.Need-enum_known-next-in-Closes-1 invariant_loop decreases_loop
 enum_known_next_3 c = search rules
 
-sub_depth : tie.Need-overflow-sub-depth invariant_loop decreases_loop
+sub_depth : tie.Need-overflow_sub-depth invariant_loop decreases_loop
 sub_depth c = some c
 
-close_requires : tie.Need-close-requires invariant_loop decreases_loop
+close_requires : tie.Need-close-kept-requires invariant_loop decreases_loop
 close_requires c κs =
     let o = c.before.before in
     let h = head (closing o) in
     may_close h.loop.inv (ran (counted (closing o))).run-end.ensures (short h) (closed_to o).1
 
-loop_less_3 : tie.Need-loop-smaller-3 invariant_loop decreases_loop
+loop_less_3 : tie.Need-loop-names-smaller invariant_loop decreases_loop
 loop_less_3 c = let o = c.before.before.before in less (closing o) (closed_to o).0 (closed_within _ _ _ _ _ (closed_to o).1)
 
-loop_again_3 : tie.Need-loop-preserved-3 invariant_loop decreases_loop
+loop_again_3 : tie.Need-loop-names-preserved invariant_loop decreases_loop
 loop_again_3 c =
     let o = c.before.before.before in
     let m = counted (closing o) in
     let h = head (closing o) in
-    closes h.loop.inv (ran m).run-end.ensures (short h) m.more.ensures _ (closed_to o).0 (closed_to o).1 c.close.ensures
+    closes h.loop.inv (ran m).run_end-text.ensures (short h) m.more.ensures _ (closed_to o).0 (closed_to o).1 c.close-kept.ensures
 
 pub pass_spec : {M : Type 1} → statement M
 pass_spec =

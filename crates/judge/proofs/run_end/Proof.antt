@@ -3,20 +3,20 @@ use borrow.Author.Rules.{rules}
 use Rattle.judge.proofs.run_end.Statement.{statement}
 use Rattle.judge.proofs.run_end.Tie as tie
 
-white_end_requires : tie.Need-white-end-requires
+white_end_requires : tie.Need-white_end-white-requires
 white_end_requires c κs = search rules
 
-returns : tie.Need-returns
-returns c = outer_run c.if1.true c.before.white-end.ensures
+returns : tie.Need-returns-then-depth-eq0
+returns c = outer_run c.if-depth-eq0.true c.white_end-white.ensures
 
-text_end_requires : tie.Need-text-end-requires
-text_end_requires c κs = (c.before.before.before.requires.0, white_text c.before.white-end.ensures.passed)
+text_end_requires : tie.Need-text_end-end-requires
+text_end_requires c κs = (c.requires.0, white_text c.white_end-white.ensures.passed)
 
-returns_2 : tie.Need-returns-2
-returns_2 c = inner_run c.before.before.if1.false c.before.before.before.white-end.ensures c.before.text-end.ensures c.if2.true
+returns_2 : tie.Need-returns-then-white-end
+returns_2 c = inner_run c.if-depth-eq0.false c.white_end-white.ensures c.text_end-end.ensures c.if-white-end.true
 
-returns_3 : tie.Need-returns-3
-returns_3 c = inner_space c.before.before.if1.false c.before.before.before.white-end.ensures c.before.text-end.ensures c.if2.false
+returns_3 : tie.Need-returns
+returns_3 c = inner_space c.if-depth-eq0.false c.white_end-white.ensures c.text_end-end.ensures c.if-white-end.false
 
 pub run_end_spec : {M : Type 1} → statement M
 run_end_spec =

@@ -3,17 +3,17 @@ use borrow.Author.Rules.{rules}
 use Rattle.judge.proofs.whole.Statement.{statement}
 use Rattle.judge.proofs.whole.Tie as tie
 
-returns : tie.Need-returns
-returns c = too_deep c.if1.true
+returns : tie.Need-returns-then-deep-gt-DEEPEST
+returns c = too_deep c.if-deep-gt-DEEPEST.true
 
-returns_2 : tie.Need-returns-2
-returns_2 c = too_many c.before.if1.false c.if2.true
+returns_2 : tie.Need-returns-then-rows-gt-MOST_ROWS
+returns_2 c = too_many c.if-deep-gt-DEEPEST.false c.if-rows-gt-MOST_ROWS.true
 
-cast_t4 : tie.Need-overflow-cast-t4
+cast_t4 : tie.Need-overflow_cast-result
 cast_t4 c = search rules
 
-returns_3 : tie.Need-returns-3
-returns_3 c = done c.before.if1.false c.if2.false
+returns_3 : tie.Need-returns
+returns_3 c = done c.if-deep-gt-DEEPEST.false c.if-rows-gt-MOST_ROWS.false
 
 pub whole_spec : {M : Type 1} → statement M
 whole_spec = tie.close (tie.spec returns returns_2 cast_t4 returns_3)

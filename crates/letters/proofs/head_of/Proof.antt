@@ -9,34 +9,34 @@ use borrow.Author.Rules.{rules}
 use Rattle.letters.proofs.head_of.Statement.{statement}
 use Rattle.letters.proofs.head_of.Tie as tie
 
-shl_t8 : tie.Need-overflow-shl-t8
+shl_t8 : tie.Need-overflow_shl-result
 shl_t8 c = search rules
 
-gated_requires : tie.Need-gated-requires
+gated_requires : tie.Need-gated-more-requires
 gated_requires c κs = search rules
 
-returns : tie.Need-returns
+returns : tie.Need-returns-in-0
 returns c =
-    rw c.match.keys1 (
-      ap (λ (x : ℕ). x % 2 ^ 64) (one-mul (2 ^ c.before.args.row)) ∙ mod-eq_of_lt (pow-lt c.before.requires),
+    rw c.in-0.keys1 (
+      ap (λ (x : ℕ). x % 2 ^ 64) (one-mul (2 ^ c.args.row)) ∙ mod-eq_of_lt (pow-lt c.requires),
       refl,
     )
 
-returns_2 : tie.Need-returns-2
+returns_2 : tie.Need-returns-in-1
 returns_2 c = search rules
 
-returns_3 : tie.Need-returns-3
+returns_3 : tie.Need-returns-in-2
 returns_3 c =
     let g = c.before.before.before in
-    rw g.before.match.keys3 (ap (λ (x : ℕ). bit_or g.before.before.args.l.first x) g.gated.ensures, refl)
+    rw g.in-2.keys3 (ap (λ (x : ℕ). bit_or g.args.l.first x) g.gated-more.ensures, refl)
 
-returns_4 : tie.Need-returns-4
-returns_4 c = rw c.before.before.before.before.match.keys4 (refl, refl)
+returns_4 : tie.Need-returns-in-3
+returns_4 c = rw c.in-3.keys4 (refl, refl)
 
-returns_5 : tie.Need-returns-5
+returns_5 : tie.Need-returns-in_default
 returns_5 c =
-    let n = c.match.rest in
-    let k = is_rest c.before.args.kind n.0.0.0.1 n.0.0.1 n.0.1 n.1 in
+    let n = c.in_default.rest in
+    let k = is_rest c.args.kind n.0.0.0.1 n.0.0.1 n.0.1 n.1 in
     rw k.1 (refl, refl)
 
 pub head_of_spec : {M : Type 1} → statement M

@@ -7,27 +7,27 @@ use Rattle.letters.proofs.put.Lts as lts
 use Rattle.letters.proofs.number.Reads as number-reads
 
 -- src/lib.rt:236:14
-mul_at : tie.Need-overflow-mul-at
+mul_at : tie.Need-overflow_mul-at
 mul_at c = search rules
 
 -- src/lib.rt:237:5
-mul_tables : tie.Need-overflow-mul-tables
+mul_tables : tie.Need-offset_bounds-tables-at
 mul_tables c = search rules
 
 -- src/lib.rt:237:5
-element_write_tables : tie.Need-element-write-tables
+element_write_tables : tie.Need-bounds-tables-at
 element_write_tables c = search rules
 
 -- src/lib.rt:238:12
-add_tables : tie.Need-overflow-add-tables
+add_tables : tie.Need-overflow_add-tables
 add_tables c = search rules
 
 -- src/lib.rt:238:5
-mul_tables_2 : tie.Need-overflow-mul-tables-2
+mul_tables_2 : tie.Need-offset_bounds-tables-at-2
 mul_tables_2 c = search rules
 
 -- src/lib.rt:238:5
-element_write_tables_2 : tie.Need-element-write-tables-2
+element_write_tables_2 : tie.Need-bounds-tables-at-2
 element_write_tables_2 c = search rules
 
 -- src/lib.rt:239:22
@@ -35,27 +35,27 @@ number_requires : tie.Need-number-requires
 number_requires c κs = search rules
 
 -- src/lib.rt:239:12
-add_tables_2 : tie.Need-overflow-add-tables-2
+add_tables_2 : tie.Need-overflow_add-tables-2
 add_tables_2 c = search rules
 
 -- src/lib.rt:239:5
-mul_tables_3 : tie.Need-overflow-mul-tables-3
+mul_tables_3 : tie.Need-offset_bounds-tables-at-3
 mul_tables_3 c = search rules
 
 -- src/lib.rt:239:5
-element_write_tables_3 : tie.Need-element-write-tables-3
+element_write_tables_3 : tie.Need-bounds-tables-at-3
 element_write_tables_3 c = search rules
 
 -- src/lib.rt:240:12
-add_tables_3 : tie.Need-overflow-add-tables-3
+add_tables_3 : tie.Need-overflow_add-tables-3
 add_tables_3 c = search rules
 
 -- src/lib.rt:240:5
-mul_tables_4 : tie.Need-overflow-mul-tables-4
+mul_tables_4 : tie.Need-offset_bounds-tables-at-4
 mul_tables_4 c = search rules
 
 -- src/lib.rt:240:5
-element_write_tables_4 : tie.Need-element-write-tables-4
+element_write_tables_4 : tie.Need-bounds-tables-at-4
 element_write_tables_4 c = search rules
 
 -- src/lib.rt:241:22
@@ -63,20 +63,20 @@ number_requires_2 : tie.Need-number-requires-2
 number_requires_2 c κs = search rules
 
 -- src/lib.rt:241:12
-add_tables_4 : tie.Need-overflow-add-tables-4
+add_tables_4 : tie.Need-overflow_add-tables-4
 add_tables_4 c = search rules
 
 -- src/lib.rt:241:5
-mul_tables_5 : tie.Need-overflow-mul-tables-5
+mul_tables_5 : tie.Need-offset_bounds-tables-at-5
 mul_tables_5 c = search rules
 
 -- src/lib.rt:241:5
-element_write_tables_5 : tie.Need-element-write-tables-5
+element_write_tables_5 : tie.Need-bounds-tables-at-5
 element_write_tables_5 c = search rules
 
 -- src/lib.rt:232:1
 returns : tie.Need-returns
-returns c = rw (c.before.number.ensures, c.number2.ensures) refl
+returns c = rw (c.number.ensures, c.number-2.ensures) refl
 
 pub put_spec : {M : Type 1} → statement M
 put_spec =

@@ -18,22 +18,22 @@ shaped st =
     let g = st.requires.1.1 in
     (size_length g, g.most, λ s h. ((good_rows g s h).sized.left, (good_rows g s h).sized.right))
 
-names_of_requires : tie.Need-names-of-requires
+names_of_requires : tie.Need-names_of-n-requires
 names_of_requires c κs =
-    let g = c.before.before.before.requires.1.1 in
+    let g = c.requires.1.1 in
     omega (arith, name_length g, g.most)
 
-heads_of_requires : tie.Need-heads-of-requires
+heads_of_requires : tie.Need-heads_of-h-requires
 heads_of_requires c κs = shaped c.before.before.before.before.before
 
-conts_of_requires : tie.Need-conts-of-requires
+conts_of_requires : tie.Need-conts_of-c-requires
 conts_of_requires c κs = shaped c.before.before.before.before.before.before.before.before.before.before
 
 lay_requires : tie.Need-lay-requires
-lay_requires c κs = record { names = c.before.before.before.before.before.before.before.before.before.before.before.before.before.before.before.names_of.ensures.0; firsts = c.before.before.before.before.before.before.before.before.before.before.before.before.before.heads-of.ensures.0; nulls = c.before.before.before.before.before.before.before.before.before.before.before.before.before.heads-of.ensures.1; conts = c.before.before.before.before.before.before.before.before.conts-of.ensures.0; finals = c.before.before.before.before.before.before.before.before.conts-of.ensures.1; room = c.before.before.before.before.before.before.before.before.before.before.before.before.before.before.before.before.before.before.before.requires.0 }
+lay_requires c κs = record { names = c.names_of-n.ensures.0; firsts = c.heads_of-h.ensures.0; nulls = c.heads_of-h.ensures.1; conts = c.conts_of-c.ensures.0; finals = c.conts_of-c.ensures.1; room = c.requires.0 }
 
 returns : tie.Need-returns
-returns c = λ es g. tables_are g _ _ _ _ _ c.before.before.before.before.before.before.before.before.before.before.before.before.before.before.before.before.names_of.ensures.1 c.before.before.before.before.before.before.before.before.before.before.before.before.before.before.heads-of.ensures.2 (c.before.before.before.before.before.before.before.before.before.conts-of.ensures.2 _ es g) c.lay.ensures
+returns c = λ es g. tables_are g _ _ _ _ _ c.names_of-n.ensures.1 c.heads_of-h.ensures.2 (c.conts_of-c.ensures.2 _ es g) c.lay.ensures
 
 pub tables_of_spec : {M : Type 1} → statement M
 tables_of_spec = tie.close (tie.spec names_of_requires heads_of_requires conts_of_requires lay_requires returns)

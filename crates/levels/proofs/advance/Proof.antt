@@ -6,43 +6,43 @@ use Rattle.levels.proofs.advance.Reads as reads
 use Rattle.levels.proofs.advance.Lts as lts
 
 -- src/lib.rt:46:14
-mul_at : tie.Need-overflow-mul-at
+mul_at : tie.Need-overflow_mul-at
 mul_at c = search rules
 
 -- src/lib.rt:47:12
-add_levels : tie.Need-overflow-add-levels
+add_levels : tie.Need-overflow_add-levels
 add_levels c = search rules
 
 -- src/lib.rt:47:5
-mul_levels : tie.Need-overflow-mul-levels
+mul_levels : tie.Need-offset_bounds-levels-at
 mul_levels c = search rules
 
 -- src/lib.rt:47:5
-element_write_levels : tie.Need-element-write-levels
+element_write_levels : tie.Need-bounds-levels-at
 element_write_levels c = search rules
 
 -- src/lib.rt:48:12
-add_levels_2 : tie.Need-overflow-add-levels-2
+add_levels_2 : tie.Need-overflow_add-levels-2
 add_levels_2 c = search rules
 
 -- src/lib.rt:48:5
-mul_levels_2 : tie.Need-overflow-mul-levels-2
+mul_levels_2 : tie.Need-offset_bounds-levels-at-2
 mul_levels_2 c = search rules
 
 -- src/lib.rt:48:5
-element_write_levels_2 : tie.Need-element-write-levels-2
+element_write_levels_2 : tie.Need-bounds-levels-at-2
 element_write_levels_2 c = search rules
 
 -- src/lib.rt:49:12
-add_levels_3 : tie.Need-overflow-add-levels-3
+add_levels_3 : tie.Need-overflow_add-levels-3
 add_levels_3 c = search rules
 
 -- src/lib.rt:49:5
-mul_levels_3 : tie.Need-overflow-mul-levels-3
+mul_levels_3 : tie.Need-offset_bounds-levels-at-3
 mul_levels_3 c = search rules
 
 -- src/lib.rt:49:5
-element_write_levels_3 : tie.Need-element-write-levels-3
+element_write_levels_3 : tie.Need-bounds-levels-at-3
 element_write_levels_3 c = search rules
 
 -- src/lib.rt:42:1

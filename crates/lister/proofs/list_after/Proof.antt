@@ -15,38 +15,38 @@ use Rattle.lister.proofs.list_after.Tie as tie
 abbrev packed : tie.After-resume → tie.After-pack
 packed r = r.before.before.before.before.before.before
 
-abbrev tabled : tie.After-pack → tie.After-tables-of
+abbrev tabled : tie.After-pack → tie.After-tables_of
 tabled k = k.before.before
 
-abbrev measured : tie.After-tables-of → tie.Else2
+abbrev measured : tie.After-tables_of → tie.Else-record-width
 measured t = t.before.before
 
-check_requires : tie.Need-check-requires
+check_requires : tie.Need-check-p-requires
 check_requires c κs = search rules
 
 refused_requires : tie.Need-refused-requires
 refused_requires c κs = search rules
 
-returns : tie.Need-returns
-returns c = rw c.refused.ensures (page_refused _ c.before.before.check.ensures _ _ _ c.before.if1.true)
+returns : tie.Need-returns-then-code-ne0
+returns c = rw c.refused.ensures (page_refused _ c.check-p.ensures _ _ _ c.if-code-ne0.true)
 
-add_width : tie.Need-overflow-add-width
-add_width c = omega (arith, few_variables _ c.before.check.ensures 0 [] c.if1.false)
+add_width : tie.Need-overflow_add-width
+add_width c = omega (arith, few_variables _ c.check-p.ensures 0 [] c.if-code-ne0.false)
 
-refused_requires_2 : tie.Need-refused-requires-2
+refused_requires_2 : tie.Need-refused-requires-then-record-width
 refused_requires_2 c κs = search rules
 
-returns_2 : tie.Need-returns-2
+returns_2 : tie.Need-returns-then-record-width
 returns_2 c =
     let z = c.before.before in
-    rw c.refused2.ensures (page_wrong_length _ z.before.check.ensures _ _ _ z.if1.false c.before.if2.true)
+    rw c.refused-then-record-width.ensures (page_wrong_length _ z.check-p.ensures _ _ _ z.if-code-ne0.false c.if-record-width.true)
 
-tables_of_requires : tie.Need-tables-of-requires
+tables_of_requires : tie.Need-tables_of-requires
 tables_of_requires c κs =
     let z = c.before.before in
-    (length-replicate {A = ℕ} 320 0, tables_asked _ z.before.check.ensures 0 [] z.if1.false)
+    (length-replicate {A = ℕ} 320 0, tables_asked _ z.check-p.ensures 0 [] z.if-code-ne0.false)
 
-slice_aggregate_pack : tie.Need-slice-aggregate-pack
+slice_aggregate_pack : tie.Need-slice_bounds-pack-end
 slice_aggregate_pack c = search rules
 
 pack_requires : tie.Need-pack-requires
@@ -54,7 +54,7 @@ pack_requires c κs =
     let z = (measured c.before).before in
     pack_asked (the z.before.check.ensures z.if1.left).poses.rest.pattern refl
 
-room_for_requires : tie.Need-room-for-requires
+room_for_requires : tie.Need-room_for-room-requires
 room_for_requires c κs = search rules
 
 resume_requires : tie.Need-resume-requires
@@ -64,39 +64,39 @@ resume_requires c κs =
     let t = tabled k in
     let e = measured t in
     let z = e.before in
-    resume_asked _ z.before.check.ensures _ 0 _ z.if1.left e.if2.left t.tables-of.ensures k.pack.ensures refl w.room_for.ensures
+    resume_asked _ z.before.check.ensures _ 0 _ z.if1.left e.if-record-width.left t.tables_of.ensures k.pack.ensures refl w.room_for-room.ensures
 
-enum_told : tie.Need-enum-told
+enum_told : tie.Need-enum_told-1
 enum_told c = search rules
 
-no_page_requires : tie.Need-no-page-requires
+no_page_requires : tie.Need-no_page-requires
 no_page_requires c κs =
     let z = (measured (tabled (packed c.before.before.before.before.before.before))).before in
     record_asked _ z.before.check.ensures [] 0 [] z.if1.left
 
-enum_known_found : tie.Need-enum-known-found
+enum_known_found : tie.Need-enum_known-found
 enum_known_found c = search rules
 
 accepted_requires : tie.Need-accepted-requires
 accepted_requires c κs = search rules
 
-same_length : tie.Need-same-length
+same_length : tie.Need-shape_of-out-in-NoMatcher
 same_length c = search rules
 
-returns_3 : tie.Need-returns-3
+returns_3 : tie.Need-returns-in-NoMatcher
 returns_3 c =
     let r = c.before.before.before.before.before.before.before in
     let k = packed r in
     let t = tabled k in
     let e = measured t in
     let z = e.before in
-    page_none _ z.before.check.ensures _ _ _ z.if1.left e.if2.left t.tables-of.ensures k.pack.ensures refl r.before.before.before.before.room_for.ensures
-    r.resume.ensures c.before.before.before.enum_told.given.1 c.no-page.ensures
+    page_none _ z.before.check.ensures _ _ _ z.if1.left e.if-record-width.left t.tables_of.ensures k.pack.ensures refl r.room_for-room.ensures
+    r.resume.ensures c.enum_told-1.given.1 c.no_page.ensures
 
-same_length_2 : tie.Need-same-length-2
+same_length_2 : tie.Need-shape_of-out-in-Page
 same_length_2 c = search rules
 
-returns_4 : tie.Need-returns-4
+returns_4 : tie.Need-returns-in-Page
 returns_4 c =
     let r = c.before.before.before.before.before.before in
     let k = packed r in
@@ -104,8 +104,8 @@ returns_4 c =
     let e = measured t in
     let z = e.before in
     rw c.accepted.ensures
-    (page_done _ z.before.check.ensures _ _ _ z.if1.left e.if2.left t.tables-of.ensures k.pack.ensures refl r.before.before.before.before.room_for.ensures
-    r.resume.ensures c.before.before.found.given.1)
+    (page_done _ z.before.check.ensures _ _ _ z.if1.left e.if-record-width.left t.tables_of.ensures k.pack.ensures refl r.room_for-room.ensures
+    r.resume.ensures c.found-1.given.1)
 
 pub list_after_spec : {M : Type 1} → statement M
 list_after_spec =

@@ -11,18 +11,18 @@ use Rattle.lister.proofs.list_checked.Statement.{statement}
 use Rattle.lister.proofs.list_checked.Tie as tie
 
 -- from the packed pattern to the expressions' tables, and from these to the start
-abbrev tabled : tie.After-pack → tie.After-tables-of
+abbrev tabled : tie.After-pack → tie.After-tables_of
 tabled k = k.before.before
 
-abbrev start : tie.After-tables-of → tie.Start
+abbrev start : tie.After-tables_of → tie.Start
 start t = t.before.before.before.before.before.before.before.before.before.before.before.before
 
-tables_of_requires : tie.Need-tables-of-requires
+tables_of_requires : tie.Need-tables_of-requires
 tables_of_requires c κs =
-    let p = c.before.before.before.before.before.before.before.before.before.before.before.requires in
+    let p = c.requires in
     (length-replicate {A = ℕ} 320 0, tables_asked _ p.answered 0 [] p.accepted)
 
-slice_aggregate_pack : tie.Need-slice-aggregate-pack
+slice_aggregate_pack : tie.Need-slice_bounds-pack-end
 slice_aggregate_pack c = search rules
 
 pack_requires : tie.Need-pack-requires
@@ -30,12 +30,12 @@ pack_requires c κs =
     let p = (start c.before).requires in
     pack_asked (the p.answered p.accepted).poses.rest.pattern refl
 
-add_width : tie.Need-overflow-add-width
+add_width : tie.Need-overflow_add-width
 add_width c =
     let p = (start (tabled c.before)).requires in
     omega (arith, p.many, few_variables _ p.answered 0 [] p.accepted)
 
-room_for_requires : tie.Need-room-for-requires
+room_for_requires : tie.Need-room_for-room-requires
 room_for_requires c κs = search rules
 
 begin_requires : tie.Need-begin-requires
@@ -44,12 +44,12 @@ begin_requires c κs =
     let k = w.before.before in
     let t = tabled k in
     let p = (start t).pre in
-    begin_asked _ p.answered 0 _ p.accepted t.tables-of.ensures k.pack.ensures (ap (λ (n : ℕ). n + n) p.many) w.room_for.ensures
+    begin_asked _ p.answered 0 _ p.accepted t.tables_of.ensures k.pack.ensures (ap (λ (n : ℕ). n + n) p.many) w.room_for-room.ensures
 
 accepted_requires : tie.Need-accepted-requires
 accepted_requires c κs = search rules
 
-same_length : tie.Need-same-length
+same_length : tie.Need-shape_of-out
 same_length c = search rules
 
 returns : tie.Need-returns
@@ -59,7 +59,7 @@ returns c =
     let t = tabled k in
     let p = (start t).pre in
     rw c.accepted.ensures
-    (list_done _ p.answered _ _ p.accepted t.tables-of.ensures k.pack.ensures (ap (λ (n : ℕ). n + n) p.many) w.room_for.ensures c.before.before.before.begin.ensures)
+    (list_done _ p.answered _ _ p.accepted t.tables_of.ensures k.pack.ensures (ap (λ (n : ℕ). n + n) p.many) w.room_for-room.ensures c.begin.ensures)
 
 pub list_checked_spec : {M : Type 1} → statement M
 list_checked_spec =

@@ -4,43 +4,43 @@ use borrow.Author.Rules.{rules}
 use Rattle.makings.proofs.begins.Statement.{statement}
 use Rattle.makings.proofs.begins.Tie as tie
 
-abbrev invariant_loop : tie.invariant_loop
+abbrev invariant_loop : tie.invariant-loop-i
 invariant_loop list wanted i₀ i = i ≤ length wanted
 
-abbrev decreases_loop : tie.decreases_loop
+abbrev decreases_loop : tie.decreases-loop-i
 decreases_loop list wanted i₀ i = length wanted - i
 
-loop_holds : tie.Need-loop-init invariant_loop decreases_loop
+loop_holds : tie.Need-loop-i-init invariant_loop decreases_loop
 loop_holds c = search rules
 
-returns : tie.Need-returns invariant_loop decreases_loop
+returns : tie.Need-returns-then-list-i invariant_loop decreases_loop
 returns c = search rules
 
-mul_if2 : tie.Need-overflow-mul-if2 invariant_loop decreases_loop
+mul_if2 : tie.Need-offset_bounds-list-i invariant_loop decreases_loop
 mul_if2 c = search rules
 
-shared_slice_read_if2 : tie.Need-shared-slice-read-if2 invariant_loop decreases_loop
+shared_slice_read_if2 : tie.Need-bounds-list-i invariant_loop decreases_loop
 shared_slice_read_if2 c = search rules
 
-mul_if2_2 : tie.Need-overflow-mul-if2-2 invariant_loop decreases_loop
+mul_if2_2 : tie.Need-offset_bounds-wanted-i invariant_loop decreases_loop
 mul_if2_2 c = search rules
 
-shared_slice_read_if2_2 : tie.Need-shared-slice-read-if2-2 invariant_loop decreases_loop
+shared_slice_read_if2_2 : tie.Need-bounds-wanted-i invariant_loop decreases_loop
 shared_slice_read_if2_2 c = search rules
 
-returns_2 : tie.Need-returns-2 invariant_loop decreases_loop
+returns_2 : tie.Need-returns-then-list-i-2 invariant_loop decreases_loop
 returns_2 c = search rules
 
-add_i : tie.Need-overflow-add-i invariant_loop decreases_loop
+add_i : tie.Need-overflow_add-i invariant_loop decreases_loop
 add_i c = search rules
 
-loop_less : tie.Need-loop-smaller invariant_loop decreases_loop
+loop_less : tie.Need-loop-i-smaller invariant_loop decreases_loop
 loop_less c = search rules
 
-loop_again : tie.Need-loop-preserved invariant_loop decreases_loop
+loop_again : tie.Need-loop-i-preserved invariant_loop decreases_loop
 loop_again c = search rules
 
-returns_3 : tie.Need-returns-3 invariant_loop decreases_loop
+returns_3 : tie.Need-returns invariant_loop decreases_loop
 returns_3 c = search rules
 
 pub begins_spec : {M : Type 1} → statement M

@@ -4,51 +4,51 @@ use Rattle.memory.proofs.keep.Statement.{statement}
 use Rattle.memory.proofs.keep.Tie as tie
 
 -- src/lib.rt:71:14
-mul_at : tie.Need-overflow-mul-at
+mul_at : tie.Need-overflow_mul-at
 mul_at c = search rules
 
 -- src/lib.rt:72:5
-mul_memory : tie.Need-overflow-mul-memory
+mul_memory : tie.Need-offset_bounds-memory-at
 mul_memory c = search rules
 
 -- src/lib.rt:72:5
-element_write_memory : tie.Need-element-write-memory
+element_write_memory : tie.Need-bounds-memory-at
 element_write_memory c = search rules
 
 -- src/lib.rt:73:12
-add_memory : tie.Need-overflow-add-memory
+add_memory : tie.Need-overflow_add-memory
 add_memory c = search rules
 
 -- src/lib.rt:73:5
-mul_memory_2 : tie.Need-overflow-mul-memory-2
+mul_memory_2 : tie.Need-offset_bounds-memory-at-2
 mul_memory_2 c = search rules
 
 -- src/lib.rt:73:5
-element_write_memory_2 : tie.Need-element-write-memory-2
+element_write_memory_2 : tie.Need-bounds-memory-at-2
 element_write_memory_2 c = search rules
 
 -- src/lib.rt:74:12
-add_memory_2 : tie.Need-overflow-add-memory-2
+add_memory_2 : tie.Need-overflow_add-memory-2
 add_memory_2 c = search rules
 
 -- src/lib.rt:74:5
-mul_memory_3 : tie.Need-overflow-mul-memory-3
+mul_memory_3 : tie.Need-offset_bounds-memory-at-3
 mul_memory_3 c = search rules
 
 -- src/lib.rt:74:5
-element_write_memory_3 : tie.Need-element-write-memory-3
+element_write_memory_3 : tie.Need-bounds-memory-at-3
 element_write_memory_3 c = search rules
 
 -- src/lib.rt:75:12
-add_memory_3 : tie.Need-overflow-add-memory-3
+add_memory_3 : tie.Need-overflow_add-memory-3
 add_memory_3 c = search rules
 
 -- src/lib.rt:75:5
-mul_memory_4 : tie.Need-overflow-mul-memory-4
+mul_memory_4 : tie.Need-offset_bounds-memory-at-4
 mul_memory_4 c = search rules
 
 -- src/lib.rt:75:5
-element_write_memory_4 : tie.Need-element-write-memory-4
+element_write_memory_4 : tie.Need-bounds-memory-at-4
 element_write_memory_4 c = search rules
 
 -- src/lib.rt:76:22
@@ -56,15 +56,15 @@ number_requires : tie.Need-number-requires
 number_requires c κs = search rules
 
 -- src/lib.rt:76:12
-add_memory_4 : tie.Need-overflow-add-memory-4
+add_memory_4 : tie.Need-overflow_add-memory-4
 add_memory_4 c = search rules
 
 -- src/lib.rt:76:5
-mul_memory_5 : tie.Need-overflow-mul-memory-5
+mul_memory_5 : tie.Need-offset_bounds-memory-at-5
 mul_memory_5 c = search rules
 
 -- src/lib.rt:76:5
-element_write_memory_5 : tie.Need-element-write-memory-5
+element_write_memory_5 : tie.Need-bounds-memory-at-5
 element_write_memory_5 c = search rules
 
 -- src/lib.rt:59:1

@@ -11,30 +11,30 @@ use borrow.Author.Rules.{rules}
 use Rattle.page.proofs.reach.Statement.{statement}
 use Rattle.page.proofs.reach.Tie as tie
 
-abbrev invariant_loop : tie.invariant_loop
+abbrev invariant_loop : tie.invariant-loop-o
 invariant_loop label size pattern tables list record₀ at₀ levels₀ memory₀ path₀ depth₀ o₀ «record» at levels memory path depth o =
     OnTheWay label size pattern tables list «record» at levels o depth × Both label size tables (root_of pattern) memory path
 
-abbrev decreases_loop : tie.decreases_loop
+abbrev decreases_loop : tie.decreases-loop-o
 decreases_loop label size pattern tables list record₀ at₀ levels₀ memory₀ path₀ depth₀ o₀ «record» at levels memory path depth o = 256 - depth
 
 -- from a turn's head to the function's start
-abbrev begun : tie.At-loop invariant_loop decreases_loop → tie.Start invariant_loop decreases_loop
+abbrev begun : tie.At-loop-o invariant_loop decreases_loop → tie.Start invariant_loop decreases_loop
 begun h = h.before.before.before.before.before.before.before
 
-begin_requires : tie.Need-begin-requires invariant_loop decreases_loop
-begin_requires c κs = reach_begins c.before.before.before.before.before.requires
+begin_requires : tie.Need-begin-o-requires invariant_loop decreases_loop
+begin_requires c κs = reach_begins c.requires
 
-loop_holds : tie.Need-loop-init invariant_loop decreases_loop
-loop_holds c = (reach_first c.before.before.before.before.before.before.requires c.begin.ensures, record { sequences = blank _ _ _ _; contexts = paths.blank _ _ _ _ })
+loop_holds : tie.Need-loop-o-init invariant_loop decreases_loop
+loop_holds c = (reach_first c.requires c.begin-o.ensures, record { sequences = blank _ _ _ _; contexts = paths.blank _ _ _ _ })
 
-enum_told : tie.Need-enum-told invariant_loop decreases_loop
+enum_told : tie.Need-enum_told-1 invariant_loop decreases_loop
 enum_told c = search rules
 
-returns : tie.Need-returns invariant_loop decreases_loop
-returns c = reach_fails c.before.before.loop.invariant.0 c.enum_told.given.1
+returns : tie.Need-returns-in-Fail invariant_loop decreases_loop
+returns c = reach_fails c.loop-o.invariant.0 c.enum_told-1.given.1
 
-enum_told_2 : tie.Need-enum-told-2 invariant_loop decreases_loop
+enum_told_2 : tie.Need-enum_told-in-Ok invariant_loop decreases_loop
 enum_told_2 c = search rules
 
 equal_requires : tie.Need-equal-requires invariant_loop decreases_loop
@@ -42,13 +42,13 @@ equal_requires c κs =
     let h = c.before.before.before in
     (h.loop.invariant.0.record_long, reach_short h.loop.invariant.0 (begun h).requires.some.5)
 
-returns_2 : tie.Need-returns-2 invariant_loop decreases_loop
-returns_2 c = reach_found c.before.before.before.before.before.loop.invariant.0 c.before.before.before.enum-told2.given.1 c.before.equal.ensures c.if1.true
+returns_2 : tie.Need-returns-then-equal invariant_loop decreases_loop
+returns_2 c = reach_found c.before.before.before.before.before.loop.invariant.0 c.before.before.before.enum-told2.given.1 c.equal.ensures c.if-equal.true
 
-returns_3 : tie.Need-returns-3 invariant_loop decreases_loop
-returns_3 c = reach_other c.before.before.before.before.before.loop.invariant.0 c.before.before.before.enum-told2.given.1 c.before.equal.ensures c.if1.false
+returns_3 : tie.Need-returns-in-Ok invariant_loop decreases_loop
+returns_3 c = reach_other c.before.before.before.before.before.loop.invariant.0 c.before.before.before.enum-told2.given.1 c.equal.ensures c.if-equal.false
 
-enum_known_o : tie.Need-enum-known-o invariant_loop decreases_loop
+enum_known_o : tie.Need-enum_known-o invariant_loop decreases_loop
 enum_known_o c = search rules
 
 choose_requires : tie.Need-choose-requires invariant_loop decreases_loop
@@ -56,43 +56,43 @@ choose_requires c κs =
     let h = c.before.before.before.before.before in
     reach_chooses h.loop.invariant.0 c.before.before.before.o.given.1 (begun h).requires.some.5
 
-enum_told_3 : tie.Need-enum-told-3 invariant_loop decreases_loop
+enum_told_3 : tie.Need-enum_told-in-Beyond invariant_loop decreases_loop
 enum_told_3 c = search rules
 
-returns_4 : tie.Need-returns-4 invariant_loop decreases_loop
+returns_4 : tie.Need-returns-in-Beyond invariant_loop decreases_loop
 returns_4 c =
     let h = c.before.before.before.before.before.before.before.before in
-    reach_beyond h.loop.invariant.0 c.before.before.before.before.before.before.o.given.1 c.before.before.choose.ensures c.enum-told3.given.1
+    reach_beyond h.loop.invariant.0 c.before.before.before.before.before.before.o.given.1 c.choose.ensures c.enum_told-in-Beyond-1.given.1
 
-enum_known_t : tie.Need-enum-known-t invariant_loop decreases_loop
+enum_known_t : tie.Need-enum_known-t invariant_loop decreases_loop
 enum_known_t c = search rules
 
-attempt_requires : tie.Need-attempt-requires invariant_loop decreases_loop
+attempt_requires : tie.Need-attempt-o-requires invariant_loop decreases_loop
 attempt_requires c κs =
     let h = c.before.before.before.before.before.before.before.before.before.before.before.before.before in
     let k = c.before.before.before.before.before in (
-      reach_tries h.loop.invariant.0 k.before.before.before.before.before.before.o.given.1 (rw k.t.given.1 at k.before.before.choose.ensures) (begun h).requires.some.5,
+      reach_tries h.loop.invariant.0 k.before.before.before.before.before.before.o.given.1 (rw k.t-1.given.1 at k.choose.ensures) (begun h).requires.some.5,
       h.loop.invariant.1,
     )
 
-add_depth : tie.Need-overflow-add-depth invariant_loop decreases_loop
+add_depth : tie.Need-overflow_add-depth invariant_loop decreases_loop
 add_depth c =
     let h = c.before.before.before.before.before.before.before.before.before.before.before.before.before.before in
     omega (arith, reach_deep h.loop.invariant.0 c.before.before.before.before.before.before.before.before.before.before.before.before.o.given.1 (begun h).requires.some.5)
 
-loop_less : tie.Need-loop-smaller invariant_loop decreases_loop
+loop_less : tie.Need-loop-o-smaller invariant_loop decreases_loop
 loop_less c =
     let h = c.before.before.before.before.before.before.before.before.before.before.before.before.before.before in
     omega (arith, reach_deep h.loop.invariant.0 c.before.before.before.before.before.before.before.before.before.before.before.before.o.given.1 (begun h).requires.some.5)
 
-loop_again : tie.Need-loop-preserved invariant_loop decreases_loop
+loop_again : tie.Need-loop-o-preserved invariant_loop decreases_loop
 loop_again c =
     let h = c.before.before.before.before.before.before.before.before.before.before.before.before.before.before in
     let k = c.before.before.before.before.before.before in
     let o = k.before.before.before.before.before.before.o.given.1 in
-    let post = rw k.t.given.1 at k.before.before.choose.ensures in
+    let post = rw k.t-1.given.1 at k.choose.ensures in
     let pre = reach_tries h.loop.invariant.0 o post (begun h).requires.some.5 in
-    (reach_again h.loop.invariant.0 o post (try_long pre c.attempt.ensures.0 ∙ h.loop.invariant.0.record_long) c.attempt.ensures.0, c.attempt.ensures.1)
+    (reach_again h.loop.invariant.0 o post (try_long pre c.attempt-o.ensures.0 ∙ h.loop.invariant.0.record_long) c.attempt-o.ensures.0, c.attempt-o.ensures.1)
 
 pub reach_spec : {M : Type 1} → statement M
 reach_spec =

@@ -7,7 +7,7 @@ use borrow.Author.Rules.{rules}
 use Rattle.panel.proofs.panel.Statement.{statement}
 use Rattle.panel.proofs.panel.Tie as tie
 
-abbrev invariant_loop : tie.invariant_loop
+abbrev invariant_loop : tie.invariant-loop-i
 invariant_loop label size kind name pattern_size expression_kind expression_name expression_size constraint pattern_length expression_length constraint_length budget share out₀ answer₀ problems tree from₀ i₀ out answer from i =
     Going (record {
       label = label;
@@ -26,74 +26,74 @@ invariant_loop label size kind name pattern_size expression_kind expression_name
       share = share;
     }) tree out₀ answer₀ i from out answer
 
-abbrev decreases_loop : tie.decreases_loop
+abbrev decreases_loop : tie.decreases-loop-i
 decreases_loop label size kind name pattern_size expression_kind expression_name expression_size constraint pattern_length expression_length constraint_length budget share out₀ answer₀ problems tree from₀ i₀ out answer from i =
     length share - i
 
 agree_requires : tie.Need-agree-requires invariant_loop decreases_loop
 agree_requires c κs = search rules
 
-returns : tie.Need-returns invariant_loop decreases_loop
-returns c = lists_disagree _ _ _ c.before.agree.ensures (not-true _ c.if1.true)
+returns : tie.Need-returns-then-not-agree invariant_loop decreases_loop
+returns c = lists_disagree _ _ _ c.agree.ensures (not-true _ c.if-not-agree.true)
 
-whole_requires : tie.Need-whole-requires invariant_loop decreases_loop
-whole_requires c κs = few_lengths c.before.agree.ensures (not-false _ c.if1.false)
+whole_requires : tie.Need-whole-all-requires invariant_loop decreases_loop
+whole_requires c κs = few_lengths c.agree.ensures (not-false _ c.if-not-agree.false)
 
 fill_requires : tie.Need-fill-requires invariant_loop decreases_loop
 fill_requires c κs = search rules
 
-returns_2 : tie.Need-returns-2 invariant_loop decreases_loop
-returns_2 c = do_not_add_up _ _ _ c.before.before.whole.ensures c.before.fill.ensures (not-true _ c.if2.true)
+returns_2 : tie.Need-returns-then-not-fill invariant_loop decreases_loop
+returns_2 c = do_not_add_up _ _ _ c.whole-all.ensures c.fill.ensures (not-true _ c.if-not-fill.true)
 
-good_requires : tie.Need-good-requires invariant_loop decreases_loop
+good_requires : tie.Need-good-tree-requires invariant_loop decreases_loop
 good_requires c κs = search rules
 
-loop_holds : tie.Need-loop-init invariant_loop decreases_loop
+loop_holds : tie.Need-loop-i-init invariant_loop decreases_loop
 loop_holds c =
     let f = c.before.before in
     let o = f.before.before in
-    begins _ _ _ o.before.agree.ensures (not-false _ o.if1.false) f.before.whole.ensures f.fill.ensures (not-false _ c.before.if2.false) c.good2.ensures
+    begins _ _ _ o.agree.ensures (not-false _ o.if-not-agree.false) f.whole-all.ensures f.fill.ensures (not-false _ c.if-not-fill.false) c.good2.ensures
 
-with_next_requires : tie.Need-with-next-requires invariant_loop decreases_loop
-with_next_requires c κs = next_asked c.before.loop.invariant (omega arith)
+with_next_requires : tie.Need-with_next-to-requires invariant_loop decreases_loop
+with_next_requires c κs = next_asked c.loop-i.invariant (omega arith)
 
-mul_list : tie.Need-overflow-mul-list invariant_loop decreases_loop
+mul_list : tie.Need-offset_bounds-budget-i invariant_loop decreases_loop
 mul_list c = search rules
 
-shared_slice_read_list : tie.Need-shared-slice-read-list invariant_loop decreases_loop
-shared_slice_read_list c = budget_there c.before.before.before.loop.invariant (omega arith)
+shared_slice_read_list : tie.Need-bounds-budget-i invariant_loop decreases_loop
+shared_slice_read_list c = budget_there c.loop-i.invariant (omega arith)
 
-list_requires : tie.Need-list-requires invariant_loop decreases_loop
+list_requires : tie.Need-list-listing-requires invariant_loop decreases_loop
 list_requires c κs =
     let n = c.before.before in
-    one_asked n.before.before.loop.invariant (omega arith) n.with-next.ensures
+    one_asked n.loop-i.invariant (omega arith) n.with_next-to.ensures
 
-mul_put : tie.Need-overflow-mul-put invariant_loop decreases_loop
+mul_put : tie.Need-overflow_mul-i invariant_loop decreases_loop
 mul_put c = search rules
 
 put_requires : tie.Need-put-requires invariant_loop decreases_loop
-put_requires c κs = answer_there c.before.before.before.before.before.before.before.before.loop.invariant (omega arith)
+put_requires c κs = answer_there c.loop-i.invariant (omega arith)
 
-add_i : tie.Need-overflow-add-i invariant_loop decreases_loop
+add_i : tie.Need-overflow_add-i invariant_loop decreases_loop
 add_i c = search rules
 
-loop_less : tie.Need-loop-smaller invariant_loop decreases_loop
+loop_less : tie.Need-loop-i-smaller invariant_loop decreases_loop
 loop_less c = search rules
 
-loop_again : tie.Need-loop-preserved invariant_loop decreases_loop
+loop_again : tie.Need-loop-i-preserved invariant_loop decreases_loop
 loop_again c =
     let o = c.before.before.before.before.before.before in
     let n = o.before.before.before in
-    rw c.before.before.put.ensures (again n.before.before.loop.invariant (omega arith) n.with-next.ensures o.list.ensures)
+    rw c.put.ensures (again n.loop-i.invariant (omega arith) n.with_next-to.ensures o.list-listing.ensures)
 
-same_length : tie.Need-same-length invariant_loop decreases_loop
+same_length : tie.Need-shape_of-out invariant_loop decreases_loop
 same_length c = search rules
 
-same_length_2 : tie.Need-same-length-2 invariant_loop decreases_loop
+same_length_2 : tie.Need-shape_of-answer invariant_loop decreases_loop
 same_length_2 c = search rules
 
-returns_3 : tie.Need-returns-3 invariant_loop decreases_loop
-returns_3 c = panel_ends c.before.loop.invariant (omega arith)
+returns_3 : tie.Need-returns invariant_loop decreases_loop
+returns_3 c = panel_ends c.loop-i.invariant (omega arith)
 
 pub panel_spec : {M : Type 1} → statement M
 panel_spec =

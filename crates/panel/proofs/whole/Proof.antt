@@ -16,7 +16,7 @@ total_requires_4 : tie.Need-total-requires-4
 total_requires_4 c κs = search rules
 
 returns : tie.Need-returns
-returns c = whole_is c.before.before.before.total.ensures c.before.before.total2.ensures c.before.total3.ensures c.total4.ensures
+returns c = whole_is c.total.ensures c.total-2.ensures c.total-3.ensures c.total-4.ensures
 
 pub whole_spec : {M : Type 1} → statement M
 whole_spec =

@@ -6,34 +6,34 @@ use Rattle.paths.proofs.Steps.{Looking, child_below, child_looks, child_rows, ch
 use Rattle.paths.proofs.child.Statement.{statement}
 use Rattle.paths.proofs.child.Tie as tie
 
-abbrev invariant_loop : tie.invariant_loop
+abbrev invariant_loop : tie.invariant-loop-e
 invariant_loop size row from b u₀ e₀ u e =
     Looking size row b u × (e ≡ u + get_or size u 0)
 
-abbrev decreases_loop : tie.decreases_loop
+abbrev decreases_loop : tie.decreases-loop-e
 decreases_loop size row from b u₀ e₀ u e =
     b - u
 
-nearer_requires : tie.Need-nearer-requires invariant_loop decreases_loop
-nearer_requires c κs = child_below c.before.requires
+nearer_requires : tie.Need-nearer-u-requires invariant_loop decreases_loop
+nearer_requires c κs = child_below c.requires
 
-next_requires : tie.Need-next-requires invariant_loop decreases_loop
-next_requires c κs = let l = child_looks c.before.before.requires c.nearer.ensures in (child_rows c.before.before.requires.below l.from l.low).0
+next_requires : tie.Need-next-e-requires invariant_loop decreases_loop
+next_requires c κs = let l = child_looks c.requires c.nearer-u.ensures in (child_rows c.requires.below l.from l.low).0
 
-loop_holds : tie.Need-loop-init invariant_loop decreases_loop
-loop_holds c = (child_looks c.before.before.before.requires c.before.nearer.ensures, c.next.ensures)
+loop_holds : tie.Need-loop-e-init invariant_loop decreases_loop
+loop_holds c = (child_looks c.requires c.nearer-u.ensures, c.next-e.ensures)
 
-next_requires_2 : tie.Need-next-requires-2 invariant_loop decreases_loop
-next_requires_2 c κs = let l = c.before.loop.invariant.0 in (child_rows c.before.before.before.before.before.requires.below (from_next l.from c.before.loop.invariant.1) c.loop-test.true).0
+next_requires_2 : tie.Need-next-e-requires-in-loop-e invariant_loop decreases_loop
+next_requires_2 c κs = let l = c.loop-e.invariant.0 in (child_rows c.requires.below (from_next l.from c.loop-e.invariant.1) c.loop-e-test.true).0
 
-loop_less : tie.Need-loop-smaller invariant_loop decreases_loop
-loop_less c = let l = c.before.before.loop.invariant.0 in omega (arith, child_rows c.before.before.before.before.before.before.requires.below l.from l.low, c.before.before.loop.invariant.1, c.before.loop-test.true)
+loop_less : tie.Need-loop-e-smaller invariant_loop decreases_loop
+loop_less c = let l = c.loop-e.invariant.0 in omega (arith, child_rows c.requires.below l.from l.low, c.loop-e.invariant.1, c.loop-e-test.true)
 
-loop_again : tie.Need-loop-preserved invariant_loop decreases_loop
-loop_again c = (record { from = from_next c.before.before.loop.invariant.0.from c.before.before.loop.invariant.1; low = c.before.loop-test.true }, c.next2.ensures)
+loop_again : tie.Need-loop-e-preserved invariant_loop decreases_loop
+loop_again c = (record { from = from_next c.loop-e.invariant.0.from c.loop-e.invariant.1; low = c.loop-e-test.true }, c.next-e-in-loop-e.ensures)
 
 returns : tie.Need-returns invariant_loop decreases_loop
-returns c = let l = c.before.loop.invariant.0 in child_found c.before.before.before.before.before.requires.below l.from l.low c.before.loop.invariant.1 c.loop-test.false
+returns c = let l = c.loop-e.invariant.0 in child_found c.requires.below l.from l.low c.loop-e.invariant.1 c.loop-e-test.false
 
 pub child_spec : {M : Type 1} → statement M
 child_spec =

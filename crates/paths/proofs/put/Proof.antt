@@ -3,58 +3,58 @@ use native.Mathlib.Omega.{arith}
 use Rattle.paths.proofs.put.Statement.{statement}
 use Rattle.paths.proofs.put.Tie as tie
 
-mul_path : tie.Need-overflow-mul-path
+mul_path : tie.Need-overflow_mul-path
 mul_path c = omega (arith, c.requires.0)
 
-add_path : tie.Need-overflow-add-path
+add_path : tie.Need-overflow_add-path
 add_path c = search rules
 
-mul_path_2 : tie.Need-overflow-mul-path-2
+mul_path_2 : tie.Need-offset_bounds-path-i
 mul_path_2 c = search rules
 
-element_write_path : tie.Need-element-write-path
+element_write_path : tie.Need-bounds-path-i
 element_write_path c = search rules
 
-mul_path_3 : tie.Need-overflow-mul-path-3
+mul_path_3 : tie.Need-overflow_mul-path-2
 mul_path_3 c = search rules
 
-add_path_2 : tie.Need-overflow-add-path-2
+add_path_2 : tie.Need-overflow_add-path-2
 add_path_2 c = search rules
 
-mul_path_4 : tie.Need-overflow-mul-path-4
+mul_path_4 : tie.Need-offset_bounds-path-i-2
 mul_path_4 c = search rules
 
-element_write_path_2 : tie.Need-element-write-path-2
+element_write_path_2 : tie.Need-bounds-path-i-2
 element_write_path_2 c = search rules
 
 number_requires : tie.Need-number-requires
 number_requires c κs = search rules
 
-mul_path_5 : tie.Need-overflow-mul-path-5
+mul_path_5 : tie.Need-overflow_mul-path-3
 mul_path_5 c = search rules
 
-add_path_3 : tie.Need-overflow-add-path-3
+add_path_3 : tie.Need-overflow_add-path-3
 add_path_3 c = search rules
 
-mul_path_6 : tie.Need-overflow-mul-path-6
+mul_path_6 : tie.Need-offset_bounds-path-i-3
 mul_path_6 c = search rules
 
-element_write_path_3 : tie.Need-element-write-path-3
+element_write_path_3 : tie.Need-bounds-path-i-3
 element_write_path_3 c = search rules
 
-add_path_4 : tie.Need-overflow-add-path-4
+add_path_4 : tie.Need-overflow_add-path-4
 add_path_4 c = search rules
 
-mul_path_7 : tie.Need-overflow-mul-path-7
+mul_path_7 : tie.Need-overflow_mul-path-4
 mul_path_7 c = search rules
 
-add_path_5 : tie.Need-overflow-add-path-5
+add_path_5 : tie.Need-overflow_add-path-5
 add_path_5 c = search rules
 
-mul_path_8 : tie.Need-overflow-mul-path-8
+mul_path_8 : tie.Need-offset_bounds-path-i-4
 mul_path_8 c = search rules
 
-element_write_path_4 : tie.Need-element-write-path-4
+element_write_path_4 : tie.Need-bounds-path-i-4
 element_write_path_4 c = search rules
 
 returns : tie.Need-returns

@@ -5,32 +5,32 @@ use borrow.Author.Rules.{rules}
 use Rattle.pattern.proofs.named.Statement.{statement}
 use Rattle.pattern.proofs.named.Tie as tie
 
-returns : tie.Need-returns
-returns c = small_symbol c.before.if1.true c.if2.true
+returns : tie.Need-returns-then-name-lt65536
+returns c = small_symbol c.if-kind-eq-SYMBOL.true c.if-name-lt65536.true
 
-returns_2 : tie.Need-returns-2
-returns_2 c = large_symbol c.before.if1.true c.if2.false
+returns_2 : tie.Need-returns-then-kind-eq-SYMBOL
+returns_2 c = large_symbol c.if-kind-eq-SYMBOL.true c.if-name-lt65536.false
 
-mul_if4 : tie.Need-overflow-mul-if4
+mul_if4 : tie.Need-offset_bounds-kinds-name
 mul_if4 c = search rules
 
-element_copy_out_if4 : tie.Need-element-copy-out-if4
+element_copy_out_if4 : tie.Need-bounds-kinds-name
 element_copy_out_if4 c = search rules
 
-returns_3 : tie.Need-returns-3
-returns_3 c = same_kind c.before.before.before.if1.false c.before.before.if3.true c.if4.true
+returns_3 : tie.Need-returns-then-kinds-name
+returns_3 c = same_kind c.if-kind-eq-SYMBOL.false c.if-name-variables.true c.if-kinds-name.true
 
-returns_4 : tie.Need-returns-4
-returns_4 c = other_kind c.before.before.before.if1.false c.before.before.if3.true c.if4.false
+returns_4 : tie.Need-returns-then-name-variables
+returns_4 c = other_kind c.if-kind-eq-SYMBOL.false c.if-name-variables.true c.if-kinds-name.false
 
-returns_5 : tie.Need-returns-5
-returns_5 c = next c.before.before.before.if1.false c.before.if5.true c.if6.true
+returns_5 : tie.Need-returns-then-variables-lt16
+returns_5 c = next c.if-kind-eq-SYMBOL.false c.if-name-variables-2.true c.if-variables-lt16.true
 
-returns_6 : tie.Need-returns-6
-returns_6 c = too_many c.before.before.before.if1.false c.before.if5.true c.if6.false
+returns_6 : tie.Need-returns-else-variables-lt16
+returns_6 c = too_many c.if-kind-eq-SYMBOL.false c.if-name-variables-2.true c.if-variables-lt16.false
 
-returns_7 : tie.Need-returns-7
-returns_7 c = left_out c.before.before.if1.false (omega (arith, c.if5.false))
+returns_7 : tie.Need-returns-else-name-variables-2
+returns_7 c = left_out c.if-kind-eq-SYMBOL.false (omega (arith, c.if-name-variables-2.false))
 
 pub named_spec : {M : Type 1} → statement M
 named_spec =

@@ -5,49 +5,49 @@ use borrow.Author.Rules.{rules}
 use Rattle.pattern.proofs.one_argument.Statement.{statement}
 use Rattle.pattern.proofs.one_argument.Tie as tie
 
-add_first : tie.Need-overflow-add-first
+add_first : tie.Need-overflow_add-first
 add_first c = search rules
 
-returns : tie.Need-returns
-returns c = let a = c.before.args in one_end a.kind.now a.size.now a.row (omega arith)
+returns : tie.Need-returns-then-first-kind
+returns c = let a = c.args in one_end a.kind.now a.size.now a.row (omega arith)
 
-mul_if2 : tie.Need-overflow-mul-if2
+mul_if2 : tie.Need-offset_bounds-kind-first
 mul_if2 c = search rules
 
-shared_slice_read_if2 : tie.Need-shared-slice-read-if2
+shared_slice_read_if2 : tie.Need-bounds-kind-first
 shared_slice_read_if2 c = search rules
 
-returns_2 : tie.Need-returns-2
-returns_2 c = let a = c.before.before.before.args in one_sequence a.kind.now a.size.now a.row c.if2.true
+returns_2 : tie.Need-returns-then-kind-first-eq-SEQUENCE
+returns_2 c = let a = c.args in one_sequence a.kind.now a.size.now a.row c.if-kind-first-eq-SEQUENCE.true
 
-mul_if3 : tie.Need-overflow-mul-if3
+mul_if3 : tie.Need-offset_bounds-size-row
 mul_if3 c = search rules
 
-shared_slice_read_if3 : tie.Need-shared-slice-read-if3
+shared_slice_read_if3 : tie.Need-bounds-size-row
 shared_slice_read_if3 c = search rules
 
-returns_3 : tie.Need-returns-3
-returns_3 c = let a = c.before.before.before.before.before.args in one_leaf a.kind.now a.size.now a.row c.if3.true
+returns_3 : tie.Need-returns-then-size-row-lt2
+returns_3 c = let a = c.args in one_leaf a.kind.now a.size.now a.row c.if-size-row-lt2.true
 
-mul_result : tie.Need-overflow-mul-result
+mul_result : tie.Need-offset_bounds-size-row-2
 mul_result c = search rules
 
-shared_slice_read_result : tie.Need-shared-slice-read-result
+shared_slice_read_result : tie.Need-bounds-size-row-2
 shared_slice_read_result c = search rules
 
-sub_result : tie.Need-overflow-sub-result
+sub_result : tie.Need-overflow_sub-result
 sub_result c = search rules
 
-mul_result_2 : tie.Need-overflow-mul-result-2
+mul_result_2 : tie.Need-offset_bounds-size-first
 mul_result_2 c = search rules
 
-shared_slice_read_result_2 : tie.Need-shared-slice-read-result-2
+shared_slice_read_result_2 : tie.Need-bounds-size-first
 shared_slice_read_result_2 c = search rules
 
-returns_4 : tie.Need-returns-4
+returns_4 : tie.Need-returns
 returns_4 c =
-    let a = c.before.before.before.before.before.before.before.args in
-    one_judged a.kind.now a.size.now a.row c.before.before.before.before.if2.false c.before.before.if3.false
+    let a = c.args in
+    one_judged a.kind.now a.size.now a.row c.if-kind-first-eq-SEQUENCE.false c.if-size-row-lt2.false
 
 pub one_argument_spec : {M : Type 1} → statement M
 one_argument_spec =

@@ -9,84 +9,84 @@ use Rattle.problem.proofs.check_judged.Tie as tie
 refused_requires : tie.Need-refused-requires
 refused_requires c κs = search rules
 
-returns : tie.Need-returns
-returns c = record { on = λ L S j. no_tree _ j (not-true _ c.before.if1.true) c.refused.ensures }
+returns : tie.Need-returns-then-not-tree
+returns c = record { on = λ L S j. no_tree _ j (not-true _ c.if-not-tree.true) c.refused.ensures }
 
-check_requires : tie.Need-check-requires
+check_requires : tie.Need-check-checked-requires
 check_requires c κs = search rules
 
-refused_requires_2 : tie.Need-refused-requires-2
+refused_requires_2 : tie.Need-refused-requires-then-not-checked
 refused_requires_2 c κs = search rules
 
-returns_2 : tie.Need-returns-2
+returns_2 : tie.Need-returns-then-not-checked
 returns_2 c =
     let first = c.before.before.before.before in
-    record { on = λ L S j. no_pattern _ j (not-false _ first.if1.false) c.before.before.before.check.ensures (not-true _ c.before.if2.true) c.refused2.ensures }
+    record { on = λ L S j. no_pattern _ j (not-false _ first.if-not-tree.false) c.check-checked.ensures (not-true _ c.if-not-checked.true) c.refused-then-not-checked.ensures }
 
 good_requires : tie.Need-good-requires
 good_requires c κs = search rules
 
-refused_requires_3 : tie.Need-refused-requires-3
+refused_requires_3 : tie.Need-refused-requires-then-not-good
 refused_requires_3 c κs = search rules
 
-returns_3 : tie.Need-returns-3
+returns_3 : tie.Need-returns-then-not-good
 returns_3 c =
     let second = c.before.before.before in
     let first = second.before.before.before in
     record {
-      on = λ L S j. no_table _ j (not-false _ first.if1.false) second.before.before.check.ensures (not-false _ second.if2.false) c.before.before.good2.ensures
-          (not-true _ c.before.if3.true) c.refused3.ensures;
+      on = λ L S j. no_table _ j (not-false _ first.if-not-tree.false) second.check-checked.ensures (not-false _ second.if-not-checked.false) c.before.before.good2.ensures
+          (not-true _ c.if-not-good.true) c.refused-then-not-good.ensures;
     }
 
 given_requires : tie.Need-given-requires
 given_requires c κs =
     let third = c.before.before in
     let second = third.before.before in
-    list_asked second.before.before.check.ensures third.before.good2.ensures (not-false _ second.if2.false) (not-false _ third.if3.false)
+    list_asked second.check-checked.ensures third.before.good2.ensures (not-false _ second.if-not-checked.false) (not-false _ third.if-not-good.false)
 
-refused_requires_4 : tie.Need-refused-requires-4
+refused_requires_4 : tie.Need-refused-requires-then-not-given
 refused_requires_4 c κs = search rules
 
-returns_4 : tie.Need-returns-4
+returns_4 : tie.Need-returns-then-not-given
 returns_4 c =
     let third = c.before.before.before.before.before in
     let second = third.before.before in
     let first = second.before.before.before in
     record {
-      on = λ L S j. no_constraints _ j (not-false _ first.if1.false) second.before.before.check.ensures (not-false _ second.if2.false) third.before.good2.ensures
-          (not-false _ third.if3.false) c.before.before.given.ensures (not-true _ c.before.if4.true) c.refused4.ensures;
+      on = λ L S j. no_constraints _ j (not-false _ first.if-not-tree.false) second.check-checked.ensures (not-false _ second.if-not-checked.false) third.before.good2.ensures
+          (not-false _ third.if-not-good.false) c.given.ensures (not-true _ c.if-not-given.true) c.refused-then-not-given.ensures;
     }
 
-all_named_requires : tie.Need-all-named-requires
+all_named_requires : tie.Need-all_named-requires
 all_named_requires c κs =
     let third = c.before.before.before.before in
     let second = third.before.before in
-    names_asked second.before.before.check.ensures (not-false _ second.if2.false) third.before.good2.ensures
-    (not-false _ third.if3.false) c.before.given.ensures (not-false _ c.if4.false)
+    names_asked second.check-checked.ensures (not-false _ second.if-not-checked.false) third.before.good2.ensures
+    (not-false _ third.if-not-good.false) c.given.ensures (not-false _ c.if-not-given.false)
 
-refused_requires_5 : tie.Need-refused-requires-5
+refused_requires_5 : tie.Need-refused-requires-then-not-all_named
 refused_requires_5 c κs = search rules
 
-returns_5 : tie.Need-returns-5
+returns_5 : tie.Need-returns-then-not-all_named
 returns_5 c =
     let fourth = c.before.before.before in
     let third = fourth.before.before.before.before in
     let second = third.before.before in
     let first = second.before.before.before in
     record {
-      on = λ L S j. forgotten _ j (not-false _ first.if1.false) second.before.before.check.ensures (not-false _ second.if2.false) third.before.good2.ensures
-          (not-false _ third.if3.false) fourth.before.given.ensures (not-false _ fourth.if4.false) c.before.before.all_named.ensures (not-true _ c.before.if5.true) c.refused5.ensures;
+      on = λ L S j. forgotten _ j (not-false _ first.if-not-tree.false) second.check-checked.ensures (not-false _ second.if-not-checked.false) third.before.good2.ensures
+          (not-false _ third.if-not-good.false) fourth.given.ensures (not-false _ fourth.if-not-given.false) c.all_named.ensures (not-true _ c.if-not-all_named.true) c.refused-then-not-all_named.ensures;
     }
 
-returns_6 : tie.Need-returns-6
+returns_6 : tie.Need-returns
 returns_6 c =
     let fourth = c.before.before in
     let third = fourth.before.before.before.before in
     let second = third.before.before in
     let first = second.before.before.before in
     record {
-      on = λ L S j. all_good _ j (not-false _ first.if1.false) second.before.before.check.ensures (not-false _ second.if2.false) third.before.good2.ensures
-          (not-false _ third.if3.false) fourth.before.given.ensures (not-false _ fourth.if4.false) c.before.all_named.ensures (not-false _ c.if5.false) refl;
+      on = λ L S j. all_good _ j (not-false _ first.if-not-tree.false) second.check-checked.ensures (not-false _ second.if-not-checked.false) third.before.good2.ensures
+          (not-false _ third.if-not-good.false) fourth.given.ensures (not-false _ fourth.if-not-given.false) c.all_named.ensures (not-false _ c.if-not-all_named.false) refl;
     }
 
 pub check_judged_spec : {M : Type 1} → statement M

@@ -7,22 +7,22 @@ use Rattle.record.proofs.good.Tie as tie
 good_requires : tie.Need-good-requires
 good_requires c κs = search rules
 
-returns : tie.Need-returns
-returns c = no_tree c.before.good2.ensures (not-true _ c.if1.true)
+returns : tie.Need-returns-then-not-good
+returns c = no_tree c.before.good2.ensures (not-true _ c.if-not-good.true)
 
-check_requires : tie.Need-check-requires
+check_requires : tie.Need-check-p-requires
 check_requires c κs = search rules
 
-returns_2 : tie.Need-returns-2
-returns_2 c = no_pattern c.before.before.check.ensures (not-true _ c.if2.true)
+returns_2 : tie.Need-returns-then-not-p
+returns_2 c = no_pattern c.check-p.ensures (not-true _ c.if-not-p.true)
 
 fits_requires : tie.Need-fits-requires
 fits_requires c κs =
-    record_pre (c.before.before.before.before.before.before.good2.ensures.0 (not-false _ c.before.before.before.before.before.if1.false)) c.before.before.before.before.check.ensures (not-false _ c.before.before.if2.false)
+    record_pre (c.before.before.before.before.before.before.good2.ensures.0 (not-false _ c.if-not-good.false)) c.check-p.ensures (not-false _ c.if-not-p.false)
 
-returns_3 : tie.Need-returns-3
+returns_3 : tie.Need-returns
 returns_3 c =
-    record_judged (c.before.before.before.before.before.before.before.good2.ensures.0 (not-false _ c.before.before.before.before.before.before.if1.false)) c.before.before.before.before.before.check.ensures (not-false _ c.before.before.before.if2.false) c.fits2.ensures
+    record_judged (c.before.before.before.before.before.before.before.good2.ensures.0 (not-false _ c.if-not-good.false)) c.check-p.ensures (not-false _ c.if-not-p.false) c.fits2.ensures
 
 pub good_spec : {M : Type 1} → statement M
 good_spec =

@@ -3,23 +3,23 @@ use Rattle.record.proofs.Each.{pair_sequence, pair_context, pair_row}
 use Rattle.record.proofs.pair_fits.Statement.{statement}
 use Rattle.record.proofs.pair_fits.Tie as tie
 
-sequence_fits_requires : tie.Need-sequence-fits-requires
+sequence_fits_requires : tie.Need-sequence_fits-requires
 sequence_fits_requires c κs = search rules
 
-returns : tie.Need-returns
-returns c = pair_sequence c.before.if1.true c.sequence_fits.ensures
+returns : tie.Need-returns-then-kind-eq-SEQUENCE
+returns c = pair_sequence c.if-kind-eq-SEQUENCE.true c.sequence_fits.ensures
 
-context_fits_requires : tie.Need-context-fits-requires
+context_fits_requires : tie.Need-context_fits-requires
 context_fits_requires c κs = search rules
 
-returns_2 : tie.Need-returns-2
-returns_2 c = pair_context c.before.if2.true c.context_fits.ensures
+returns_2 : tie.Need-returns-then-kind-eq-CONTEXT
+returns_2 c = pair_context c.if-kind-eq-CONTEXT.true c.context_fits.ensures
 
-row_fits_requires : tie.Need-row-fits-requires
+row_fits_requires : tie.Need-row_fits-requires
 row_fits_requires c κs = search rules
 
-returns_3 : tie.Need-returns-3
-returns_3 c = pair_row c.before.before.if1.false c.before.if2.false c.row-fits.ensures
+returns_3 : tie.Need-returns
+returns_3 c = pair_row c.if-kind-eq-SEQUENCE.false c.if-kind-eq-CONTEXT.false c.row_fits.ensures
 
 pub pair_fits_spec : {M : Type 1} → statement M
 pair_fits_spec =

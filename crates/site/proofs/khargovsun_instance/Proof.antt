@@ -7,13 +7,13 @@ use Rattle.site.proofs.khargovsun_instance.Tie as tie
 instance_requires : tie.Need-instance-requires
 instance_requires c κs = search rules
 
-of_instance_requires : tie.Need-of-instance-requires
-of_instance_requires c κs = omega (arith, rows_fit c.before.before.before.before.instance.ensures)
+of_instance_requires : tie.Need-of_instance-requires
+of_instance_requires c κs = omega (arith, rows_fit c.instance.ensures)
 
-same_length : tie.Need-same-length
+same_length : tie.Need-shape_of-out_label
 same_length c = search rules
 
-same_length_2 : tie.Need-same-length-2
+same_length_2 : tie.Need-shape_of-out_size
 same_length_2 c = search rules
 
 returns : tie.Need-returns

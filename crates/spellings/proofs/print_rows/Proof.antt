@@ -3,25 +3,25 @@ use borrow.Author.Rules.{rules}
 use Rattle.spellings.proofs.print_rows.Statement.{statement}
 use Rattle.spellings.proofs.print_rows.Tie as tie
 
-abbrev invariant_loop : tie.invariant_loop
+abbrev invariant_loop : tie.invariant-loop-row
 invariant_loop dictionary row₀ row = row ≤ 9
 
-abbrev decreases_loop : tie.decreases_loop
+abbrev decreases_loop : tie.decreases-loop-row
 decreases_loop dictionary row₀ row = 9 - row
 
-loop_holds : tie.Need-loop-init invariant_loop decreases_loop
+loop_holds : tie.Need-loop-row-init invariant_loop decreases_loop
 loop_holds c = search rules
 
-print_row_requires : tie.Need-print-row-requires invariant_loop decreases_loop
+print_row_requires : tie.Need-print_row-requires invariant_loop decreases_loop
 print_row_requires c κs = search rules
 
-add_row : tie.Need-overflow-add-row invariant_loop decreases_loop
+add_row : tie.Need-overflow_add-row invariant_loop decreases_loop
 add_row c = search rules
 
-loop_less : tie.Need-loop-smaller invariant_loop decreases_loop
+loop_less : tie.Need-loop-row-smaller invariant_loop decreases_loop
 loop_less c = search rules
 
-loop_again : tie.Need-loop-preserved invariant_loop decreases_loop
+loop_again : tie.Need-loop-row-preserved invariant_loop decreases_loop
 loop_again c = search rules
 
 returns : tie.Need-returns invariant_loop decreases_loop

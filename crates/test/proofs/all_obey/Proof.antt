@@ -5,47 +5,47 @@ use Rattle.test.proofs.Obeying.{Obeying, obeying_none, list_long, judge_asked, o
 use Rattle.test.proofs.all_obey.Statement.{statement}
 use Rattle.test.proofs.all_obey.Tie as tie
 
-abbrev invariant_loop : tie.invariant_loop
+abbrev invariant_loop : tie.invariant-loop-x
 invariant_loop label size tables constraint kinds variables «record» x₀ x = Obeying label size tables constraint kinds variables «record» x
 
-abbrev decreases_loop : tie.decreases_loop
+abbrev decreases_loop : tie.decreases-loop-x
 decreases_loop label size tables constraint kinds variables «record» x₀ x = variables - x
 
-loop_holds : tie.Need-loop-init invariant_loop decreases_loop
+loop_holds : tie.Need-loop-x-init invariant_loop decreases_loop
 loop_holds c = obeying_none _ _ _ _ _ _ _
 
-add_at : tie.Need-overflow-add-at invariant_loop decreases_loop
-add_at c = omega (arith, list_long _ _ _ _ _ _ _ c.before.before.before.before.before.before.requires)
+add_at : tie.Need-overflow_add-x invariant_loop decreases_loop
+add_at c = omega (arith, list_long _ _ _ _ _ _ _ c.requires)
 
-at_requires : tie.Need-at-requires invariant_loop decreases_loop
-at_requires c κs = omega (arith, list_long _ _ _ _ _ _ _ c.before.before.before.before.before.before.requires)
+at_requires : tie.Need-at-a-requires invariant_loop decreases_loop
+at_requires c κs = omega (arith, list_long _ _ _ _ _ _ _ c.requires)
 
-add_at_2 : tie.Need-overflow-add-at-2 invariant_loop decreases_loop
-add_at_2 c = omega (arith, list_long _ _ _ _ _ _ _ c.before.before.before.before.before.before.before.requires)
+add_at_2 : tie.Need-overflow_add-x-in-loop-x invariant_loop decreases_loop
+add_at_2 c = omega (arith, list_long _ _ _ _ _ _ _ c.requires)
 
-add_at_3 : tie.Need-overflow-add-at-3 invariant_loop decreases_loop
-add_at_3 c = omega (arith, list_long _ _ _ _ _ _ _ c.before.before.before.before.before.before.before.requires)
+add_at_3 : tie.Need-overflow_add-x-in-loop-x-2 invariant_loop decreases_loop
+add_at_3 c = omega (arith, list_long _ _ _ _ _ _ _ c.requires)
 
-at_requires_2 : tie.Need-at-requires-2 invariant_loop decreases_loop
-at_requires_2 c κs = omega (arith, list_long _ _ _ _ _ _ _ c.before.before.before.before.before.before.before.requires)
+at_requires_2 : tie.Need-at-b-requires invariant_loop decreases_loop
+at_requires_2 c κs = omega (arith, list_long _ _ _ _ _ _ _ c.requires)
 
 allowed_requires : tie.Need-allowed-requires invariant_loop decreases_loop
-allowed_requires c κs = judge_asked _ _ _ _ _ _ _ c.before.before.loop-test.true c.before.at.ensures.0 c.at2.ensures.0 c.before.before.before.before.before.before.before.before.requires
+allowed_requires c κs = judge_asked _ _ _ _ _ _ _ c.loop-x-test.true c.at-a.ensures.0 c.at-b.ensures.0 c.requires
 
-returns : tie.Need-returns invariant_loop decreases_loop
-returns c = obeying_not _ _ _ _ _ _ _ c.before.before.before.before.loop-test.true c.before.before.before.at.ensures.0 c.before.before.at2.ensures.0 c.before.allowed.ensures (not-true _ c.if1.true)
+returns : tie.Need-returns-then-not-allowed invariant_loop decreases_loop
+returns c = obeying_not _ _ _ _ _ _ _ c.loop-x-test.true c.at-a.ensures.0 c.at-b.ensures.0 c.allowed.ensures (not-true _ c.if-not-allowed.true)
 
-add_x : tie.Need-overflow-add-x invariant_loop decreases_loop
-add_x c = omega (arith, list_long _ _ _ _ _ _ _ c.before.before.before.before.before.before.before.before.before.before.requires)
+add_x : tie.Need-overflow_add-x-in-loop-x-3 invariant_loop decreases_loop
+add_x c = omega (arith, list_long _ _ _ _ _ _ _ c.requires)
 
-loop_less : tie.Need-loop-smaller invariant_loop decreases_loop
+loop_less : tie.Need-loop-x-smaller invariant_loop decreases_loop
 loop_less c = omega arith
 
-loop_again : tie.Need-loop-preserved invariant_loop decreases_loop
-loop_again c = obeying_more _ _ _ _ _ _ _ c.before.before.before.before.loop-test.true c.before.before.before.at.ensures.0 c.before.before.at2.ensures.0 c.before.before.before.before.before.loop.invariant c.before.allowed.ensures (not-false _ c.if1.false)
+loop_again : tie.Need-loop-x-preserved invariant_loop decreases_loop
+loop_again c = obeying_more _ _ _ _ _ _ _ c.loop-x-test.true c.at-a.ensures.0 c.at-b.ensures.0 c.loop-x.invariant c.allowed.ensures (not-false _ c.if-not-allowed.false)
 
-returns_2 : tie.Need-returns-2 invariant_loop decreases_loop
-returns_2 c = obeying_all _ _ _ _ _ _ _ c.before.loop.invariant c.loop-test.false
+returns_2 : tie.Need-returns invariant_loop decreases_loop
+returns_2 c = obeying_all _ _ _ _ _ _ _ c.loop-x.invariant c.loop-x-test.false
 
 pub all_obey_spec : {M : Type 1} → statement M
 all_obey_spec =

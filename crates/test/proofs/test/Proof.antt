@@ -21,47 +21,47 @@ lists s =
     }
 
 -- the lists are accepted, and the record fits
-fitted : (c : tie.Else2) →
+fitted : (c : tie.Else-not-fits) →
     let k = c.before.before.before.before.before in
     let s = k.before.before.before.before.before.before.before.before.before.before.before in
-    Fitted (lists s) k.check.result s.args.«record».now
+    Fitted (lists s) k.check-p.result s.args.«record».now
 fitted c =
     let z = c.before.before.before.before in
     let f = c.before.fits2 in
-    record { answered = z.before.check.ensures; passed = z.if1.false; fits = rw (not-false f.result c.if2.false) at f.ensures }
+    record { answered = z.check-p.ensures; passed = z.if-code-ne0.false; fits = rw (not-false f.result c.if-not-fits.false) at f.ensures }
 
-check_requires : tie.Need-check-requires
+check_requires : tie.Need-check-p-requires
 check_requires c κs = search rules
 
-returns : tie.Need-returns
-returns c = test_refused _ c.before.check.ensures _ c.if1.true
+returns : tie.Need-returns-then-code-ne0
+returns c = test_refused _ c.check-p.ensures _ c.if-code-ne0.true
 
 fits_requires : tie.Need-fits-requires
-fits_requires c κs = record_asked _ c.before.before.before.check.ensures c.before.before.if1.false
+fits_requires c κs = record_asked _ c.check-p.ensures c.if-code-ne0.false
 
-returns_2 : tie.Need-returns-2
+returns_2 : tie.Need-returns-then-not-fits
 returns_2 c =
     let z = c.before.before.before.before in
-    test_bad_record _ z.before.check.ensures z.if1.false _ c.before.fits2.ensures (not-true _ c.if2.true)
+    test_bad_record _ z.check-p.ensures z.if-code-ne0.false _ c.before.fits2.ensures (not-true _ c.if-not-fits.true)
 
 placed_requires : tie.Need-placed-requires
 placed_requires c κs = placed_asked (fitted c)
 
-returns_3 : tie.Need-returns-3
-returns_3 c = test_elsewhere (fitted c.before.before) c.before.placed.ensures (not-true _ c.if3.true)
+returns_3 : tie.Need-returns-then-not-placed
+returns_3 c = test_elsewhere (fitted c.before.before) c.placed.ensures (not-true _ c.if-not-placed.true)
 
 obeyed_requires : tie.Need-obeyed-requires
 obeyed_requires c κs = obeyed_asked (fitted c.before.before.before)
 
-returns_4 : tie.Need-returns-4
+returns_4 : tie.Need-returns-then-obeyed
 returns_4 c =
     let p = c.before.before.before.before in
-    test_yes (fitted p.before) p.placed.ensures (not-false _ c.before.before.before.if3.false) c.before.obeyed.ensures c.if4.true
+    test_yes (fitted p.before) p.placed.ensures (not-false _ c.if-not-placed.false) c.obeyed.ensures c.if-obeyed.true
 
-returns_5 : tie.Need-returns-5
+returns_5 : tie.Need-returns
 returns_5 c =
     let p = c.before.before.before.before in
-    test_no (fitted p.before) p.placed.ensures (not-false _ c.before.before.before.if3.false) c.before.obeyed.ensures c.if4.false
+    test_no (fitted p.before) p.placed.ensures (not-false _ c.if-not-placed.false) c.obeyed.ensures c.if-obeyed.false
 
 pub test_spec : {M : Type 1} → statement M
 test_spec =

@@ -8,37 +8,37 @@ use borrow.Author.Rules.{rules}
 use Rattle.tokens.proofs.blank.Statement.{statement}
 use Rattle.tokens.proofs.blank.Tie as tie
 
-abbrev invariant_loop : tie.invariant_loop
+abbrev invariant_loop : tie.invariant-loop-k
 invariant_loop document i all₀ k₀ all k = (k ≤ 16) × (all ≡ true → (j : ℕ) → j < k → white_at document (i + j) ≡ true)
 
-abbrev decreases_loop : tie.decreases_loop
+abbrev decreases_loop : tie.decreases-loop-k
 decreases_loop document i all₀ k₀ all k = 16 - k
 
-loop_holds : tie.Need-loop-init invariant_loop decreases_loop
+loop_holds : tie.Need-loop-k-init invariant_loop decreases_loop
 loop_holds c = (omega arith, λ t j h. absurd (omega (arith, h)))
 
-add_is_white : tie.Need-overflow-add-is-white invariant_loop decreases_loop
+add_is_white : tie.Need-overflow_add-i invariant_loop decreases_loop
 add_is_white c = search rules
 
-shared_slice_read_is_white : tie.Need-shared-slice-read-is-white invariant_loop decreases_loop
+shared_slice_read_is_white : tie.Need-bounds-document-i invariant_loop decreases_loop
 shared_slice_read_is_white c = search rules
 
-is_white_requires : tie.Need-is-white-requires invariant_loop decreases_loop
+is_white_requires : tie.Need-is_white-all-requires invariant_loop decreases_loop
 is_white_requires c κs = search rules
 
-add_k : tie.Need-overflow-add-k invariant_loop decreases_loop
+add_k : tie.Need-overflow_add-k invariant_loop decreases_loop
 add_k c = search rules
 
-loop_less : tie.Need-loop-smaller invariant_loop decreases_loop
+loop_less : tie.Need-loop-k-smaller invariant_loop decreases_loop
 loop_less c = search rules
 
-loop_again : tie.Need-loop-preserved invariant_loop decreases_loop
+loop_again : tie.Need-loop-k-preserved invariant_loop decreases_loop
 loop_again c =
     let c₃ = c.before.before.before in
-    (omega arith, all_more (white_at c₃.before.before.args.document.now) c₃.before.before.args.i c₃.loop.k c₃.loop.all c.is_white.result c₃.loop.invariant.1 c.is_white.ensures)
+    (omega arith, all_more (white_at c₃.args.document.now) c₃.args.i c₃.loop-k.k c₃.loop-k.all c.is_white-all.result c₃.loop-k.invariant.1 c.is_white-all.ensures)
 
 returns : tie.Need-returns invariant_loop decreases_loop
-returns c = λ t k h. c.before.loop.invariant.1 t k (omega (arith, h, c.loop-test.false))
+returns c = λ t k h. c.loop-k.invariant.1 t k (omega (arith, h, c.loop-k-test.false))
 
 pub blank_spec : {M : Type 1} → statement M
 blank_spec =

@@ -5,35 +5,35 @@ use borrow.Author.Rules.{rules}
 use Rattle.tokens.proofs.bracketed.Statement.{statement}
 use Rattle.tokens.proofs.bracketed.Tie as tie
 
-sub_if1 : tie.Need-overflow-sub-if1
+sub_if1 : tie.Need-overflow_sub-k
 sub_if1 c = search rules
 
-returns : tie.Need-returns
-returns c = sym (brackets_few _ _ _ c.if1.true)
+returns : tie.Need-returns-then-k-start-lt2
+returns c = sym (brackets_few _ _ _ c.if-k-start-lt2.true)
 
-sub_if2 : tie.Need-overflow-sub-if2
+sub_if2 : tie.Need-overflow_sub-k-2
 sub_if2 c = search rules
 
-shared_slice_read_if2 : tie.Need-shared-slice-read-if2
+shared_slice_read_if2 : tie.Need-bounds-document-k
 shared_slice_read_if2 c = search rules
 
-sub_result : tie.Need-overflow-sub-result
+sub_result : tie.Need-overflow_sub-result
 sub_result c = search rules
 
-shared_slice_read_result : tie.Need-shared-slice-read-result
+shared_slice_read_result : tie.Need-bounds-document-k-then-document-k-eq93
 shared_slice_read_result c = search rules
 
-returns_2 : tie.Need-returns-2
+returns_2 : tie.Need-returns-then-document-k-eq93
 returns_2 c =
     let c₃ = c.before.before.before in
     let c₄ = c₃.before in
-    sym (brackets_two c₄.args.document.now c₄.args.start c₄.args.k c₄.requires.0 c₃.if1.false ∙ simp (eq-eqb _ _ c.before.if2.true))
+    sym (brackets_two c₄.args.document.now c₄.args.start c₄.args.k c₄.requires.0 c₃.if-k-start-lt2.false ∙ simp (eq-eqb _ _ c.if-document-k-eq93.true))
 
-returns_3 : tie.Need-returns-3
+returns_3 : tie.Need-returns
 returns_3 c =
     let c₂ = c.before.before in
     let c₃ = c₂.before in
-    sym (brackets_two c₃.args.document.now c₃.args.start c₃.args.k c₃.requires.0 c₂.if1.false ∙ simp (ne_eqb _ _ c.if2.false))
+    sym (brackets_two c₃.args.document.now c₃.args.start c₃.args.k c₃.requires.0 c₂.if-k-start-lt2.false ∙ simp (ne_eqb _ _ c.if-document-k-eq93.false))
 
 pub bracketed_spec : {M : Type 1} → statement M
 bracketed_spec =

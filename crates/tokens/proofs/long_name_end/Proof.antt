@@ -7,115 +7,115 @@ use borrow.Author.Rules.{rules}
 use Rattle.tokens.proofs.long_name_end.Statement.{statement}
 use Rattle.tokens.proofs.long_name_end.Tie as tie
 
-abbrev invariant_loop : tie.invariant_loop
+abbrev invariant_loop : tie.invariant-loop-i
 invariant_loop document class from i₀ i = Passed (name_at document) document from i
 
-abbrev decreases_loop : tie.decreases_loop
+abbrev decreases_loop : tie.decreases-loop-i
 decreases_loop document class from i₀ i = length document - i
 
 -- THE PLACES: back from behind each byte of a turn to the byte before it, and from the first to the turn's head
-abbrev third : tie.Else4 invariant_loop decreases_loop → tie.Else3 invariant_loop decreases_loop
+abbrev third : tie.Else-class_of-lt-IN_NAME-4 invariant_loop decreases_loop → tie.Else-class_of-lt-IN_NAME-3 invariant_loop decreases_loop
 third c = c.before.before.before
 
-abbrev second : tie.Else3 invariant_loop decreases_loop → tie.Else2 invariant_loop decreases_loop
+abbrev second : tie.Else-class_of-lt-IN_NAME-3 invariant_loop decreases_loop → tie.Else-class_of-lt-IN_NAME-2 invariant_loop decreases_loop
 second c = c.before.before.before
 
-abbrev first : tie.Else2 invariant_loop decreases_loop → tie.Else1 invariant_loop decreases_loop
+abbrev first : tie.Else-class_of-lt-IN_NAME-2 invariant_loop decreases_loop → tie.Else-class_of-lt-IN_NAME invariant_loop decreases_loop
 first c = c.before.before.before
 
-abbrev turn : tie.Else1 invariant_loop decreases_loop → tie.In-loop invariant_loop decreases_loop
+abbrev turn : tie.Else-class_of-lt-IN_NAME invariant_loop decreases_loop → tie.In-loop-i invariant_loop decreases_loop
 turn c = c.before.before.before
 
 -- the name goes on up to place i of the document
-abbrev Named : tie.In-loop invariant_loop decreases_loop → ℕ → Type 0
-Named t i = let a = t.before.before.before.args in Passed (name_at a.document.now) a.document.now a.from i
+abbrev Named : tie.In-loop-i invariant_loop decreases_loop → ℕ → Type 0
+Named t i = let a = t.args in Passed (name_at a.document.now) a.document.now a.from i
 
 -- .. behind so many bytes of the turn
-one : (c : tie.Else1 invariant_loop decreases_loop) → Named (turn c) ((turn c).before.loop.i + 1)
-one c = passed_more (turn c).before.loop.invariant (omega (arith, (turn c).loop-test.true)) (name_yes _ _ c.before.class_of.ensures (omega (arith, c.if1.false)))
+one : (c : tie.Else-class_of-lt-IN_NAME invariant_loop decreases_loop) → Named (turn c) ((turn c).loop-i.i + 1)
+one c = passed_more (turn c).loop-i.invariant (omega (arith, (turn c).loop-i-test.true)) (name_yes _ _ c.class_of.ensures (omega (arith, c.if-class_of-lt-IN_NAME.false)))
 
-two : (c : tie.Else2 invariant_loop decreases_loop) → Named (turn (first c)) ((turn (first c)).before.loop.i + 2)
-two c = passed_next (turn (first c)).before.loop.i 1 (one (first c)) (omega (arith, (turn (first c)).loop-test.taken)) (name_yes _ _ c.before.class-of2.ensures (omega (arith, c.if2.false)))
+two : (c : tie.Else-class_of-lt-IN_NAME-2 invariant_loop decreases_loop) → Named (turn (first c)) ((turn (first c)).before.loop.i + 2)
+two c = passed_next (turn (first c)).before.loop.i 1 (one (first c)) (omega (arith, (turn (first c)).loop-test.taken)) (name_yes _ _ c.class_of-in-loop-i.ensures (omega (arith, c.if-class_of-lt-IN_NAME-2.false)))
 
-three : (c : tie.Else3 invariant_loop decreases_loop) → Named (turn (first (second c))) ((turn (first (second c))).before.loop.i + 3)
-three c = passed_next (turn (first (second c))).before.loop.i 2 (two (second c)) (omega (arith, (turn (first (second c))).loop-test.taken)) (name_yes _ _ c.before.class-of3.ensures (omega (arith, c.if3.false)))
+three : (c : tie.Else-class_of-lt-IN_NAME-3 invariant_loop decreases_loop) → Named (turn (first (second c))) ((turn (first (second c))).before.loop.i + 3)
+three c = passed_next (turn (first (second c))).before.loop.i 2 (two (second c)) (omega (arith, (turn (first (second c))).loop-test.taken)) (name_yes _ _ c.class_of-in-loop-i-2.ensures (omega (arith, c.if-class_of-lt-IN_NAME-3.false)))
 
-loop_holds : tie.Need-loop-init invariant_loop decreases_loop
-loop_holds c = passed_none _ _ _ c.before.requires.1
+loop_holds : tie.Need-loop-i-init invariant_loop decreases_loop
+loop_holds c = passed_none _ _ _ c.requires.1
 
-add_loop : tie.Need-overflow-add-loop invariant_loop decreases_loop
-add_loop c = omega (arith, c.loop.invariant.within, c.before.before.well-formed)
+add_loop : tie.Need-overflow_add-i invariant_loop decreases_loop
+add_loop c = omega (arith, c.loop-i.invariant.within, c.well_formed)
 
-shared_slice_read_class_of : tie.Need-shared-slice-read-class-of invariant_loop decreases_loop
+shared_slice_read_class_of : tie.Need-bounds-document-i invariant_loop decreases_loop
 shared_slice_read_class_of c = search rules
 
-class_of_requires : tie.Need-class-of-requires invariant_loop decreases_loop
+class_of_requires : tie.Need-class_of-requires invariant_loop decreases_loop
 class_of_requires c κs = search rules
 
-returns : tie.Need-returns invariant_loop decreases_loop
-returns c = stops c.before.before.before.before.loop.invariant (name_not _ _ c.before.class_of.ensures (omega (arith, c.if1.true)))
+returns : tie.Need-returns-then-class_of-lt-IN_NAME invariant_loop decreases_loop
+returns c = stops c.loop-i.invariant (name_not _ _ c.class_of.ensures (omega (arith, c.if-class_of-lt-IN_NAME.true)))
 
-add_class_of : tie.Need-overflow-add-class-of invariant_loop decreases_loop
+add_class_of : tie.Need-overflow_add-i-in-loop-i invariant_loop decreases_loop
 add_class_of c = search rules
 
-shared_slice_read_class_of_2 : tie.Need-shared-slice-read-class-of-2 invariant_loop decreases_loop
+shared_slice_read_class_of_2 : tie.Need-bounds-document-i-in-loop-i invariant_loop decreases_loop
 shared_slice_read_class_of_2 c = search rules
 
-class_of_requires_2 : tie.Need-class-of-requires-2 invariant_loop decreases_loop
+class_of_requires_2 : tie.Need-class_of-requires-in-loop-i invariant_loop decreases_loop
 class_of_requires_2 c κs = search rules
 
-add_result : tie.Need-overflow-add-result invariant_loop decreases_loop
+add_result : tie.Need-overflow_add-result invariant_loop decreases_loop
 add_result c = search rules
 
-returns_2 : tie.Need-returns-2 invariant_loop decreases_loop
-returns_2 c = stops (one c.before.before.before) (name_not _ _ c.before.class-of2.ensures (omega (arith, c.if2.true)))
+returns_2 : tie.Need-returns-then-class_of-lt-IN_NAME-2 invariant_loop decreases_loop
+returns_2 c = stops (one c.before.before.before) (name_not _ _ c.class_of-in-loop-i.ensures (omega (arith, c.if-class_of-lt-IN_NAME-2.true)))
 
-add_class_of_2 : tie.Need-overflow-add-class-of-2 invariant_loop decreases_loop
+add_class_of_2 : tie.Need-overflow_add-i-in-loop-i-2 invariant_loop decreases_loop
 add_class_of_2 c = search rules
 
-shared_slice_read_class_of_3 : tie.Need-shared-slice-read-class-of-3 invariant_loop decreases_loop
+shared_slice_read_class_of_3 : tie.Need-bounds-document-i-in-loop-i-2 invariant_loop decreases_loop
 shared_slice_read_class_of_3 c = search rules
 
-class_of_requires_3 : tie.Need-class-of-requires-3 invariant_loop decreases_loop
+class_of_requires_3 : tie.Need-class_of-requires-in-loop-i-2 invariant_loop decreases_loop
 class_of_requires_3 c κs = search rules
 
-add_result_2 : tie.Need-overflow-add-result-2 invariant_loop decreases_loop
+add_result_2 : tie.Need-overflow_add-result-then-class_of-lt-IN_NAME-3 invariant_loop decreases_loop
 add_result_2 c = search rules
 
-returns_3 : tie.Need-returns-3 invariant_loop decreases_loop
-returns_3 c = stops (two c.before.before.before) (name_not _ _ c.before.class-of3.ensures (omega (arith, c.if3.true)))
+returns_3 : tie.Need-returns-then-class_of-lt-IN_NAME-3 invariant_loop decreases_loop
+returns_3 c = stops (two c.before.before.before) (name_not _ _ c.class_of-in-loop-i-2.ensures (omega (arith, c.if-class_of-lt-IN_NAME-3.true)))
 
-add_class_of_3 : tie.Need-overflow-add-class-of-3 invariant_loop decreases_loop
+add_class_of_3 : tie.Need-overflow_add-i-in-loop-i-3 invariant_loop decreases_loop
 add_class_of_3 c = search rules
 
-shared_slice_read_class_of_4 : tie.Need-shared-slice-read-class-of-4 invariant_loop decreases_loop
+shared_slice_read_class_of_4 : tie.Need-bounds-document-i-in-loop-i-3 invariant_loop decreases_loop
 shared_slice_read_class_of_4 c = search rules
 
-class_of_requires_4 : tie.Need-class-of-requires-4 invariant_loop decreases_loop
+class_of_requires_4 : tie.Need-class_of-requires-in-loop-i-3 invariant_loop decreases_loop
 class_of_requires_4 c κs = search rules
 
-add_result_3 : tie.Need-overflow-add-result-3 invariant_loop decreases_loop
+add_result_3 : tie.Need-overflow_add-result-then-class_of-lt-IN_NAME-4 invariant_loop decreases_loop
 add_result_3 c = search rules
 
-returns_4 : tie.Need-returns-4 invariant_loop decreases_loop
-returns_4 c = stops (three c.before.before.before) (name_not _ _ c.before.class-of4.ensures (omega (arith, c.if4.true)))
+returns_4 : tie.Need-returns-then-class_of-lt-IN_NAME-4 invariant_loop decreases_loop
+returns_4 c = stops (three c.before.before.before) (name_not _ _ c.class_of-in-loop-i-3.ensures (omega (arith, c.if-class_of-lt-IN_NAME-4.true)))
 
-add_i : tie.Need-overflow-add-i invariant_loop decreases_loop
+add_i : tie.Need-overflow_add-i-in-loop-i-4 invariant_loop decreases_loop
 add_i c = search rules
 
-loop_less : tie.Need-loop-smaller invariant_loop decreases_loop
+loop_less : tie.Need-loop-i-smaller invariant_loop decreases_loop
 loop_less c = search rules
 
-loop_again : tie.Need-loop-preserved invariant_loop decreases_loop
+loop_again : tie.Need-loop-i-preserved invariant_loop decreases_loop
 loop_again c =
     let t = turn (first (second (third c))) in
-    passed_next t.before.loop.i 3 (three (third c)) (omega (arith, t.loop-test.taken)) (name_yes _ _ c.before.class-of4.ensures (omega (arith, c.if4.false)))
+    passed_next t.before.loop.i 3 (three (third c)) (omega (arith, t.loop-test.taken)) (name_yes _ _ c.class_of-in-loop-i-3.ensures (omega (arith, c.if-class_of-lt-IN_NAME-4.false)))
 
-name_end_requires : tie.Need-name-end-requires invariant_loop decreases_loop
+name_end_requires : tie.Need-name_end-requires invariant_loop decreases_loop
 name_end_requires c κs = search rules
 
-returns_5 : tie.Need-returns-5 invariant_loop decreases_loop
-returns_5 c = span_then c.before.before.loop.invariant c.name-end.ensures
+returns_5 : tie.Need-returns invariant_loop decreases_loop
+returns_5 c = span_then c.loop-i.invariant c.name_end.ensures
 
 pub long_name_end_spec : {M : Type 1} → statement M
 long_name_end_spec =

@@ -3,26 +3,26 @@ use borrow.Author.Rules.{rules}
 use Rattle.tokens.proofs.long_white_end.Statement.{statement}
 use Rattle.tokens.proofs.long_white_end.Tie as tie
 
-add_least : tie.Need-overflow-add-least
+add_least : tie.Need-overflow_add-from
 add_least c = search rules
 
-least_requires : tie.Need-least-requires
+least_requires : tie.Need-least-near-requires
 least_requires c κs = search rules
 
-white_to_requires : tie.Need-white-to-requires
+white_to_requires : tie.Need-white_to-end-requires
 white_to_requires c κs = search rules
 
-returns : tie.Need-returns
-returns c = stopped_early c.before.white-to.ensures c.if1.true
+returns : tie.Need-returns-then-end-near
+returns c = stopped_early c.white_to-end.ensures c.if-end-near.true
 
-blank_end_requires : tie.Need-blank-end-requires
+blank_end_requires : tie.Need-blank_end-requires
 blank_end_requires c κs = search rules
 
-white_end_requires : tie.Need-white-end-requires
+white_end_requires : tie.Need-white_end-requires
 white_end_requires c κs = search rules
 
-returns_2 : tie.Need-returns-2
-returns_2 c = span_then (passed_then c.before.before.before.white-to.ensures.passed c.before.blank-end.ensures (λ k e. e)) c.white-end.ensures
+returns_2 : tie.Need-returns
+returns_2 c = span_then (passed_then c.white_to-end.ensures.passed c.blank_end.ensures (λ k e. e)) c.white_end.ensures
 
 pub long_white_end_spec : {M : Type 1} → statement M
 long_white_end_spec =

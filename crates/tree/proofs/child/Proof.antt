@@ -6,32 +6,32 @@ use Rattle.tree.proofs.Ways.{Ahead, ahead_first, ahead_next, ahead_more, ahead_f
 use Rattle.tree.proofs.child.Statement.{statement}
 use Rattle.tree.proofs.child.Tie as tie
 
-abbrev invariant_loop : tie.invariant_loop
+abbrev invariant_loop : tie.invariant-loop-e
 invariant_loop size a b u₀ e₀ u e = Ahead size a b u × (e ≡ u + get_or size u 0)
 
-abbrev decreases_loop : tie.decreases_loop
+abbrev decreases_loop : tie.decreases-loop-e
 decreases_loop size a b u₀ e₀ u e = b - u
 
-add_u : tie.Need-overflow-add-u invariant_loop decreases_loop
-add_u c = omega (arith, ahead_next (ahead_first _ _ _) c.before.requires, c.before.well-formed)
+add_u : tie.Need-overflow_add-u invariant_loop decreases_loop
+add_u c = omega (arith, ahead_next (ahead_first _ _ _) c.requires, c.well_formed)
 
-next_requires : tie.Need-next-requires invariant_loop decreases_loop
-next_requires c κs = (ahead_next (ahead_first _ _ _) c.before.requires).0
+next_requires : tie.Need-next-e-requires invariant_loop decreases_loop
+next_requires c κs = (ahead_next (ahead_first _ _ _) c.requires).0
 
-loop_holds : tie.Need-loop-init invariant_loop decreases_loop
-loop_holds c = (ahead_first _ _ _, c.next.ensures)
+loop_holds : tie.Need-loop-e-init invariant_loop decreases_loop
+loop_holds c = (ahead_first _ _ _, c.next-e.ensures)
 
-next_requires_2 : tie.Need-next-requires-2 invariant_loop decreases_loop
-next_requires_2 c κs = omega (arith, c.loop-test.true, ahead_next c.before.loop.invariant.0 c.before.before.before.before.requires)
+next_requires_2 : tie.Need-next-e-requires-in-loop-e invariant_loop decreases_loop
+next_requires_2 c κs = omega (arith, c.loop-e-test.true, ahead_next c.loop-e.invariant.0 c.requires)
 
-loop_less : tie.Need-loop-smaller invariant_loop decreases_loop
-loop_less c = omega (arith, c.before.loop-test.true, c.before.before.loop.invariant.1, ahead_next c.before.before.loop.invariant.0 c.before.before.before.before.before.requires)
+loop_less : tie.Need-loop-e-smaller invariant_loop decreases_loop
+loop_less c = omega (arith, c.loop-e-test.true, c.loop-e.invariant.1, ahead_next c.loop-e.invariant.0 c.requires)
 
-loop_again : tie.Need-loop-preserved invariant_loop decreases_loop
-loop_again c = (ahead_more c.before.before.loop.invariant.0 c.before.before.loop.invariant.1 c.before.loop-test.true, c.next2.ensures)
+loop_again : tie.Need-loop-e-preserved invariant_loop decreases_loop
+loop_again c = (ahead_more c.loop-e.invariant.0 c.loop-e.invariant.1 c.loop-e-test.true, c.next-e-in-loop-e.ensures)
 
 returns : tie.Need-returns invariant_loop decreases_loop
-returns c = ahead_found c.before.loop.invariant.0 c.before.loop.invariant.1 c.loop-test.false
+returns c = ahead_found c.loop-e.invariant.0 c.loop-e.invariant.1 c.loop-e-test.false
 
 pub child_spec : {M : Type 1} → statement M
 child_spec =

@@ -8,68 +8,68 @@ use Rattle.tree.proofs.Turns.{Seen, seen_root, all_closed, fewer, beyond_end, to
 use Rattle.tree.proofs.nested.Statement.{statement}
 use Rattle.tree.proofs.nested.Tie as tie
 
-abbrev invariant_loop : tie.invariant_loop
+abbrev invariant_loop : tie.invariant-loop-row
 invariant_loop size closing rows ends₀ opened₀ row₀ ends opened row = Seen size ends opened row
 
-abbrev decreases_loop : tie.decreases_loop
+abbrev decreases_loop : tie.decreases-loop-row
 decreases_loop size closing rows ends₀ opened₀ row₀ ends opened row = length size - row
 
-array_write_ends : tie.Need-array-write-ends invariant_loop decreases_loop
+array_write_ends : tie.Need-bounds-ends-0 invariant_loop decreases_loop
 array_write_ends c = omega arith
 
-loop_holds : tie.Need-loop-init invariant_loop decreases_loop
-loop_holds c = seen_root (omega arith) refl c.before.requires.root c.before.requires.some
+loop_holds : tie.Need-loop-row-init invariant_loop decreases_loop
+loop_holds c = seen_root (omega arith) refl c.requires.root c.requires.some
 
-mul_wide : tie.Need-overflow-mul-wide invariant_loop decreases_loop
-mul_wide c = omega (arith, c.before.before.before.requires.told.few)
+mul_wide : tie.Need-offset_bounds-closing-row invariant_loop decreases_loop
+mul_wide c = omega (arith, c.requires.told.few)
 
-element_copy_out_wide : tie.Need-element-copy-out-wide invariant_loop decreases_loop
-element_copy_out_wide c = omega (arith, c.before.before.before.requires.told.few, c.before.before.before.requires.told.long)
+element_copy_out_wide : tie.Need-bounds-closing-row invariant_loop decreases_loop
+element_copy_out_wide c = omega (arith, c.requires.told.few, c.requires.told.long)
 
 wide_requires : tie.Need-wide-requires invariant_loop decreases_loop
 wide_requires c κs = search rules
 
-sub_depth : tie.Need-overflow-sub-depth invariant_loop decreases_loop
-sub_depth c = omega (arith, fewer c.before.before.before.loop.invariant c.before.before.before.before.before.requires c.before.before.loop-test.true c.wide.ensures refl)
+sub_depth : tie.Need-overflow_sub-depth invariant_loop decreases_loop
+sub_depth c = omega (arith, fewer c.loop-row.invariant c.requires c.loop-row-test.true c.wide.ensures refl)
 
-next_requires : tie.Need-next-requires invariant_loop decreases_loop
+next_requires : tie.Need-next-after-requires invariant_loop decreases_loop
 next_requires c κs = search rules
 
-sub_if1 : tie.Need-overflow-sub-if1 invariant_loop decreases_loop
-sub_if1 c = omega (arith, fewer c.before.before.before.before.loop.invariant c.before.before.before.before.before.before.requires c.before.before.before.loop-test.true c.before.wide.ensures refl)
+sub_if1 : tie.Need-overflow_sub-depth-in-loop-row invariant_loop decreases_loop
+sub_if1 c = omega (arith, fewer c.loop-row.invariant c.requires c.loop-row-test.true c.wide.ensures refl)
 
-mul_if1 : tie.Need-overflow-mul-if1 invariant_loop decreases_loop
-mul_if1 c = omega (arith, c.before.before.before.before.loop.invariant.low)
+mul_if1 : tie.Need-offset_bounds-ends-depth invariant_loop decreases_loop
+mul_if1 c = omega (arith, c.loop-row.invariant.low)
 
-array_read_if1 : tie.Need-array-read-if1 invariant_loop decreases_loop
-array_read_if1 c = omega (arith, c.before.before.before.before.loop.invariant.low)
+array_read_if1 : tie.Need-bounds-ends-depth invariant_loop decreases_loop
+array_read_if1 c = omega (arith, c.loop-row.invariant.low)
 
-returns : tie.Need-returns invariant_loop decreases_loop
-returns c = says_no (beyond_end c.before.before.before.before.before.loop.invariant c.before.before.before.before.before.before.before.requires c.before.before.before.before.loop-test.true c.before.before.wide.ensures refl c.before.next.ensures (omega (arith, c.if1.true, c.before.next.ensures)))
+returns : tie.Need-returns-then-ends-depth invariant_loop decreases_loop
+returns c = says_no (beyond_end c.loop-row.invariant c.requires c.loop-row-test.true c.wide.ensures refl c.next-after.ensures (omega (arith, c.if-ends-depth.true, c.next-after.ensures)))
 
-returns_2 : tie.Need-returns-2 invariant_loop decreases_loop
-returns_2 c = says_no (too_deep c.before.before.before.before.before.before.loop.invariant c.before.before.before.before.before.before.before.before.requires c.before.before.before.before.before.loop-test.true c.before.before.before.wide.ensures refl c.before.before.next.ensures (omega (arith, c.if2.true)))
+returns_2 : tie.Need-returns-then-depth-eq64 invariant_loop decreases_loop
+returns_2 c = says_no (too_deep c.loop-row.invariant c.requires c.loop-row-test.true c.wide.ensures refl c.next-after.ensures (omega (arith, c.if-depth-eq64.true)))
 
-mul_ends : tie.Need-overflow-mul-ends invariant_loop decreases_loop
-mul_ends c = omega (arith, c.before.before.before.before.before.before.loop.invariant.low)
+mul_ends : tie.Need-offset_bounds-ends-depth-in-loop-row invariant_loop decreases_loop
+mul_ends c = omega (arith, c.loop-row.invariant.low)
 
-array_write_ends_2 : tie.Need-array-write-ends-2 invariant_loop decreases_loop
-array_write_ends_2 c = omega (arith, c.before.before.before.before.before.before.loop.invariant.low, c.if2.false)
+array_write_ends_2 : tie.Need-bounds-ends-depth-in-loop-row invariant_loop decreases_loop
+array_write_ends_2 c = omega (arith, c.loop-row.invariant.low, c.if-depth-eq64.false)
 
-add_opened : tie.Need-overflow-add-opened invariant_loop decreases_loop
-add_opened c = omega (arith, c.before.before.before.before.before.before.loop.invariant.low)
+add_opened : tie.Need-overflow_add-opened invariant_loop decreases_loop
+add_opened c = omega (arith, c.loop-row.invariant.low)
 
-add_row : tie.Need-overflow-add-row invariant_loop decreases_loop
+add_row : tie.Need-overflow_add-row invariant_loop decreases_loop
 add_row c = omega arith
 
-loop_less : tie.Need-loop-smaller invariant_loop decreases_loop
+loop_less : tie.Need-loop-row-smaller invariant_loop decreases_loop
 loop_less c = omega arith
 
-loop_again : tie.Need-loop-preserved invariant_loop decreases_loop
-loop_again c = seen_open c.before.before.before.before.before.before.loop.invariant c.before.before.before.before.before.before.before.before.requires c.before.before.before.before.before.loop-test.true c.before.before.before.wide.ensures refl c.before.before.next.ensures (omega (arith, c.before.if1.false)) (omega (arith, c.if2.false, c.before.before.before.before.before.before.loop.invariant.low))
+loop_again : tie.Need-loop-row-preserved invariant_loop decreases_loop
+loop_again c = seen_open c.loop-row.invariant c.requires c.loop-row-test.true c.wide.ensures refl c.next-after.ensures (omega (arith, c.if-ends-depth.false)) (omega (arith, c.if-depth-eq64.false, c.loop-row.invariant.low))
 
-returns_3 : tie.Need-returns-3 invariant_loop decreases_loop
-returns_3 c = says_yes (all_closed c.before.loop.invariant (omega (arith, c.loop-test.false)))
+returns_3 : tie.Need-returns invariant_loop decreases_loop
+returns_3 c = says_yes (all_closed c.loop-row.invariant (omega (arith, c.loop-row-test.false)))
 
 pub nested_spec : {M : Type 1} → statement M
 nested_spec =

@@ -6,7 +6,7 @@ use Rattle.tree.proofs.next.Tie as tie
 at_requires : tie.Need-at-requires
 at_requires c κs = search rules
 
-add_result : tie.Need-overflow-add-result
+add_result : tie.Need-overflow_add-result
 add_result c = omega (arith, c.at.ensures)
 
 returns : tie.Need-returns

@@ -6,43 +6,43 @@ use Rattle.variable.proofs.individual.Statement.{statement}
 use Rattle.variable.proofs.individual.Tie as tie
 
 put_requires : tie.Need-put-requires
-put_requires c κs = omega (arith, individual_room c.before.before.before.before.before.requires, c.before.if1.true)
+put_requires c κs = omega (arith, individual_room c.requires, c.if-x-n.true)
 
-add_t12 : tie.Need-overflow-add-t12
-add_t12 c = omega (arith, individual_room c.before.before.before.before.before.before.before.before.requires, c.before.before.before.before.if1.true, c.before.before.before.before.before.before.before.before.well-formed)
+add_t12 : tie.Need-overflow_add-result
+add_t12 c = omega (arith, individual_room c.requires, c.if-x-n.true, c.well_formed)
 
-same_length : tie.Need-same-length
-same_length c = c.before.before.put.auto.0
+same_length : tie.Need-shape_of-record-then-x-n
+same_length c = c.put.auto.0
 
-returns : tie.Need-returns
-returns c = individual_first c.before.before.before.before.if1.true c.before.before.put.ensures
+returns : tie.Need-returns-then-x-n
+returns c = individual_first c.if-x-n.true c.put.ensures
 
-add_at : tie.Need-overflow-add-at
-add_at c = omega (arith, individual_room c.before.before.before.before.before.requires, c.before.before.before.before.before.well-formed)
+add_at : tie.Need-overflow_add-x
+add_at c = omega (arith, individual_room c.requires, c.well_formed)
 
-at_requires : tie.Need-at-requires
-at_requires c κs = omega (arith, individual_room c.before.before.before.before.before.requires)
+at_requires : tie.Need-at-a-requires
+at_requires c κs = omega (arith, individual_room c.requires)
 
 next_requires : tie.Need-next-requires
-next_requires c κs = (individual_next c.before.before.if1.false c.at.ensures.0 c.before.before.before.before.before.before.requires).sized
+next_requires c κs = (individual_next c.before.before.if1.false c.at-a.ensures.0 c.requires).sized
 
 next_requires_2 : tie.Need-next-requires-2
-next_requires_2 c κs = (term_next c.before.before.before.before.before.before.before.requires.tree.2).sized
+next_requires_2 c κs = (term_next c.requires.tree.2).sized
 
 alike_requires : tie.Need-alike-requires
-alike_requires c κs = individual_alike_pre c.before.before.before.before.if1.false c.before.before.at.ensures.0 c.before.next.ensures c.next2.ensures c.before.before.before.before.before.before.before.before.requires
+alike_requires c κs = individual_alike_pre c.before.before.before.before.if1.false c.at-a.ensures.0 c.next.ensures c.next-2.ensures c.requires
 
-same_length_2 : tie.Need-same-length-2
+same_length_2 : tie.Need-shape_of-record-then-alike
 same_length_2 c = search rules
 
-returns_2 : tie.Need-returns-2
-returns_2 c = individual_same c.before.before.before.before.before.before.if1.false c.before.before.before.before.at.ensures.0 c.before.before.before.next.ensures c.before.before.next2.ensures c.before.alike.ensures c.if2.true
+returns_2 : tie.Need-returns-then-alike
+returns_2 c = individual_same c.before.before.before.before.before.before.if1.false c.at-a.ensures.0 c.next.ensures c.next-2.ensures c.alike.ensures c.if-alike.true
 
-same_length_3 : tie.Need-same-length-3
+same_length_3 : tie.Need-shape_of-record-else-alike
 same_length_3 c = search rules
 
-returns_3 : tie.Need-returns-3
-returns_3 c = individual_differs c.before.before.before.before.before.before.if1.false c.before.before.before.before.at.ensures.0 c.before.before.before.next.ensures c.before.before.next2.ensures c.before.alike.ensures c.if2.false
+returns_3 : tie.Need-returns-else-alike
+returns_3 c = individual_differs c.before.before.before.before.before.before.if1.false c.at-a.ensures.0 c.next.ensures c.next-2.ensures c.alike.ensures c.if-alike.false
 
 pub individual_spec : {M : Type 1} → statement M
 individual_spec =

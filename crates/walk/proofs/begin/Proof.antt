@@ -3,7 +3,7 @@ use Rattle.walk.proofs.begin.Statement.{statement}
 use Rattle.walk.proofs.begin.Tie as tie
 
 term_requires : tie.Need-term-requires
-term_requires c κs = root_pre c.before.before.before.before.requires
+term_requires c κs = root_pre c.requires
 
 returns : tie.Need-returns
 returns c = root_is c.term.ensures

@@ -8,51 +8,51 @@ use Rattle.walk.proofs.holder_of.Lts as lts
 use Rattle.tree.proofs.at.Reads as at_reads
 use Rattle.tree.proofs.next.Reads as next-reads
 
-abbrev invariant_loop : tie.invariant_loop
+abbrev invariant_loop : tie.invariant-loop-h
 invariant_loop size packed row h₀ h = Past size h row
 
-abbrev decreases_loop : tie.decreases_loop
+abbrev decreases_loop : tie.decreases-loop-h
 decreases_loop size packed row h₀ h = h
 
 -- src/lib.rt:55:9
-returns : tie.Need-returns invariant_loop decreases_loop
-returns c = record { least = omega arith; holds = λ z. absurd (omega (arith, c.if1.true)) }
+returns : tie.Need-returns-then-row-eq0 invariant_loop decreases_loop
+returns c = record { least = omega arith; holds = λ z. absurd (omega (arith, c.if-row-eq0.true)) }
 
 -- src/lib.rt:57:17
-sub_h : tie.Need-overflow-sub-h invariant_loop decreases_loop
-sub_h c = omega (arith, c.if1.false)
+sub_h : tie.Need-overflow_sub-h invariant_loop decreases_loop
+sub_h c = omega (arith, c.if-row-eq0.false)
 
 -- src/lib.rt:58:5
-loop_holds : tie.Need-loop-init invariant_loop decreases_loop
-loop_holds c = climb_first c.before.before.before.requires c.if1.false
+loop_holds : tie.Need-loop-h-init invariant_loop decreases_loop
+loop_holds c = climb_first c.requires c.if-row-eq0.false
 
 -- src/lib.rt:58:11
 next_requires : tie.Need-next-requires invariant_loop decreases_loop
-next_requires c κs = climb_row c.before.before.before.before.requires c.loop.invariant
+next_requires c κs = climb_row c.requires c.loop-h.invariant
 
 -- src/lib.rt:59:30
-mul_at : tie.Need-overflow-mul-at invariant_loop decreases_loop
-mul_at c = omega (arith, climb_room c.before.before.before.before.before.before.requires c.before.before.loop.invariant (omega (arith, c.before.next.ensures, c.if2.true)), c.before.before.before.before.before.before.well-formed)
+mul_at : tie.Need-overflow_mul-h invariant_loop decreases_loop
+mul_at c = omega (arith, climb_room c.requires c.loop-h.invariant (omega (arith, c.next.ensures, c.loop-h-test.true)), c.well_formed)
 
 -- src/lib.rt:59:30
-add_at : tie.Need-overflow-add-at invariant_loop decreases_loop
-add_at c = omega (arith, climb_room c.before.before.before.before.before.before.requires c.before.before.loop.invariant (omega (arith, c.before.next.ensures, c.if2.true)), c.before.before.before.before.before.before.well-formed)
+add_at : tie.Need-overflow_add-h invariant_loop decreases_loop
+add_at c = omega (arith, climb_room c.requires c.loop-h.invariant (omega (arith, c.next.ensures, c.loop-h-test.true)), c.well_formed)
 
 -- src/lib.rt:59:9
-at_requires : tie.Need-at-requires invariant_loop decreases_loop
-at_requires c κs = climb_room c.before.before.before.before.before.before.requires c.before.before.loop.invariant (omega (arith, c.before.next.ensures, c.if2.true))
+at_requires : tie.Need-at-h-requires invariant_loop decreases_loop
+at_requires c κs = climb_room c.requires c.loop-h.invariant (omega (arith, c.next.ensures, c.loop-h-test.true))
 
 -- src/lib.rt:58:5
-loop_less : tie.Need-loop-smaller invariant_loop decreases_loop
-loop_less c = omega (arith, (climb_more c.before.before.before.before.before.before.before.requires c.before.before.before.loop.invariant (omega (arith, c.before.before.next.ensures, c.before.if2.true))).1, c.at.ensures.0)
+loop_less : tie.Need-loop-h-smaller invariant_loop decreases_loop
+loop_less c = omega (arith, (climb_more c.requires c.loop-h.invariant (omega (arith, c.next.ensures, c.loop-h-test.true))).1, c.at-h.ensures.0)
 
 -- src/lib.rt:58:5
-loop_again : tie.Need-loop-preserved invariant_loop decreases_loop
-loop_again c = rw c.at.ensures.0 (climb_more c.before.before.before.before.before.before.before.requires c.before.before.before.loop.invariant (omega (arith, c.before.before.next.ensures, c.before.if2.true))).0
+loop_again : tie.Need-loop-h-preserved invariant_loop decreases_loop
+loop_again c = rw c.at-h.ensures.0 (climb_more c.requires c.loop-h.invariant (omega (arith, c.next.ensures, c.loop-h-test.true))).0
 
 -- src/lib.rt:50:1
-returns_2 : tie.Need-returns-2 invariant_loop decreases_loop
-returns_2 c = climb_ends c.before.before.before.before.before.before.requires c.before.before.loop.invariant (omega (arith, c.before.next.ensures, c.if2.false))
+returns_2 : tie.Need-returns invariant_loop decreases_loop
+returns_2 c = climb_ends c.requires c.loop-h.invariant (omega (arith, c.next.ensures, c.loop-h-test.false))
 
 pub holder_of_spec : {M : Type 1} → statement M
 holder_of_spec =

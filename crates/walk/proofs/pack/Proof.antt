@@ -13,95 +13,95 @@ use Rattle.walk.proofs.entry.Reads as entry-reads
 use Rattle.walk.proofs.holder_of.Reads as holder-of-reads
 use Rattle.walk.proofs.put.Reads as put_reads
 
-abbrev invariant_loop : tie.invariant_loop
+abbrev invariant_loop : tie.invariant-loop-row
 invariant_loop kind name size constraint packed₀ row₀ packed row = (row ≤ length kind) × Packing kind name size constraint packed₀ packed row
 
-abbrev decreases_loop : tie.decreases_loop
+abbrev decreases_loop : tie.decreases-loop-row
 decreases_loop kind name size constraint packed₀ row₀ packed row = length kind - row
 
 -- src/lib.rt:71:5
-loop_holds : tie.Need-loop-init invariant_loop decreases_loop
+loop_holds : tie.Need-loop-row-init invariant_loop decreases_loop
 loop_holds c = (omega arith, packing_first)
 
 -- src/lib.rt:72:22
-holder_of_requires : tie.Need-holder-of-requires invariant_loop decreases_loop
-holder_of_requires c κs = packing_holder c.before.before.loop.invariant.1 c.before.before.before.before.before.before.before.before.requires c.before.loop-test.true
+holder_of_requires : tie.Need-holder_of-holder-requires invariant_loop decreases_loop
+holder_of_requires c κs = packing_holder c.before.before.loop.invariant.1 c.requires c.before.loop-test.true
 
 -- src/lib.rt:72:22
-cast_holder : tie.Need-overflow-cast-holder invariant_loop decreases_loop
-cast_holder c = omega (arith, c.holder-of.ensures.least, c.before.before.loop-test.true, c.before.before.before.before.before.before.before.before.before.requires.few)
+cast_holder : tie.Need-overflow_cast-holder invariant_loop decreases_loop
+cast_holder c = omega (arith, c.holder_of-holder.ensures.least, c.before.before.loop-test.true, c.requires.few)
 
 -- src/lib.rt:73:13
-at_requires : tie.Need-at-requires invariant_loop decreases_loop
-at_requires c κs = omega (arith, c.before.before.loop-test.true, c.before.before.before.before.before.before.before.before.before.requires.names)
+at_requires : tie.Need-at-x-requires invariant_loop decreases_loop
+at_requires c κs = omega (arith, c.before.before.loop-test.true, c.requires.names)
 
 -- src/lib.rt:75:19
-mul_t10 : tie.Need-overflow-mul-t10 invariant_loop decreases_loop
+mul_t10 : tie.Need-offset_bounds-kind-row invariant_loop decreases_loop
 mul_t10 c = search rules
 
 -- src/lib.rt:75:19
-shared_slice_read_t15 : tie.Need-shared-slice-read-t15 invariant_loop decreases_loop
+shared_slice_read_t15 : tie.Need-bounds-kind-row invariant_loop decreases_loop
 shared_slice_read_t15 c = c.before.before.before.before.loop-test.true
 
 -- src/lib.rt:76:19
-mul_t16 : tie.Need-overflow-mul-t16 invariant_loop decreases_loop
+mul_t16 : tie.Need-offset_bounds-name-row invariant_loop decreases_loop
 mul_t16 c = search rules
 
 -- src/lib.rt:76:19
-shared_slice_read_t18 : tie.Need-shared-slice-read-t18 invariant_loop decreases_loop
-shared_slice_read_t18 c = omega (arith, c.before.before.before.before.before.loop-test.true, c.before.before.before.before.before.before.before.before.before.before.before.before.requires.names)
+shared_slice_read_t18 : tie.Need-bounds-name-row invariant_loop decreases_loop
+shared_slice_read_t18 c = omega (arith, c.before.before.before.before.before.loop-test.true, c.requires.names)
 
 -- src/lib.rt:77:19
-mul_t19 : tie.Need-overflow-mul-t19 invariant_loop decreases_loop
+mul_t19 : tie.Need-offset_bounds-size-row invariant_loop decreases_loop
 mul_t19 c = search rules
 
 -- src/lib.rt:77:19
-shared_slice_read_t21 : tie.Need-shared-slice-read-t21 invariant_loop decreases_loop
-shared_slice_read_t21 c = omega (arith, c.before.before.before.before.before.before.loop-test.true, c.before.before.before.before.before.before.before.before.before.before.before.before.before.requires.sizes)
+shared_slice_read_t21 : tie.Need-bounds-size-row invariant_loop decreases_loop
+shared_slice_read_t21 c = omega (arith, c.before.before.before.before.before.before.loop-test.true, c.requires.sizes)
 
 -- src/lib.rt:79:38
-add_entry : tie.Need-overflow-add-entry invariant_loop decreases_loop
-add_entry c = omega (arith, c.before.before.before.at.ensures.1)
+add_entry : tie.Need-overflow_add-x invariant_loop decreases_loop
+add_entry c = omega (arith, c.at-x.ensures.1)
 
 -- src/lib.rt:79:20
 entry_requires : tie.Need-entry-requires invariant_loop decreases_loop
 entry_requires c κs = search rules
 
 -- src/lib.rt:80:37
-add_entry_2 : tie.Need-overflow-add-entry-2 invariant_loop decreases_loop
-add_entry_2 c = omega (arith, c.before.before.before.before.at.ensures.1)
+add_entry_2 : tie.Need-overflow_add-x-in-loop-row invariant_loop decreases_loop
+add_entry_2 c = omega (arith, c.at-x.ensures.1)
 
 -- src/lib.rt:80:37
-add_entry_3 : tie.Need-overflow-add-entry-3 invariant_loop decreases_loop
-add_entry_3 c = omega (arith, c.before.before.before.before.at.ensures.1)
+add_entry_3 : tie.Need-overflow_add-x-in-loop-row-2 invariant_loop decreases_loop
+add_entry_3 c = omega (arith, c.at-x.ensures.1)
 
 -- src/lib.rt:80:19
-entry_requires_2 : tie.Need-entry-requires-2 invariant_loop decreases_loop
+entry_requires_2 : tie.Need-entry-requires-in-loop-row invariant_loop decreases_loop
 entry_requires_2 c κs = search rules
 
 -- src/lib.rt:82:9
 put_requires : tie.Need-put-requires invariant_loop decreases_loop
-put_requires c κs = packing_room c.before.before.before.before.before.before.before.before.before.before.loop.invariant.1 c.before.before.before.before.before.before.before.before.before.before.before.before.before.before.before.before.requires c.before.before.before.before.before.before.before.before.before.loop-test.true
+put_requires c κs = packing_room c.before.before.before.before.before.before.before.before.before.before.loop.invariant.1 c.requires c.before.before.before.before.before.before.before.before.before.loop-test.true
 
 -- src/lib.rt:83:9
-add_row : tie.Need-overflow-add-row invariant_loop decreases_loop
-add_row c = omega (arith, c.before.before.before.before.before.before.before.before.before.before.before.before.loop-test.true, c.before.before.before.before.before.before.before.before.before.before.before.before.before.before.before.before.before.before.before.requires.few)
+add_row : tie.Need-overflow_add-row invariant_loop decreases_loop
+add_row c = omega (arith, c.before.before.before.before.before.before.before.before.before.before.before.before.loop-test.true, c.requires.few)
 
 -- src/lib.rt:71:5
-loop_less : tie.Need-loop-smaller invariant_loop decreases_loop
+loop_less : tie.Need-loop-row-smaller invariant_loop decreases_loop
 loop_less c = omega (arith, c.before.before.before.before.before.before.before.before.before.before.before.before.loop-test.true)
 
 -- src/lib.rt:71:5
-loop_again : tie.Need-loop-preserved invariant_loop decreases_loop
-loop_again c = (omega (arith, c.before.before.before.before.before.before.before.before.before.before.before.before.loop-test.true), packing_more c.before.before.before.before.before.before.before.before.before.before.before.before.before.loop.invariant.1 c.before.before.before.before.before.before.before.before.before.before.before.before.before.before.before.before.before.before.before.requires c.before.before.before.before.before.before.before.before.before.before.before.before.loop-test.true c.before.before.before.before.before.before.before.before.before.before.holder-of.ensures (rw (c.before.before.before.before.before.entry.ensures, c.before.before.before.before.entry2.ensures, c.before.before.before.before.before.before.before.before.before.at.ensures.0) at c.before.before.put.ensures))
+loop_again : tie.Need-loop-row-preserved invariant_loop decreases_loop
+loop_again c = (omega (arith, c.before.before.before.before.before.before.before.before.before.before.before.before.loop-test.true), packing_more c.before.before.before.before.before.before.before.before.before.before.before.before.before.loop.invariant.1 c.requires c.before.before.before.before.before.before.before.before.before.before.before.before.loop-test.true c.holder_of-holder.ensures (rw (c.entry.ensures, c.entry-in-loop-row.ensures, c.at-x.ensures.0) at c.put.ensures))
 
 -- src/lib.rt:65:1
-same_length : tie.Need-same-length invariant_loop decreases_loop
-same_length c = c.before.loop.invariant.1.long
+same_length : tie.Need-shape_of-packed invariant_loop decreases_loop
+same_length c = c.loop-row.invariant.1.long
 
 -- src/lib.rt:65:1
 returns : tie.Need-returns invariant_loop decreases_loop
-returns c = packing_done c.before.loop.invariant.1 c.before.before.before.before.before.before.before.requires c.loop-test.false
+returns c = packing_done c.loop-row.invariant.1 c.requires c.loop-row-test.false
 
 pub pack_spec : {M : Type 1} → statement M
 pack_spec =

@@ -8,79 +8,79 @@ use Rattle.walk.proofs.put.Reads as reads
 use Rattle.walk.proofs.put.Lts as lts
 
 -- src/lib.rt:33:14
-mul_at : tie.Need-overflow-mul-at
+mul_at : tie.Need-overflow_mul-at
 mul_at c = search rules
 
 -- src/lib.rt:34:5
-mul_packed : tie.Need-overflow-mul-packed
+mul_packed : tie.Need-offset_bounds-packed-at
 mul_packed c = search rules
 
 -- src/lib.rt:34:5
-slice_write_packed : tie.Need-slice-write-packed
+slice_write_packed : tie.Need-bounds-packed-at
 slice_write_packed c = search rules
 
 -- src/lib.rt:35:12
-add_packed : tie.Need-overflow-add-packed
+add_packed : tie.Need-overflow_add-packed
 add_packed c = search rules
 
 -- src/lib.rt:35:5
-mul_packed_2 : tie.Need-overflow-mul-packed-2
+mul_packed_2 : tie.Need-offset_bounds-packed-at-2
 mul_packed_2 c = search rules
 
 -- src/lib.rt:35:5
-slice_write_packed_2 : tie.Need-slice-write-packed-2
+slice_write_packed_2 : tie.Need-bounds-packed-at-2
 slice_write_packed_2 c = simp length-set (omega (arith, c.requires))
 
 -- src/lib.rt:36:12
-add_packed_2 : tie.Need-overflow-add-packed-2
+add_packed_2 : tie.Need-overflow_add-packed-2
 add_packed_2 c = search rules
 
 -- src/lib.rt:36:5
-mul_packed_3 : tie.Need-overflow-mul-packed-3
+mul_packed_3 : tie.Need-offset_bounds-packed-at-3
 mul_packed_3 c = search rules
 
 -- src/lib.rt:36:5
-slice_write_packed_3 : tie.Need-slice-write-packed-3
+slice_write_packed_3 : tie.Need-bounds-packed-at-3
 slice_write_packed_3 c = simp length-set (omega (arith, c.requires))
 
 -- src/lib.rt:37:12
-add_packed_3 : tie.Need-overflow-add-packed-3
+add_packed_3 : tie.Need-overflow_add-packed-3
 add_packed_3 c = search rules
 
 -- src/lib.rt:37:5
-mul_packed_4 : tie.Need-overflow-mul-packed-4
+mul_packed_4 : tie.Need-offset_bounds-packed-at-4
 mul_packed_4 c = search rules
 
 -- src/lib.rt:37:5
-slice_write_packed_4 : tie.Need-slice-write-packed-4
+slice_write_packed_4 : tie.Need-bounds-packed-at-4
 slice_write_packed_4 c = simp length-set (omega (arith, c.requires))
 
 -- src/lib.rt:38:12
-add_packed_4 : tie.Need-overflow-add-packed-4
+add_packed_4 : tie.Need-overflow_add-packed-4
 add_packed_4 c = search rules
 
 -- src/lib.rt:38:5
-mul_packed_5 : tie.Need-overflow-mul-packed-5
+mul_packed_5 : tie.Need-offset_bounds-packed-at-5
 mul_packed_5 c = search rules
 
 -- src/lib.rt:38:5
-slice_write_packed_5 : tie.Need-slice-write-packed-5
+slice_write_packed_5 : tie.Need-bounds-packed-at-5
 slice_write_packed_5 c = simp length-set (omega (arith, c.requires))
 
 -- src/lib.rt:39:12
-add_packed_5 : tie.Need-overflow-add-packed-5
+add_packed_5 : tie.Need-overflow_add-packed-5
 add_packed_5 c = search rules
 
 -- src/lib.rt:39:5
-mul_packed_6 : tie.Need-overflow-mul-packed-6
+mul_packed_6 : tie.Need-offset_bounds-packed-at-6
 mul_packed_6 c = search rules
 
 -- src/lib.rt:39:5
-slice_write_packed_6 : tie.Need-slice-write-packed-6
+slice_write_packed_6 : tie.Need-bounds-packed-at-6
 slice_write_packed_6 c = simp length-set (omega (arith, c.requires))
 
 -- src/lib.rt:29:1
-same_length : tie.Need-same-length
+same_length : tie.Need-shape_of-packed
 same_length c = search rules
 
 -- src/lib.rt:29:1

@@ -4,16 +4,16 @@ use Rattle.walk.proofs.take.Statement.{statement}
 use Rattle.walk.proofs.take.Tie as tie
 
 put_requires : tie.Need-put-requires
-put_requires c κs = let r = take_room c.before.before.before.requires in (r.0, r.1, r.2)
+put_requires c κs = let r = take_room c.requires in (r.0, r.1, r.2)
 
-add_resume : tie.Need-overflow-add-resume
-add_resume c = omega (arith, take_room c.before.before.before.before.before.before.requires)
+add_resume : tie.Need-overflow_add-x
+add_resume c = omega (arith, take_room c.requires)
 
 resume_requires : tie.Need-resume-requires
-resume_requires c κs = take_resume c.before.before.put.ensures c.before.before.before.before.before.before.requires
+resume_requires c κs = take_resume c.put.ensures c.requires
 
 returns : tie.Need-returns
-returns c = take_is c.before.before.before.put.ensures c.resume.ensures
+returns c = take_is c.put.ensures c.resume.ensures
 
 pub take_spec : {M : Type 1} → statement M
 take_spec = tie.close (tie.spec put_requires add_resume resume_requires returns)

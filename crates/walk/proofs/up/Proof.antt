@@ -4,78 +4,78 @@ use borrow.Author.Rules.{rules}
 use Rattle.walk.proofs.up.Statement.{statement}
 use Rattle.walk.proofs.up.Tie as tie
 
-abbrev invariant_loop : tie.invariant_loop
+abbrev invariant_loop : tie.invariant-loop-q
 invariant_loop label size pattern record₀ at₀ p n q₀ m₀ record₁ at₁ q m = Rising label size pattern record₀ record₁ at₀ at₁ p n q m
 
-abbrev decreases_loop : tie.decreases_loop
+abbrev decreases_loop : tie.decreases-loop-q
 decreases_loop label size pattern record₀ at₀ p n q₀ m₀ record₁ at₁ q m = q
 
 -- a turn, below the root
-below : (c : tie.In-loop invariant_loop decreases_loop) →
-    let a = c.before.before.before.before.args in
-    let l = c.before.loop in
+below : (c : tie.In-loop-q invariant_loop decreases_loop) →
+    let a = c.args in
+    let l = c.loop-q in
     Below a.label.now a.size.now a.pattern.now a.«record».now l.«record» a.at.now l.at a.p a.n l.q l.m
-below c = record { pre = c.before.before.before.before.requires; rising = c.before.loop.invariant; more = c.loop-test.true }
+below c = record { pre = c.requires; rising = c.loop-q.invariant; more = c.loop-q-test.true }
 
-loop_holds : tie.Need-loop-init invariant_loop decreases_loop
+loop_holds : tie.Need-loop-q-init invariant_loop decreases_loop
 loop_holds c = rising_first
 
-holder_requires : tie.Need-holder-requires invariant_loop decreases_loop
+holder_requires : tie.Need-holder-h-requires invariant_loop decreases_loop
 holder_requires c κs = (up_holding (below c)).room
 
 kind_requires : tie.Need-kind-requires invariant_loop decreases_loop
-kind_requires c κs = omega (arith, (up_holding (below c.before)).room, (up_holding (below c.before)).lower, c.holder.ensures)
+kind_requires c κs = omega (arith, (up_holding (below c.before)).room, (up_holding (below c.before)).lower, c.holder-h.ensures)
 
-loop_less : tie.Need-loop-smaller invariant_loop decreases_loop
-loop_less c = omega (arith, (up_holding (below c.before.before.before)).lower, c.before.before.holder.ensures)
+loop_less : tie.Need-loop-q-smaller-then-kind-eq-CONTEXT invariant_loop decreases_loop
+loop_less c = omega (arith, (up_holding (below c.before.before.before)).lower, c.holder-h.ensures)
 
-loop_again : tie.Need-loop-preserved invariant_loop decreases_loop
-loop_again c = up_context (below c.before.before.before) c.before.before.holder.ensures (omega (arith, c.before.kind.ensures, c.if1.true))
+loop_again : tie.Need-loop-q-preserved-then-kind-eq-CONTEXT invariant_loop decreases_loop
+loop_again c = up_context (below c.before.before.before) c.holder-h.ensures (omega (arith, c.kind.ensures, c.if-kind-eq-CONTEXT.true))
 
-row_requires : tie.Need-row-requires invariant_loop decreases_loop
+row_requires : tie.Need-row-t-requires invariant_loop decreases_loop
 row_requires c κs = (up_holding (below c.before.before.before.before)).few
 
-row_requires_2 : tie.Need-row-requires-2 invariant_loop decreases_loop
+row_requires_2 : tie.Need-row-g-requires invariant_loop decreases_loop
 row_requires_2 c κs = (up_row (below c.before.before.before.before.before.before) c.before.before.before.before.before.holder.ensures (omega (arith, c.before.before.before.before.kind.ensures, c.before.before.before.if1.false))).1
 
 next_requires : tie.Need-next-requires invariant_loop decreases_loop
 next_requires c κs = (up_holding (below c.before.before.before.before.before.before.before.before.before)).room
 
-next_requires_2 : tie.Need-next-requires-2 invariant_loop decreases_loop
+next_requires_2 : tie.Need-next-requires-else-kind-eq-CONTEXT invariant_loop decreases_loop
 next_requires_2 c κs = (up_row (below c.before.before.before.before.before.before.before.before.before.before) c.before.before.before.before.before.before.before.before.before.holder.ensures (omega (arith, c.before.before.before.before.before.before.before.before.kind.ensures, c.before.before.before.before.before.before.before.if1.false))).2
 
-next_requires_3 : tie.Need-next-requires-3 invariant_loop decreases_loop
+next_requires_3 : tie.Need-next-requires-else-kind-eq-CONTEXT-2 invariant_loop decreases_loop
 next_requires_3 c κs = omega (arith, (up_holding (below c.before.before.before.before.before.before.before.before.before.before.before)).row, c.before.before.before.before.before.before.row.ensures)
 
-next_requires_4 : tie.Need-next-requires-4 invariant_loop decreases_loop
-next_requires_4 c κs = omega (arith, (up_row (below c.before.before.before.before.before.before.before.before.before.before.before.before) c.before.before.before.before.before.before.before.before.before.before.before.holder.ensures (omega (arith, c.before.before.before.before.before.before.before.before.before.before.kind.ensures, c.before.before.before.before.before.before.before.before.before.if1.false))).0, c.before.before.before.before.before.row2.ensures)
+next_requires_4 : tie.Need-next-requires-else-kind-eq-CONTEXT-3 invariant_loop decreases_loop
+next_requires_4 c κs = omega (arith, (up_row (below c.before.before.before.before.before.before.before.before.before.before.before.before) c.before.before.before.before.before.before.before.before.before.before.before.holder.ensures (omega (arith, c.before.before.before.before.before.before.before.before.before.before.kind.ensures, c.before.before.before.before.before.before.before.before.before.if1.false))).0, c.row-g.ensures)
 
 args_requires : tie.Need-args-requires invariant_loop decreases_loop
-args_requires c κs = up_list_pre (below c.before.before.before.before.before.before.before.before.before.before.before.before.before) c.before.before.before.before.before.before.before.before.before.before.before.before.holder.ensures (omega (arith, c.before.before.before.before.before.before.before.before.before.before.before.kind.ensures, c.before.before.before.before.before.before.before.before.before.before.if1.false)) c.before.before.before.next.ensures c.before.before.next2.ensures c.before.before.before.before.before.before.before.before.row.ensures c.before.next3.ensures c.before.before.before.before.before.before.row2.ensures c.next4.ensures
+args_requires c κs = up_list_pre (below c.before.before.before.before.before.before.before.before.before.before.before.before.before) c.before.before.before.before.before.before.before.before.before.before.before.before.holder.ensures (omega (arith, c.before.before.before.before.before.before.before.before.before.before.before.kind.ensures, c.before.before.before.before.before.before.before.before.before.before.if1.false)) c.next.ensures c.next-else-kind-eq-CONTEXT.ensures c.before.before.before.before.before.before.before.before.row.ensures c.next-else-kind-eq-CONTEXT-2.ensures c.row-g.ensures c.next-else-kind-eq-CONTEXT-3.ensures
 
-enum_told : tie.Need-enum-told invariant_loop decreases_loop
+enum_told : tie.Need-enum_told-1 invariant_loop decreases_loop
 enum_told c = search rules
 
-returns : tie.Need-returns invariant_loop decreases_loop
-returns c = up_fails (below c.before.before.before.before.before.before.before.before.before.before.before.before.before.before.before.before) c.before.before.before.before.before.before.before.before.before.before.before.before.before.before.before.holder.ensures (omega (arith, c.before.before.before.before.before.before.before.before.before.before.before.before.before.before.kind.ensures, c.before.before.before.before.before.before.before.before.before.before.before.before.before.if1.false)) c.before.before.before.before.before.before.next.ensures c.before.before.before.before.before.next2.ensures c.before.before.before.before.before.before.before.before.before.before.before.row.ensures c.before.before.before.before.next3.ensures c.before.before.before.before.before.before.before.before.before.row2.ensures c.before.before.before.next4.ensures c.before.before.args2.ensures c.enum_told.given.1
+returns : tie.Need-returns-in-Fail invariant_loop decreases_loop
+returns c = up_fails (below c.before.before.before.before.before.before.before.before.before.before.before.before.before.before.before.before) c.before.before.before.before.before.before.before.before.before.before.before.before.before.before.before.holder.ensures (omega (arith, c.before.before.before.before.before.before.before.before.before.before.before.before.before.before.kind.ensures, c.before.before.before.before.before.before.before.before.before.before.before.before.before.if1.false)) c.next.ensures c.next-else-kind-eq-CONTEXT.ensures c.before.before.before.before.before.before.before.before.before.before.before.row.ensures c.next-else-kind-eq-CONTEXT-2.ensures c.row-g.ensures c.next-else-kind-eq-CONTEXT-3.ensures c.args-else-kind-eq-CONTEXT.ensures c.enum_told-1.given.1
 
-enum_known_w : tie.Need-enum-known-w invariant_loop decreases_loop
+enum_known_w : tie.Need-enum_known-w invariant_loop decreases_loop
 enum_known_w c = search rules
 
-returns_2 : tie.Need-returns-2 invariant_loop decreases_loop
-returns_2 c = up_needs (below c.before.before.before.before.before.before.before.before.before.before.before.before.before.before.before.before.before) c.before.before.before.before.before.before.before.before.before.before.before.before.before.before.before.before.holder.ensures (omega (arith, c.before.before.before.before.before.before.before.before.before.before.before.before.before.before.before.kind.ensures, c.before.before.before.before.before.before.before.before.before.before.before.before.before.before.if1.false)) c.before.before.before.before.before.before.before.next.ensures c.before.before.before.before.before.before.next2.ensures c.before.before.before.before.before.before.before.before.before.before.before.before.row.ensures c.before.before.before.before.before.next3.ensures c.before.before.before.before.before.before.before.before.before.before.row2.ensures c.before.before.before.before.next4.ensures c.before.before.before.args2.ensures c.before.w.given.1
+returns_2 : tie.Need-returns-in-Need invariant_loop decreases_loop
+returns_2 c = up_needs (below c.before.before.before.before.before.before.before.before.before.before.before.before.before.before.before.before.before) c.before.before.before.before.before.before.before.before.before.before.before.before.before.before.before.before.holder.ensures (omega (arith, c.before.before.before.before.before.before.before.before.before.before.before.before.before.before.before.kind.ensures, c.before.before.before.before.before.before.before.before.before.before.before.before.before.before.if1.false)) c.next.ensures c.next-else-kind-eq-CONTEXT.ensures c.before.before.before.before.before.before.before.before.before.before.before.before.row.ensures c.next-else-kind-eq-CONTEXT-2.ensures c.row-g.ensures c.next-else-kind-eq-CONTEXT-3.ensures c.args-else-kind-eq-CONTEXT.ensures c.w-1.given.1
 
-enum_known_k : tie.Need-enum-known-k invariant_loop decreases_loop
+enum_known_k : tie.Need-enum_known-k invariant_loop decreases_loop
 enum_known_k c = search rules
 
-loop_less_2 : tie.Need-loop-smaller-2 invariant_loop decreases_loop
+loop_less_2 : tie.Need-loop-q-smaller invariant_loop decreases_loop
 loop_less_2 c = omega (arith, (up_holding (below c.before.before.before.before.before.before.before.before.before.before.before.before.before.before.before.before.before)).lower, c.before.before.before.before.before.before.before.before.before.before.before.before.before.before.before.before.holder.ensures)
 
-loop_again_2 : tie.Need-loop-preserved-2 invariant_loop decreases_loop
-loop_again_2 c = up_goes (below c.before.before.before.before.before.before.before.before.before.before.before.before.before.before.before.before.before) c.before.before.before.before.before.before.before.before.before.before.before.before.before.before.before.before.holder.ensures (omega (arith, c.before.before.before.before.before.before.before.before.before.before.before.before.before.before.before.kind.ensures, c.before.before.before.before.before.before.before.before.before.before.before.before.before.before.if1.false)) c.before.before.before.before.before.before.before.next.ensures c.before.before.before.before.before.before.next2.ensures c.before.before.before.before.before.before.before.before.before.before.before.before.row.ensures c.before.before.before.before.before.next3.ensures c.before.before.before.before.before.before.before.before.before.before.row2.ensures c.before.before.before.before.next4.ensures c.before.before.before.args2.ensures c.before.k.given.1
+loop_again_2 : tie.Need-loop-q-preserved invariant_loop decreases_loop
+loop_again_2 c = up_goes (below c.before.before.before.before.before.before.before.before.before.before.before.before.before.before.before.before.before) c.before.before.before.before.before.before.before.before.before.before.before.before.before.before.before.before.holder.ensures (omega (arith, c.before.before.before.before.before.before.before.before.before.before.before.before.before.before.before.kind.ensures, c.before.before.before.before.before.before.before.before.before.before.before.before.before.before.if1.false)) c.next.ensures c.next-else-kind-eq-CONTEXT.ensures c.before.before.before.before.before.before.before.before.before.before.before.before.row.ensures c.next-else-kind-eq-CONTEXT-2.ensures c.row-g.ensures c.next-else-kind-eq-CONTEXT-3.ensures c.args-else-kind-eq-CONTEXT.ensures c.k-1.given.1
 
-returns_3 : tie.Need-returns-3 invariant_loop decreases_loop
-returns_3 c = up_ends c.before.loop.invariant c.loop-test.false
+returns_3 : tie.Need-returns invariant_loop decreases_loop
+returns_3 c = up_ends c.loop-q.invariant c.loop-q-test.false
 
 pub up_spec : {M : Type 1} → statement M
 up_spec =

@@ -5,41 +5,41 @@ use borrow.Author.Rules.{rules}
 use Rattle.words.proofs.same_bytes.Statement.{statement}
 use Rattle.words.proofs.same_bytes.Tie as tie
 
-abbrev invariant_loop : tie.invariant_loop
+abbrev invariant_loop : tie.invariant-loop-k
 invariant_loop left at right from length k₀ k = Again left at right from k
 
-abbrev decreases_loop : tie.decreases_loop
+abbrev decreases_loop : tie.decreases-loop-k
 decreases_loop left at right from length k₀ k = length - k
 
-loop_holds : tie.Need-loop-init invariant_loop decreases_loop
+loop_holds : tie.Need-loop-k-init invariant_loop decreases_loop
 loop_holds c = again_none _ _ _ _
 
-add_if1 : tie.Need-overflow-add-if1 invariant_loop decreases_loop
+add_if1 : tie.Need-overflow_add-at invariant_loop decreases_loop
 add_if1 c = search rules
 
-shared_slice_read_if1 : tie.Need-shared-slice-read-if1 invariant_loop decreases_loop
+shared_slice_read_if1 : tie.Need-bounds-left-at invariant_loop decreases_loop
 shared_slice_read_if1 c = search rules
 
-add_if1_2 : tie.Need-overflow-add-if1-2 invariant_loop decreases_loop
+add_if1_2 : tie.Need-overflow_add-from invariant_loop decreases_loop
 add_if1_2 c = search rules
 
-shared_slice_read_if1_2 : tie.Need-shared-slice-read-if1-2 invariant_loop decreases_loop
+shared_slice_read_if1_2 : tie.Need-bounds-right-from invariant_loop decreases_loop
 shared_slice_read_if1_2 c = search rules
 
-returns : tie.Need-returns invariant_loop decreases_loop
-returns c = says_byte _ c.before.before.before.loop-test.true c.if1.true
+returns : tie.Need-returns-then-left-at invariant_loop decreases_loop
+returns c = says_byte _ c.loop-k-test.true c.if-left-at.true
 
-add_k : tie.Need-overflow-add-k invariant_loop decreases_loop
+add_k : tie.Need-overflow_add-k invariant_loop decreases_loop
 add_k c = search rules
 
-loop_less : tie.Need-loop-smaller invariant_loop decreases_loop
+loop_less : tie.Need-loop-k-smaller invariant_loop decreases_loop
 loop_less c = search rules
 
-loop_again : tie.Need-loop-preserved invariant_loop decreases_loop
-loop_again c = again_one c.before.before.before.before.loop.invariant c.if1.false
+loop_again : tie.Need-loop-k-preserved invariant_loop decreases_loop
+loop_again c = again_one c.loop-k.invariant c.if-left-at.false
 
-returns_2 : tie.Need-returns-2 invariant_loop decreases_loop
-returns_2 c = says_all c.before.loop.invariant c.loop-test.false
+returns_2 : tie.Need-returns invariant_loop decreases_loop
+returns_2 c = says_all c.loop-k.invariant c.loop-k-test.false
 
 pub same_bytes_spec : {M : Type 1} → statement M
 same_bytes_spec =

@@ -6,50 +6,50 @@ use borrow.Author.Rules.{rules}
 use Rattle.dictionary.proofs.index.is_at.Statement.{statement}
 use Rattle.dictionary.proofs.index.is_at.Tie as tie
 
-mul_number : tie.Need-overflow-mul-number
+mul_number : tie.Need-overflow_mul-place
 mul_number c = search rules
 
-add_number : tie.Need-overflow-add-number
+add_number : tie.Need-overflow_add-place
 add_number c = search rules
 
-number_requires : tie.Need-number-requires
+number_requires : tie.Need-number-at-requires
 number_requires c κs = search rules
 
-mul_number_2 : tie.Need-overflow-mul-number-2
+mul_number_2 : tie.Need-overflow_mul-place-2
 mul_number_2 c = search rules
 
-add_number_2 : tie.Need-overflow-add-number-2
+add_number_2 : tie.Need-overflow_add-place-2
 add_number_2 c = search rules
 
-number_requires_2 : tie.Need-number-requires-2
+number_requires_2 : tie.Need-number-to-requires
 number_requires_2 c κs = search rules
 
-sub_if1 : tie.Need-overflow-sub-if1
-sub_if1 c = let s = c.before.before.before.before.before in entry_ordered s.requires.0.1 s.args.place s.requires.1 c.before.number.ensures c.number2.ensures
+sub_if1 : tie.Need-overflow_sub-to
+sub_if1 c = let s = c.before.before.before.before.before in entry_ordered s.requires.0.1 s.args.place s.requires.1 c.number-at.ensures c.number-to.ensures
 
-sub_if1_2 : tie.Need-overflow-sub-if1-2
+sub_if1_2 : tie.Need-overflow_sub-end
 sub_if1_2 c = search rules
 
-returns : tie.Need-returns
-returns c = let s = c.before.before.before.before.before.before in λ known m. entry_differs m s.args.place s.requires.1 c.before.before.number.ensures c.before.number2.ensures c.if1.true
+returns : tie.Need-returns-then-to-at
+returns c = let s = c.before.before.before.before.before.before in λ known m. entry_differs m s.args.place s.requires.1 c.number-at.ensures c.number-to.ensures c.if-to-at.true
 
-sub_same : tie.Need-overflow-sub-same
+sub_same : tie.Need-overflow_sub-end-then-place-names
 sub_same c = search rules
 
 same_requires : tie.Need-same-requires
-same_requires c κs = let s = c.before.before.before.before.before.before.before in (name_inside s.requires.0.1 s.args.place s.requires.1 c.before.before.before.number.ensures c.before.before.number2.ensures (omega arith) c.before.if1.false, omega (arith, s.requires.0.1.ordered, s.requires.0.1.inside))
+same_requires c κs = let s = c.before.before.before.before.before.before.before in (name_inside s.requires.0.1 s.args.place s.requires.1 c.number-at.ensures c.number-to.ensures (omega arith) c.if-to-at.false, omega (arith, s.requires.0.1.ordered, s.requires.0.1.inside))
 
-returns_2 : tie.Need-returns-2
-returns_2 c = let s = c.before.before.before.before.before.before.before.before in λ known m. name_says m s.args.place s.requires.1 c.before.before.before.before.number.ensures c.before.before.before.number2.ensures (omega arith) c.before.before.if1.false c.same.result (says_range (name_inside m s.args.place s.requires.1 c.before.before.before.before.number.ensures c.before.before.before.number2.ensures (omega arith) c.before.before.if1.false) m.inside c.same.ensures)
+returns_2 : tie.Need-returns-then-place-names
+returns_2 c = let s = c.before.before.before.before.before.before.before.before in λ known m. name_says m s.args.place s.requires.1 c.number-at.ensures c.number-to.ensures (omega arith) c.if-to-at.false c.same.result (says_range (name_inside m s.args.place s.requires.1 c.number-at.ensures c.number-to.ensures (omega arith) c.if-to-at.false) m.inside c.same.ensures)
 
-sub_same_2 : tie.Need-overflow-sub-same-2
+sub_same_2 : tie.Need-overflow_sub-end-2
 sub_same_2 c = search rules
 
 same_requires_2 : tie.Need-same-requires-2
-same_requires_2 c κs = let s = c.before.before.before.before.before.before.before in (learnt_inside s.requires.0.1 s.args.place s.requires.1 c.before.before.before.number.ensures c.before.before.number2.ensures (omega arith) c.before.if1.false, omega (arith, s.requires.0.1.ordered, s.requires.0.1.inside))
+same_requires_2 c κs = let s = c.before.before.before.before.before.before.before in (learnt_inside s.requires.0.1 s.args.place s.requires.1 c.number-at.ensures c.number-to.ensures (omega arith) c.if-to-at.false, omega (arith, s.requires.0.1.ordered, s.requires.0.1.inside))
 
-returns_3 : tie.Need-returns-3
-returns_3 c = let s = c.before.before.before.before.before.before.before.before in λ known m. learnt_says m s.args.place s.requires.1 c.before.before.before.before.number.ensures c.before.before.before.number2.ensures (omega arith) c.before.before.if1.false c.same2.result (says_range (learnt_inside m s.args.place s.requires.1 c.before.before.before.before.number.ensures c.before.before.before.number2.ensures (omega arith) c.before.before.if1.false) m.inside c.same2.ensures)
+returns_3 : tie.Need-returns
+returns_3 c = let s = c.before.before.before.before.before.before.before.before in λ known m. learnt_says m s.args.place s.requires.1 c.number-at.ensures c.number-to.ensures (omega arith) c.if-to-at.false c.same-2.result (says_range (learnt_inside m s.args.place s.requires.1 c.number-at.ensures c.number-to.ensures (omega arith) c.if-to-at.false) m.inside c.same-2.ensures)
 
 pub is_at_spec : {M : Type 1} → statement M
 is_at_spec =

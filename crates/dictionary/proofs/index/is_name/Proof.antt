@@ -6,48 +6,48 @@ use borrow.Author.Rules.{rules}
 use Rattle.dictionary.proofs.index.is_name.Statement.{statement}
 use Rattle.dictionary.proofs.index.is_name.Tie as tie
 
-mul_number : tie.Need-overflow-mul-number
+mul_number : tie.Need-overflow_mul-place
 mul_number c = search rules
 
-add_number : tie.Need-overflow-add-number
+add_number : tie.Need-overflow_add-place
 add_number c = search rules
 
-number_requires : tie.Need-number-requires
+number_requires : tie.Need-number-at-requires
 number_requires c κs = search rules
 
-mul_number_2 : tie.Need-overflow-mul-number-2
+mul_number_2 : tie.Need-overflow_mul-place-2
 mul_number_2 c = search rules
 
-add_number_2 : tie.Need-overflow-add-number-2
+add_number_2 : tie.Need-overflow_add-place-2
 add_number_2 c = search rules
 
-number_requires_2 : tie.Need-number-requires-2
+number_requires_2 : tie.Need-number-to-requires
 number_requires_2 c κs = search rules
 
-sub_if1 : tie.Need-overflow-sub-if1
-sub_if1 c = let s = c.before.before.before.before in entry_ordered s.requires.0.1 s.args.place s.requires.1 c.before.number.ensures c.number2.ensures
+sub_if1 : tie.Need-overflow_sub-to
+sub_if1 c = let s = c.before.before.before.before in entry_ordered s.requires.0.1 s.args.place s.requires.1 c.number-at.ensures c.number-to.ensures
 
-sub_if1_2 : tie.Need-overflow-sub-if1-2
+sub_if1_2 : tie.Need-overflow_sub-end
 sub_if1_2 c = search rules
 
-returns : tie.Need-returns
-returns c = let s = c.before.before.before.before.before in λ known m. entry_differs m s.args.place s.requires.1 c.before.before.number.ensures c.before.number2.ensures c.if1.true
+returns : tie.Need-returns-then-to-at
+returns c = let s = c.before.before.before.before.before in λ known m. entry_differs m s.args.place s.requires.1 c.number-at.ensures c.number-to.ensures c.if-to-at.true
 
-sub_same_bytes : tie.Need-overflow-sub-same-bytes
+sub_same_bytes : tie.Need-overflow_sub-end-2
 sub_same_bytes c = search rules
 
-same_bytes_requires : tie.Need-same-bytes-requires
+same_bytes_requires : tie.Need-same_bytes-requires
 same_bytes_requires c κs =
     let s = c.before.before.before.before.before in
-    (learnt_inside s.requires.0.1 s.args.place s.requires.1 c.before.before.number.ensures c.before.number2.ensures (omega arith) c.if1.false, omega (arith, s.requires.0.1.ordered, s.requires.0.1.inside))
+    (learnt_inside s.requires.0.1 s.args.place s.requires.1 c.number-at.ensures c.number-to.ensures (omega arith) c.if-to-at.false, omega (arith, s.requires.0.1.ordered, s.requires.0.1.inside))
 
-returns_2 : tie.Need-returns-2
+returns_2 : tie.Need-returns
 returns_2 c =
     let s = c.before.before.before.before.before.before in
     let at = c.before.before.before in
     let to = c.before.before in
-    λ known m. learnt_says m s.args.place s.requires.1 at.number.ensures to.number2.ensures (omega arith) c.before.if1.false c.same_bytes.result
-    (says_range (learnt_inside m s.args.place s.requires.1 at.number.ensures to.number2.ensures (omega arith) c.before.if1.false) m.inside c.same_bytes.ensures)
+    λ known m. learnt_says m s.args.place s.requires.1 at.number-at.ensures to.number-to.ensures (omega arith) c.if-to-at.false c.same_bytes.result
+    (says_range (learnt_inside m s.args.place s.requires.1 at.number-at.ensures to.number-to.ensures (omega arith) c.if-to-at.false) m.inside c.same_bytes.ensures)
 
 pub is_name_spec : {M : Type 1} → statement M
 is_name_spec =

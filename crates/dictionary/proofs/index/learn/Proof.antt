@@ -8,29 +8,29 @@ use borrow.Author.Rules.{rules}
 use Rattle.dictionary.proofs.index.learn.Statement.{statement}
 use Rattle.dictionary.proofs.index.learn.Tie as tie
 
-bucket_of_requires : tie.Need-bucket-of-requires
+bucket_of_requires : tie.Need-bucket_of-bucket-requires
 bucket_of_requires c κs = search rules
 
-seek_name_requires : tie.Need-seek-name-requires
+seek_name_requires : tie.Need-seek_name-place-requires
 seek_name_requires c κs = search rules
 
-same_length : tie.Need-same-length
+same_length : tie.Need-shape_of-index-then-place-count
 same_length c = search rules
 
-returns : tie.Need-returns
-returns c = λ known m. numbered_old m (c.before.seek-name.ensures known m) c.if1.true
+returns : tie.Need-returns-then-place-count
+returns c = λ known m. numbered_old m (c.seek_name-place.ensures known m) c.if-place-count.true
 
 insert_requires : tie.Need-insert-requires
 insert_requires c κs =
-    let a = c.before.before.before.before.before.before.before.args in
+    let a = c.args in
     let low : c.before.before.before.before.bucket-of.result < 2048 = rw c.before.before.before.before.bucket-of.ensures (bucket_below (range a.dictionary.now a.start a.end)) in
-    (omega (arith, c.before.before.before.before.before.before.before.requires.1.room), omega (arith, c.before.before.before.before.before.before.before.requires.1.countable), low, omega (arith, c.before.before.before.before.before.before.before.requires.1), omega (arith, c.before.before.before.before.before.before.before.requires.1.short))
+    (omega (arith, c.requires.1.room), omega (arith, c.requires.1.countable), low, omega (arith, c.requires.1), omega (arith, c.requires.1.short))
 
-same_length_2 : tie.Need-same-length-2
+same_length_2 : tie.Need-shape_of-index
 same_length_2 c = search rules
 
-returns_2 : tie.Need-returns-2
-returns_2 c = λ known m. numbered_new m (c.before.before.before.before.before.seek-name.ensures known m) c.before.before.before.before.if1.false c.before.before.before.before.before.before.before.bucket-of.ensures c.before.before.insert.ensures
+returns_2 : tie.Need-returns
+returns_2 c = λ known m. numbered_new m (c.seek_name-place.ensures known m) c.if-place-count.false c.before.before.before.before.before.before.before.bucket-of.ensures c.insert.ensures
 
 pub learn_spec : {M : Type 1} → statement M
 learn_spec =

@@ -10,50 +10,50 @@ use borrow.Author.Rules.{rules}
 use Rattle.dictionary.proofs.index.seek_name.Statement.{statement}
 use Rattle.dictionary.proofs.index.seek_name.Tie as tie
 
-abbrev invariant_loop : tie.invariant_loop
+abbrev invariant_loop : tie.invariant-loop-next
 invariant_loop dictionary index count bucket start end next₀ next =
     (known : List (List ℕ)) → MayNumber dictionary dictionary 0 index count start end known → Sought known (range dictionary start end) next
 
-abbrev decreases_loop : tie.decreases_loop
+abbrev decreases_loop : tie.decreases-loop-next
 decreases_loop dictionary index count bucket start end next₀ next = next
 
-number_requires : tie.Need-number-requires invariant_loop decreases_loop
+number_requires : tie.Need-number-next-requires invariant_loop decreases_loop
 number_requires c κs =
-    omega (arith, c.before.before.requires.1, bucket_below (range c.before.before.args.dictionary.now c.before.before.args.start c.before.before.args.end))
+    omega (arith, c.requires.1, bucket_below (range c.args.dictionary.now c.args.start c.args.end))
 
-loop_holds : tie.Need-loop-init invariant_loop decreases_loop
-loop_holds c = λ known m. seek_begins m c.before.before.before.requires.1 c.number.ensures
+loop_holds : tie.Need-loop-next-init invariant_loop decreases_loop
+loop_holds c = λ known m. seek_begins m c.requires.1 c.number-next.ensures
 
-sub_place : tie.Need-overflow-sub-place invariant_loop decreases_loop
+sub_place : tie.Need-overflow_sub-place invariant_loop decreases_loop
 sub_place c = search rules
 
-is_name_requires : tie.Need-is-name-requires invariant_loop decreases_loop
-is_name_requires c κs = (c.before.before.before.before.before.requires.0, seek_place c.before.before.before.before.before.requires.0.1 (c.before.loop.invariant c.before.before.before.before.before.requires.0.0 c.before.before.before.before.before.requires.0.1) c.loop-test.true)
+is_name_requires : tie.Need-is_name-requires invariant_loop decreases_loop
+is_name_requires c κs = (c.requires.0, seek_place c.requires.0.1 (c.loop-next.invariant c.requires.0.0 c.requires.0.1) c.loop-next-test.true)
 
-returns : tie.Need-returns invariant_loop decreases_loop
-returns c = λ known m. seek_found m (c.before.before.before.loop.next - 1) c.before.is_name.result (seek_place m (c.before.before.before.loop.invariant known m) c.before.before.loop-test.true) (c.before.is_name.ensures known m) c.if1.true
+returns : tie.Need-returns-then-is_name invariant_loop decreases_loop
+returns c = λ known m. seek_found m (c.loop-next.next - 1) c.is_name.result (seek_place m (c.loop-next.invariant known m) c.loop-next-test.true) (c.is_name.ensures known m) c.if-is_name.true
 
 -- the place that was looked at is a known one
-below : (c : tie.Else1 invariant_loop decreases_loop) → c.before.before.before.loop.next - 1 < c.before.before.before.before.before.before.before.args.count
-below c = seek_place c.before.before.before.before.before.before.before.requires.0.1 (c.before.before.before.loop.invariant c.before.before.before.before.before.before.before.requires.0.0 c.before.before.before.before.before.before.before.requires.0.1) c.before.before.loop-test.true
+below : (c : tie.Else-is_name invariant_loop decreases_loop) → c.loop-next.next - 1 < c.args.count
+below c = seek_place c.requires.0.1 (c.loop-next.invariant c.requires.0.0 c.requires.0.1) c.loop-next-test.true
 
-mul_number : tie.Need-overflow-mul-number invariant_loop decreases_loop
+mul_number : tie.Need-overflow_mul-place invariant_loop decreases_loop
 mul_number c = omega (arith, below c)
 
-add_number : tie.Need-overflow-add-number invariant_loop decreases_loop
+add_number : tie.Need-overflow_add-place invariant_loop decreases_loop
 add_number c = omega (arith, below c)
 
-number_requires_2 : tie.Need-number-requires-2 invariant_loop decreases_loop
+number_requires_2 : tie.Need-number-next-requires-in-loop-next invariant_loop decreases_loop
 number_requires_2 c κs = omega (arith, below c)
 
-loop_less : tie.Need-loop-smaller invariant_loop decreases_loop
-loop_less c = omega (arith, seek_falls c.before.before.before.before.before.before.before.before.requires.0.1 c.before.before.before.before.loop.next (below c.before) c.number2.ensures)
+loop_less : tie.Need-loop-next-smaller invariant_loop decreases_loop
+loop_less c = omega (arith, seek_falls c.requires.0.1 c.loop-next.next (below c.before) c.number-next-in-loop-next.ensures)
 
-loop_again : tie.Need-loop-preserved invariant_loop decreases_loop
-loop_again c = λ known m. seek_next m c.before.before.is_name.result (c.before.before.before.before.loop.invariant known m) c.before.before.before.loop-test.true (c.before.before.is_name.ensures known m) c.before.if1.false c.number2.ensures
+loop_again : tie.Need-loop-next-preserved invariant_loop decreases_loop
+loop_again c = λ known m. seek_next m c.is_name.result (c.loop-next.invariant known m) c.loop-next-test.true (c.is_name.ensures known m) c.if-is_name.false c.number-next-in-loop-next.ensures
 
-returns_2 : tie.Need-returns-2 invariant_loop decreases_loop
-returns_2 c = λ known m. seek_ends m (c.before.loop.invariant known m) c.loop-test.false
+returns_2 : tie.Need-returns invariant_loop decreases_loop
+returns_2 c = λ known m. seek_ends m (c.loop-next.invariant known m) c.loop-next-test.false
 
 pub seek_name_spec : {M : Type 1} → statement M
 seek_name_spec =

@@ -8,23 +8,23 @@ use Rattle.dictionary.proofs.spelling.document_part.Tie as tie
 wide_requires : tie.Need-wide-requires
 wide_requires c κs = search rules
 
-returns : tie.Need-returns
-returns c = let a = c.before.before.before.args in document_outside a.document.now a.start a.length (omega arith)
+returns : tie.Need-returns-then-document-wide
+returns c = let a = c.args in document_outside a.document.now a.start a.length (omega arith)
 
 wide_requires_2 : tie.Need-wide-requires-2
 wide_requires_2 c κs = search rules
 
-sub_if2 : tie.Need-overflow-sub-if2
+sub_if2 : tie.Need-overflow_sub-document
 sub_if2 c = search rules
 
 wide_requires_3 : tie.Need-wide-requires-3
 wide_requires_3 c κs = search rules
 
-returns_2 : tie.Need-returns-2
-returns_2 c = let a = c.before.before.before.before.before.before.args in document_outside a.document.now a.start a.length (omega arith)
+returns_2 : tie.Need-returns-then-document-wide-2
+returns_2 c = let a = c.args in document_outside a.document.now a.start a.length (omega arith)
 
-returns_3 : tie.Need-returns-3
-returns_3 c = let a = c.before.before.before.before.before.before.args in document_inside a.document.now a.start a.length (omega arith)
+returns_3 : tie.Need-returns
+returns_3 c = let a = c.args in document_inside a.document.now a.start a.length (omega arith)
 
 pub document_part_spec : {M : Type 1} → statement M
 document_part_spec =

@@ -7,50 +7,50 @@ use borrow.Author.Rules.{rules}
 use Rattle.dictionary.proofs.spelling.part_of.Statement.{statement}
 use Rattle.dictionary.proofs.spelling.part_of.Tie as tie
 
-returns : tie.Need-returns
-returns c = far_label c.if1.true
+returns : tie.Need-returns-then-label-row
+returns c = far_label c.if-label-row.true
 
-returns_2 : tie.Need-returns-2
-returns_2 c = far_start c.before.if1.false c.if2.true
+returns_2 : tie.Need-returns-then-start-row
+returns_2 c = far_start c.if-label-row.false c.if-start-row.true
 
-returns_3 : tie.Need-returns-3
-returns_3 c = far_length c.before.before.if1.false c.before.if2.false c.if3.true
+returns_3 : tie.Need-returns-then-length-row
+returns_3 c = far_length c.if-label-row.false c.if-start-row.false c.if-length-row.true
 
-mul_wide : tie.Need-overflow-mul-wide
+mul_wide : tie.Need-offset_bounds-label-row
 mul_wide c = search rules
 
-shared_slice_read_wide : tie.Need-shared-slice-read-wide
+shared_slice_read_wide : tie.Need-bounds-label-row
 shared_slice_read_wide c = search rules
 
-wide_requires : tie.Need-wide-requires
+wide_requires : tie.Need-wide-place-requires
 wide_requires c κs = search rules
 
-check_requires : tie.Need-check-requires
+check_requires : tie.Need-check-checked-requires
 check_requires c κs = search rules
 
-name_part_requires : tie.Need-name-part-requires
-name_part_requires c κs = checked_names c.before.check.ensures (half c.before.before.wide.result) (omega arith)
+name_part_requires : tie.Need-name_part-requires
+name_part_requires c κs = checked_names c.check-checked.ensures (half c.wide-place.result) (omega arith)
 
-returns_4 : tie.Need-returns-4
-returns_4 c = name_answer c.before.before.before.before.before.before.before.if1.false c.before.before.before.before.before.before.if2.false c.before.before.before.before.before.if3.false (ap half c.before.before.before.wide.ensures.0) c.before.before.check.ensures (omega arith) c.name-part.ensures
+returns_4 : tie.Need-returns-then-place-names
+returns_4 c = name_answer c.if-label-row.false c.if-start-row.false c.if-length-row.false (ap half c.wide-place.ensures.0) c.check-checked.ensures (omega arith) c.name_part.ensures
 
-mul_document_part : tie.Need-overflow-mul-document-part
+mul_document_part : tie.Need-offset_bounds-start-row
 mul_document_part c = search rules
 
-shared_slice_read_document_part : tie.Need-shared-slice-read-document-part
+shared_slice_read_document_part : tie.Need-bounds-start-row
 shared_slice_read_document_part c = search rules
 
-mul_document_part_2 : tie.Need-overflow-mul-document-part-2
+mul_document_part_2 : tie.Need-offset_bounds-length-row
 mul_document_part_2 c = search rules
 
-shared_slice_read_document_part_2 : tie.Need-shared-slice-read-document-part-2
+shared_slice_read_document_part_2 : tie.Need-bounds-length-row
 shared_slice_read_document_part_2 c = search rules
 
-document_part_requires : tie.Need-document-part-requires
+document_part_requires : tie.Need-document_part-requires
 document_part_requires c κs = search rules
 
-returns_5 : tie.Need-returns-5
-returns_5 c = document_answer c.before.before.before.before.before.before.before.before.before.if1.false c.before.before.before.before.before.before.before.before.if2.false c.before.before.before.before.before.before.before.if3.false (ap half c.before.before.before.before.before.wide.ensures.0) c.before.before.before.before.check.ensures (omega arith) c.document_part.ensures
+returns_5 : tie.Need-returns
+returns_5 c = document_answer c.if-label-row.false c.if-start-row.false c.if-length-row.false (ap half c.wide-place.ensures.0) c.check-checked.ensures (omega arith) c.document_part.ensures
 
 pub part_of_spec : {M : Type 1} → statement M
 part_of_spec =

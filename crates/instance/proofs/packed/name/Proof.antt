@@ -5,14 +5,14 @@ use lib.Seq.{get_or-drop}
 use Rattle.instance.proofs.packed.name.Statement.{statement}
 use Rattle.instance.proofs.packed.name.Tie as tie
 
-add_at : tie.Need-overflow-add-at
-add_at c = omega (arith, c.before.well-formed, c.before.requires, length-drop 256 c.before.args.pattern.now)
+add_at : tie.Need-overflow_add-row
+add_at c = omega (arith, c.well_formed, c.requires, length-drop 256 c.args.pattern.now)
 
 at_requires : tie.Need-at-requires
-at_requires c κs = omega (arith, c.before.requires, length-drop 256 c.before.args.pattern.now)
+at_requires c κs = omega (arith, c.requires, length-drop 256 c.args.pattern.now)
 
 returns : tie.Need-returns
-returns c = (c.at.ensures.0 ∙ sym (get_or-drop 256 c.before.before.args.pattern.now c.before.before.args.row 0), c.at.ensures.1)
+returns c = (c.at.ensures.0 ∙ sym (get_or-drop 256 c.args.pattern.now c.args.row 0), c.at.ensures.1)
 
 pub name_spec : {M : Type 1} → statement M
 name_spec = tie.close (tie.spec add_at at_requires returns)

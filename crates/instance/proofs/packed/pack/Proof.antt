@@ -12,11 +12,11 @@ copy_requires_2 c κs = search rules
 copy_requires_3 : tie.Need-copy-requires-3
 copy_requires_3 c κs = search rules
 
-same_length : tie.Need-same-length
+same_length : tie.Need-shape_of-pattern
 same_length c = search rules
 
 returns : tie.Need-returns
-returns c = packed_is c.before.before.before.before.before.before.before.before.before.before.before.before.before.before.before.before.requires c.before.before.before.before.before.before.before.before.before.before.copy.ensures c.before.before.before.before.before.before.copy2.ensures c.before.before.copy3.ensures
+returns c = packed_is c.requires c.copy.ensures c.copy-2.ensures c.copy-3.ensures
 
 pub pack_spec : {M : Type 1} → statement M
 pack_spec = tie.close (tie.spec copy_requires copy_requires_2 copy_requires_3 same_length returns)

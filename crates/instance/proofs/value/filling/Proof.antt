@@ -4,29 +4,29 @@ use borrow.Author.Rules.{rules}
 use Rattle.instance.proofs.value.filling.Statement.{statement}
 use Rattle.instance.proofs.value.filling.Tie as tie
 
-add_at : tie.Need-overflow-add-at
+add_at : tie.Need-overflow_add-variable
 add_at c = search rules
 
-at_requires : tie.Need-at-requires
-at_requires c κs = omega (arith, (filling_fits c.before.requires).0)
+at_requires : tie.Need-at-start-requires
+at_requires c κs = omega (arith, (filling_fits c.requires).0)
 
-add_at_2 : tie.Need-overflow-add-at-2
+add_at_2 : tie.Need-overflow_add-variable-2
 add_at_2 c = search rules
 
-add_at_3 : tie.Need-overflow-add-at-3
+add_at_3 : tie.Need-overflow_add-variable-3
 add_at_3 c = search rules
 
-at_requires_2 : tie.Need-at-requires-2
-at_requires_2 c κs = omega (arith, (filling_fits c.before.before.requires).0)
+at_requires_2 : tie.Need-at-hole-requires
+at_requires_2 c κs = omega (arith, (filling_fits c.requires).0)
 
-sub_result : tie.Need-overflow-sub-result
-sub_result c = omega (arith, c.before.at.ensures, c.at2.ensures, (filling_fits c.before.before.before.requires).1)
+sub_result : tie.Need-overflow_sub-result
+sub_result c = omega (arith, c.at-start.ensures, c.at-hole.ensures, (filling_fits c.requires).1)
 
-add_result : tie.Need-overflow-add-result
-add_result c = omega (arith, c.before.at.ensures, c.at2.ensures, (filling_fits c.before.before.before.requires).2)
+add_result : tie.Need-overflow_add-result
+add_result c = omega (arith, c.at-start.ensures, c.at-hole.ensures, (filling_fits c.requires).2)
 
 returns : tie.Need-returns
-returns c = filling_is (omega (arith, c.before.at.ensures, c.at2.ensures))
+returns c = filling_is (omega (arith, c.at-start.ensures, c.at-hole.ensures))
 
 pub filling_spec : {M : Type 1} → statement M
 filling_spec =

@@ -10,89 +10,89 @@ use Rattle.openings.proofs.WalkBack.{PassingBack, pass_begins, before_end, befor
 use Rattle.openings.proofs.back.innermost_before.Statement.{statement}
 use Rattle.openings.proofs.back.innermost_before.Tie as tie
 
-abbrev invariant_loop : tie.invariant_loop
+abbrev invariant_loop : tie.invariant-loop-less
 invariant_loop document from at₀ inside₀ at inside = (p : Open) (o : List Open) → OpenAt document from (p ∷ o) → PassingBack document from (p ∷ o) at inside
 
-abbrev decreases_loop : tie.decreases_loop
+abbrev decreases_loop : tie.decreases-loop-less
 decreases_loop document from at₀ inside₀ at inside = at
 
-loop_holds : tie.Need-loop-init invariant_loop decreases_loop
+loop_holds : tie.Need-loop-less-init invariant_loop decreases_loop
 loop_holds c = λ p o now. pass_begins now
 
 -- what is open where the walk begins
-some : (c : tie.At-loop invariant_loop decreases_loop) → SomeOpen c.before.before.args.document.now c.before.before.args.from
-some c = c.before.before.requires
+some : (c : tie.At-loop-less invariant_loop decreases_loop) → SomeOpen c.args.document.now c.args.from
+some c = c.requires
 
 -- what the tag before the place did, whatever is open
-abbrev Did : (t : tie.After-tag-before invariant_loop decreases_loop) → Back → Type 0
+abbrev Did : (t : tie.After-tag_before invariant_loop decreases_loop) → Back → Type 0
 Did t r =
     let c = t.before in
-    let a = c.before.before.args in
-    (p : Open) (o : List Open) (now : OpenAt a.document.now a.from (p ∷ o)) → TagBefore a.document.now c.loop.at ((c.loop.invariant p o now).ended ++ (p ∷ o)) r
+    let a = c.args in
+    (p : Open) (o : List Open) (now : OpenAt a.document.now a.from (p ∷ o)) → TagBefore a.document.now c.loop-less.at ((c.loop-less.invariant p o now).ended ++ (p ∷ o)) r
 
-did : (t : tie.After-tag-before invariant_loop decreases_loop) → Did t t.tag-before.result
-did t p o now = t.tag-before.ensures _ (t.before.loop.invariant p o now).here
+did : (t : tie.After-tag_before invariant_loop decreases_loop) → Did t t.tag_before.result
+did t p o now = t.tag_before.ensures _ (t.loop-less.invariant p o now).here
 
 -- the arms: back to the tag
-abbrev ending : tie.After-known-told invariant_loop decreases_loop → tie.After-tag-before invariant_loop decreases_loop
+abbrev ending : tie.In-End invariant_loop decreases_loop → tie.After-tag_before invariant_loop decreases_loop
 ending c = c.before.before.before
 
-an_end : (c : tie.After-known-told invariant_loop decreases_loop) → Did (ending c) (End c.before.less.given.0.0)
-an_end c = subst (Did (ending c)) c.before.less.given.1 (did (ending c))
+an_end : (c : tie.In-End invariant_loop decreases_loop) → Did (ending c) (End c.less-1.given.0.0)
+an_end c = subst (Did (ending c)) c.less-1.given.1 (did (ending c))
 
-abbrev emptying : tie.After-known-told2 invariant_loop decreases_loop → tie.After-tag-before invariant_loop decreases_loop
+abbrev emptying : tie.In-Empty invariant_loop decreases_loop → tie.After-tag_before invariant_loop decreases_loop
 emptying c = c.before.before.before
 
-an_empty : (c : tie.After-known-told2 invariant_loop decreases_loop) → Did (emptying c) (Empty c.before.less2.given.0.0)
-an_empty c = subst (Did (emptying c)) c.before.less2.given.1 (did (emptying c))
+an_empty : (c : tie.In-Empty invariant_loop decreases_loop) → Did (emptying c) (Empty c.less-in-Empty-1.given.0.0)
+an_empty c = subst (Did (emptying c)) c.less-in-Empty-1.given.1 (did (emptying c))
 
-abbrev starting : tie.After-known-told3 invariant_loop decreases_loop → tie.After-tag-before invariant_loop decreases_loop
+abbrev starting : tie.In-Start invariant_loop decreases_loop → tie.After-tag_before invariant_loop decreases_loop
 starting c = c.before.before.before
 
-a_start : (c : tie.After-known-told3 invariant_loop decreases_loop) → Did (starting c) (Start c.before.less3.given.0.0)
-a_start c = subst (Did (starting c)) c.before.less3.given.1 (did (starting c))
+a_start : (c : tie.In-Start invariant_loop decreases_loop) → Did (starting c) (Start c.less-in-Start-1.given.0.0)
+a_start c = subst (Did (starting c)) c.less-in-Start-1.given.1 (did (starting c))
 
-tag_before_requires : tie.Need-tag-before-requires invariant_loop decreases_loop
-tag_before_requires c κs = let s = some c in pass_some (c.loop.invariant s.0 s.1 s.2)
+tag_before_requires : tie.Need-tag_before-requires invariant_loop decreases_loop
+tag_before_requires c κs = let s = some c in pass_some (c.loop-less.invariant s.0 s.1 s.2)
 
-enum_known_less : tie.Need-enum-known-smaller invariant_loop decreases_loop
+enum_known_less : tie.Need-enum_known-less invariant_loop decreases_loop
 enum_known_less c = search rules
 
-add_inside : tie.Need-overflow-add-inside invariant_loop decreases_loop
+add_inside : tie.Need-overflow_add-inside invariant_loop decreases_loop
 add_inside c =
     let h = (ending c).before in
     let s = some h in
     omega (arith, (h.loop.inv s.0 s.1 s.2).room, (before_end (an_end c s.0 s.1 s.2)).1)
 
-loop_less : tie.Need-loop-smaller invariant_loop decreases_loop
+loop_less : tie.Need-loop-less-smaller-in-End invariant_loop decreases_loop
 loop_less c = let s = some (ending c).before in (before_end (an_end c s.0 s.1 s.2)).1
 
-loop_again : tie.Need-loop-preserved invariant_loop decreases_loop
-loop_again c = λ p o now. pass_end ((ending c).before.loop.invariant p o now) (an_end c p o now)
+loop_again : tie.Need-loop-less-preserved-in-End invariant_loop decreases_loop
+loop_again c = λ p o now. pass_end ((ending c).loop-less.invariant p o now) (an_end c p o now)
 
-enum_known_less_2 : tie.Need-enum-known-smaller-2 invariant_loop decreases_loop
+enum_known_less_2 : tie.Need-enum_known-less-in-Empty-1 invariant_loop decreases_loop
 enum_known_less_2 c = search rules
 
-loop_less_2 : tie.Need-loop-smaller-2 invariant_loop decreases_loop
+loop_less_2 : tie.Need-loop-less-smaller-in-Empty invariant_loop decreases_loop
 loop_less_2 c = let s = some (emptying c).before in (before_empty (an_empty c s.0 s.1 s.2)).0
 
-loop_again_2 : tie.Need-loop-preserved-2 invariant_loop decreases_loop
-loop_again_2 c = λ p o now. pass_empty ((emptying c).before.loop.invariant p o now) (an_empty c p o now)
+loop_again_2 : tie.Need-loop-less-preserved-in-Empty invariant_loop decreases_loop
+loop_again_2 c = λ p o now. pass_empty ((emptying c).loop-less.invariant p o now) (an_empty c p o now)
 
-enum_known_less_3 : tie.Need-enum-known-smaller-3 invariant_loop decreases_loop
+enum_known_less_3 : tie.Need-enum_known-less-in-Start-1 invariant_loop decreases_loop
 enum_known_less_3 c = search rules
 
-returns : tie.Need-returns invariant_loop decreases_loop
-returns c = λ p o now. pass_found ((starting c.before).before.loop.inv p o now) c.if1.true (a_start c.before p o now)
+returns : tie.Need-returns-then-inside-eq0 invariant_loop decreases_loop
+returns c = λ p o now. pass_found ((starting c.before).loop-less.inv p o now) c.if-inside-eq0.true (a_start c.before p o now)
 
-sub_inside : tie.Need-overflow-sub-inside invariant_loop decreases_loop
+sub_inside : tie.Need-overflow_sub-inside invariant_loop decreases_loop
 sub_inside c = search rules
 
-loop_less_3 : tie.Need-loop-smaller-3 invariant_loop decreases_loop
+loop_less_3 : tie.Need-loop-less-smaller invariant_loop decreases_loop
 loop_less_3 c = let s = some (starting c.before).before in before_start (a_start c.before s.0 s.1 s.2)
 
-loop_again_3 : tie.Need-loop-preserved-3 invariant_loop decreases_loop
-loop_again_3 c = λ p o now. pass_start ((starting c.before).before.loop.inv p o now) c.if1.false (a_start c.before p o now)
+loop_again_3 : tie.Need-loop-less-preserved invariant_loop decreases_loop
+loop_again_3 c = λ p o now. pass_start ((starting c.before).loop-less.inv p o now) c.if-inside-eq0.false (a_start c.before p o now)
 
 pub innermost_before_spec : {M : Type 1} → statement M
 innermost_before_spec =

@@ -5,41 +5,41 @@ use Rattle.openings.proofs.LastTag.{Scanning, scan_begins, less_before, scan_fou
 use Rattle.openings.proofs.back.last_markup.Statement.{statement}
 use Rattle.openings.proofs.back.last_markup.Tie as tie
 
-abbrev invariant_loop : tie.invariant_loop
+abbrev invariant_loop : tie.invariant-loop-from
 invariant_loop document from at₀ shut₀ at shut = Scanning document from at shut
 
-abbrev decreases_loop : tie.decreases_loop
+abbrev decreases_loop : tie.decreases-loop-from
 decreases_loop document from at₀ shut₀ at shut = at
 
-loop_holds : tie.Need-loop-init invariant_loop decreases_loop
+loop_holds : tie.Need-loop-from-init invariant_loop decreases_loop
 loop_holds c = scan_begins _ _
 
-positive : (c : tie.At-loop invariant_loop decreases_loop) → 1 ≤ c.loop.at
-positive c = less_before c.loop.invariant c.before.before.requires
+positive : (c : tie.At-loop-from invariant_loop decreases_loop) → 1 ≤ c.loop-from.at
+positive c = less_before c.loop-from.invariant c.requires
 
-sub_at : tie.Need-overflow-sub-at invariant_loop decreases_loop
+sub_at : tie.Need-overflow_sub-at invariant_loop decreases_loop
 sub_at c = positive c
 
-shared_slice_read_b : tie.Need-shared-slice-read-b invariant_loop decreases_loop
+shared_slice_read_b : tie.Need-bounds-document-at invariant_loop decreases_loop
 shared_slice_read_b c =
     let h = c.before in
-    omega (arith, positive h, h.loop.invariant.within, h.before.before.requires.2.2.within)
+    omega (arith, positive h, h.loop-from.invariant.within, h.requires.2.2.within)
 
-returns : tie.Need-returns invariant_loop decreases_loop
+returns : tie.Need-returns-then-b-eq60 invariant_loop decreases_loop
 returns c =
     let h = c.before.before in
-    scan_found h.loop.invariant (positive h) c.if1.true
+    scan_found h.loop-from.invariant (positive h) c.if-b-eq60.true
 
-nearer_requires : tie.Need-nearer-requires invariant_loop decreases_loop
+nearer_requires : tie.Need-nearer-shut-requires invariant_loop decreases_loop
 nearer_requires c κs = search rules
 
-loop_less : tie.Need-loop-smaller invariant_loop decreases_loop
+loop_less : tie.Need-loop-from-smaller invariant_loop decreases_loop
 loop_less c = let h = c.before.before.before in omega (arith, positive h)
 
-loop_again : tie.Need-loop-preserved invariant_loop decreases_loop
+loop_again : tie.Need-loop-from-preserved invariant_loop decreases_loop
 loop_again c =
     let h = c.before.before.before in
-    scan_more h.loop.invariant (positive h) c.before.if1.false _ c.nearer.ensures.0 c.nearer.ensures.1
+    scan_more h.loop-from.invariant (positive h) c.if-b-eq60.false _ c.nearer-shut.ensures.0 c.nearer-shut.ensures.1
 
 pub last_markup_spec : {M : Type 1} → statement M
 last_markup_spec =

@@ -8,35 +8,35 @@ use Rattle.openings.proofs.OpenNames.{close_some, close_place, close_reaches, cl
 use Rattle.openings.proofs.names.close.Statement.{statement}
 use Rattle.openings.proofs.names.close.Tie as tie
 
-sub_left : tie.Need-overflow-sub-left
-sub_left c = close_some c.before.requires
+sub_left : tie.Need-overflow_sub-left
+sub_left c = close_some c.requires
 
-reach_requires : tie.Need-reach-requires
+reach_requires : tie.Need-reach-known-requires
 reach_requires c κs = search rules
 
-returns : tie.Need-returns
-returns c = close_kept c.before.before.before.before.requires (sym c.before.reach.ensures ∙ c.if1.true)
+returns : tie.Need-returns-then-known-depth
+returns c = close_kept c.requires (sym c.reach-known.ensures ∙ c.if-known-depth.true)
 
-mul_short : tie.Need-overflow-mul-short
+mul_short : tie.Need-offset_bounds-names-left
 mul_short c = search rules
 
-element_copy_out_short : tie.Need-element-copy-out-short
+element_copy_out_short : tie.Need-bounds-names-left
 element_copy_out_short c = search rules
 
-short_requires : tie.Need-short-requires
+short_requires : tie.Need-short-from-requires
 short_requires c κs = search rules
 
 -- back from the place of the name that ends to the function's start
-abbrev start : tie.After-short → tie.Start
+abbrev start : tie.After-short-from → tie.Start
 start c = c.before.before.before.before.before.before
 
-sub_from : tie.Need-overflow-sub-from
-sub_from c = rw c.short.ensures.0 (close_place (start c).requires).0
+sub_from : tie.Need-overflow_sub-from
+sub_from c = rw c.short-from.ensures.0 (close_place (start c).requires).0
 
-sub_least : tie.Need-overflow-sub-least
-sub_least c = rw c.before.before.before.reach.ensures (close_reaches (start c).requires)
+sub_least : tie.Need-overflow_sub-depth
+sub_least c = rw c.reach-known.ensures (close_reaches (start c).requires)
 
-sub_least_2 : tie.Need-overflow-sub-least-2
+sub_least_2 : tie.Need-overflow_sub-left-2
 sub_least_2 c = search rules
 
 least_requires : tie.Need-least-requires
@@ -68,14 +68,14 @@ module _ (c : tie.After-least) where
   from_is : c.before.short.result - 1 ≡ get_or begun.args.names.now left 0 - 1
   from_is = ap (λ (k : ℕ). k - 1) c.before.short.ensures.0
 
-add_top : tie.Need-overflow-add-top
+add_top : tie.Need-overflow_add-top
 add_top c = omega (arith, low c)
 
-find_again_requires : tie.Need-find-again-requires
+find_again_requires : tie.Need-find_again-requires
 find_again_requires c κs = let f = c.before.before in close_may (begun f).requires (from_is f) (more f) (low f) (room f)
 
-returns_2 : tie.Need-returns-2
-returns_2 c = let f = c.before.before.before in close_found (begun f).requires (from_is f) (more f) (low f) (room f) c.find-again.ensures
+returns_2 : tie.Need-returns
+returns_2 c = let f = c.before.before.before in close_found (begun f).requires (from_is f) (more f) (low f) (room f) c.find_again.ensures
 
 pub close_spec : {M : Type 1} → statement M
 close_spec =

@@ -4,16 +4,16 @@ use Rattle.openings.proofs.OpenNames.{spared_full, spared_some}
 use Rattle.openings.proofs.names.spare.Statement.{statement}
 use Rattle.openings.proofs.names.spare.Tie as tie
 
-returns : tie.Need-returns
-returns c = spared_some c.before.requires.0 c.if1.true
+returns : tie.Need-returns-then-kept-lt-MOST_NAMES
+returns c = spared_some c.requires.0 c.if-kept-lt-MOST_NAMES.true
 
-full : (c : tie.Else1) → c.before.args.kept ≡ 64
-full c = omega (arith, c.if1.false, c.before.requires.0.few)
+full : (c : tie.Else-kept-lt-MOST_NAMES) → c.args.kept ≡ 64
+full c = omega (arith, c.if-kept-lt-MOST_NAMES.false, c.requires.0.few)
 
 thin_requires : tie.Need-thin-requires
-thin_requires c κs = let e = c.before.before in (rw (← (full e)) e.before.requires.0, e.before.requires.1 (full e))
+thin_requires c κs = let e = c.before.before in (rw (← (full e)) e.requires.0, e.requires.1 (full e))
 
-returns_2 : tie.Need-returns-2
+returns_2 : tie.Need-returns
 returns_2 c = spared_full (full c.before.before.before) c.thin.ensures
 
 pub spare_spec : {M : Type 1} → statement M

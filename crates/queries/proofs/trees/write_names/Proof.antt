@@ -6,49 +6,49 @@ use borrow.Author.Rules.{rules}
 use Rattle.queries.proofs.trees.write_names.Statement.{statement}
 use Rattle.queries.proofs.trees.write_names.Tie as tie
 
-abbrev invariant_loop : tie.invariant_loop
+abbrev invariant_loop : tie.invariant-loop-i
 invariant_loop names dictionary₀ i₀ dictionary i = (i ≤ length names) × (length names < length dictionary) × (length dictionary ≡ length dictionary₀)
 
-abbrev decreases_loop : tie.decreases_loop
+abbrev decreases_loop : tie.decreases-loop-i
 decreases_loop names dictionary₀ i₀ dictionary i = length names - i
 
-returns : tie.Need-returns invariant_loop decreases_loop
+returns : tie.Need-returns-then-names-eq0 invariant_loop decreases_loop
 returns c = search rules
 
-returns_2 : tie.Need-returns-2 invariant_loop decreases_loop
+returns_2 : tie.Need-returns-then-dictionary-names invariant_loop decreases_loop
 returns_2 c = search rules
 
-loop_holds : tie.Need-loop-init invariant_loop decreases_loop
+loop_holds : tie.Need-loop-i-init invariant_loop decreases_loop
 loop_holds c = search rules
 
-shared_slice_read_name_byte : tie.Need-shared-slice-read-name-byte invariant_loop decreases_loop
+shared_slice_read_name_byte : tie.Need-bounds-names-i invariant_loop decreases_loop
 shared_slice_read_name_byte c = search rules
 
-name_byte_requires : tie.Need-name-byte-requires invariant_loop decreases_loop
+name_byte_requires : tie.Need-name_byte-requires invariant_loop decreases_loop
 name_byte_requires c κs = search rules
 
-slice_write_dictionary : tie.Need-slice-write-dictionary invariant_loop decreases_loop
+slice_write_dictionary : tie.Need-bounds-dictionary-i invariant_loop decreases_loop
 slice_write_dictionary c = search rules
 
-add_i : tie.Need-overflow-add-i invariant_loop decreases_loop
+add_i : tie.Need-overflow_add-i invariant_loop decreases_loop
 add_i c = search rules
 
-loop_less : tie.Need-loop-smaller invariant_loop decreases_loop
+loop_less : tie.Need-loop-i-smaller invariant_loop decreases_loop
 loop_less c = search rules
 
-loop_again : tie.Need-loop-preserved invariant_loop decreases_loop
+loop_again : tie.Need-loop-i-preserved invariant_loop decreases_loop
 loop_again c = search rules
 
-slice_write_dictionary_2 : tie.Need-slice-write-dictionary-2 invariant_loop decreases_loop
+slice_write_dictionary_2 : tie.Need-bounds-dictionary-i-2 invariant_loop decreases_loop
 slice_write_dictionary_2 c = search rules
 
-add_result : tie.Need-overflow-add-result invariant_loop decreases_loop
+add_result : tie.Need-overflow_add-result invariant_loop decreases_loop
 add_result c = search rules
 
-same_length : tie.Need-same-length invariant_loop decreases_loop
+same_length : tie.Need-shape_of-dictionary invariant_loop decreases_loop
 same_length c = search rules
 
-returns_3 : tie.Need-returns-3 invariant_loop decreases_loop
+returns_3 : tie.Need-returns invariant_loop decreases_loop
 returns_3 c = simp length-set (omega arith)
 
 pub write_names_spec : {M : Type 1} → statement M

@@ -3,40 +3,40 @@ use borrow.Author.Rules.{rules}
 use Rattle.readings.proofs.answers.print_list.Statement.{statement}
 use Rattle.readings.proofs.answers.print_list.Tie as tie
 
-abbrev invariant_loop : tie.invariant_loop
+abbrev invariant_loop : tie.invariant-loop-i
 invariant_loop name list rows i₀ t5 i = i ≤ rows
 
-abbrev decreases_loop : tie.decreases_loop
+abbrev decreases_loop : tie.decreases-loop-i
 decreases_loop name list rows i₀ t5 i = rows - i
 
-write_all_requires : tie.Need-write-all-requires invariant_loop decreases_loop
+write_all_requires : tie.Need-write_all-requires invariant_loop decreases_loop
 write_all_requires c κs = search rules
 
-loop_holds : tie.Need-loop-init invariant_loop decreases_loop
+loop_holds : tie.Need-loop-i-init invariant_loop decreases_loop
 loop_holds c = search rules
 
-returns : tie.Need-returns invariant_loop decreases_loop
+returns : tie.Need-returns-then-list-i invariant_loop decreases_loop
 returns c = search rules
 
-slice_aggregate_print_number : tie.Need-slice-aggregate-print-number invariant_loop decreases_loop
+slice_aggregate_print_number : tie.Need-offset_bounds-list-i invariant_loop decreases_loop
 slice_aggregate_print_number c = search rules
 
-mul_print_number : tie.Need-overflow-mul-print-number invariant_loop decreases_loop
+mul_print_number : tie.Need-bounds-list-i invariant_loop decreases_loop
 mul_print_number c = search rules
 
-shared_slice_read_print_number : tie.Need-shared-slice-read-print-number invariant_loop decreases_loop
+shared_slice_read_print_number : tie.Need-print_number-requires invariant_loop decreases_loop
 shared_slice_read_print_number c = search rules
 
-print_number_requires : tie.Need-print-number-requires invariant_loop decreases_loop
+print_number_requires : tie.Need-overflow_add-i invariant_loop decreases_loop
 print_number_requires c κs = search rules
 
-add_i : tie.Need-overflow-add-i invariant_loop decreases_loop
+add_i : tie.Need-loop-i-smaller invariant_loop decreases_loop
 add_i c = search rules
 
-loop_less : tie.Need-loop-smaller invariant_loop decreases_loop
+loop_less : tie.Need-loop-i-preserved invariant_loop decreases_loop
 loop_less c = search rules
 
-loop_again : tie.Need-loop-preserved invariant_loop decreases_loop
+loop_again : tie.Need-returns invariant_loop decreases_loop
 loop_again c = search rules
 
 returns_2 : tie.Need-returns-2 invariant_loop decreases_loop

@@ -12,93 +12,93 @@ use borrow.Author.Rules.{rules}
 use Rattle.rows.proofs.note.pass.Statement.{statement}
 use Rattle.rows.proofs.note.pass.Tie as tie
 
-abbrev invariant_loop : tie.invariant_loop
+abbrev invariant_loop : tie.invariant-loop-answer
 invariant_loop document class starts₀ lengths₀ sizes₀ around₀ top₀ depth₀ row₀ i₀ starts lengths sizes around top depth row i =
     Noting document starts lengths sizes around i top depth row
 
-abbrev decreases_loop : tie.decreases_loop
+abbrev decreases_loop : tie.decreases-loop-answer
 decreases_loop document class starts₀ lengths₀ sizes₀ around₀ top₀ depth₀ row₀ i₀ starts lengths sizes around top depth row i =
     lib.ListN.length document - i
 
 -- THE PLACES: back from a turn to its head, and from there to the function's start
-abbrev head : tie.After-read-turn invariant_loop decreases_loop → tie.At-loop invariant_loop decreases_loop
+abbrev head : tie.After-read_turn invariant_loop decreases_loop → tie.At-loop-answer invariant_loop decreases_loop
 head t = t.before.before.before.before
 
-abbrev begun : tie.At-loop invariant_loop decreases_loop → tie.Start invariant_loop decreases_loop
+abbrev begun : tie.At-loop-answer invariant_loop decreases_loop → tie.Start invariant_loop decreases_loop
 begun h = h.before.before
 
 -- .. and from the arms to the turn
-abbrev opening : tie.After-known-told2 invariant_loop decreases_loop → tie.After-read-turn invariant_loop decreases_loop
+abbrev opening : tie.In-Opens invariant_loop decreases_loop → tie.After-read_turn invariant_loop decreases_loop
 opening c = c.before.before.before
 
-abbrev emptying : tie.After-known-told3 invariant_loop decreases_loop → tie.After-read-turn invariant_loop decreases_loop
+abbrev emptying : tie.In-Empty invariant_loop decreases_loop → tie.After-read_turn invariant_loop decreases_loop
 emptying c = c.before.before.before
 
-abbrev closing : tie.After-known-told4 invariant_loop decreases_loop → tie.After-read-turn invariant_loop decreases_loop
+abbrev closing : tie.In-Closes invariant_loop decreases_loop → tie.After-read_turn invariant_loop decreases_loop
 closing c = c.before.before.before
 
 -- WHAT IS KNOWN THERE
 -- the three lists behind the turn
-abbrev starts : tie.After-read-turn invariant_loop decreases_loop → List ℕ
-starts t = t.read-turn.new.1.1.0
+abbrev starts : tie.After-read_turn invariant_loop decreases_loop → List ℕ
+starts t = t.read_turn.new.1.1.0
 
-abbrev lengths : tie.After-read-turn invariant_loop decreases_loop → List ℕ
-lengths t = t.read-turn.new.1.1.1.0
+abbrev lengths : tie.After-read_turn invariant_loop decreases_loop → List ℕ
+lengths t = t.read_turn.new.1.1.1.0
 
-abbrev sizes : tie.After-read-turn invariant_loop decreases_loop → List ℕ
-sizes t = t.read-turn.new.1.1.1.1.0
+abbrev sizes : tie.After-read_turn invariant_loop decreases_loop → List ℕ
+sizes t = t.read_turn.new.1.1.1.1.0
 
 -- what the turn did
-abbrev done : tie.After-read-turn invariant_loop decreases_loop → Turn → Type 0
+abbrev done : tie.After-read_turn invariant_loop decreases_loop → Turn → Type 0
 done t =
-    let l = (head t).loop in
+    let l = (head t).loop-answer in
     TurnDone (begun (head t)).args.document.now l.starts l.lengths l.sizes l.depth l.row l.i l.inv.walked.o l.inv.walked.f
     (starts t) (lengths t) (sizes t)
 
-told : (t : tie.After-read-turn invariant_loop decreases_loop) → done t t.read-turn.result
-told t = t.read-turn.ensures _ _ (may_turn (head t).loop.invariant (begun (head t)).pre.1)
+told : (t : tie.After-read_turn invariant_loop decreases_loop) → done t t.read_turn.result
+told t = t.read_turn.ensures _ _ (may_turn (head t).loop-answer.invariant (begun (head t)).pre.1)
 
 -- the turn ends behind where it began
-less : (t : tie.After-read-turn invariant_loop decreases_loop) {r : ℕ} → Behind (begun (head t)).args.document.now (head t).loop.i r →
-    lib.ListN.length (begun (head t)).args.document.now - r < lib.ListN.length (begun (head t)).args.document.now - (head t).loop.i
+less : (t : tie.After-read_turn invariant_loop decreases_loop) {r : ℕ} → Behind (begun (head t)).args.document.now (head t).loop-answer.i r →
+    lib.ListN.length (begun (head t)).args.document.now - r < lib.ListN.length (begun (head t)).args.document.now - (head t).loop-answer.i
 less t h = omega (arith, h.more, h.within)
 
-opened_to : (c : tie.After-known-told2 invariant_loop decreases_loop) →
+opened_to : (c : tie.In-Opens invariant_loop decreases_loop) →
     let t = opening c in
-    Opened (head t).loop.inv (starts t) (lengths t) (sizes t) c.before.element.given.0.0 c.before.element.given.0.1.0
-opened_to c = turn_opens (head (opening c)).loop.inv (subst (done (opening c)) c.before.element.given.1 (told (opening c)))
+    Opened (head t).loop-answer.inv (starts t) (lengths t) (sizes t) c.element-1.given.0.0 c.element-1.given.0.1.0
+opened_to c = turn_opens (head (opening c)).loop.inv (subst (done (opening c)) c.element-1.given.1 (told (opening c)))
 
-emptied_to : (c : tie.After-known-told3 invariant_loop decreases_loop) →
+emptied_to : (c : tie.In-Empty invariant_loop decreases_loop) →
     let t = emptying c in
-    Emptied (head t).loop.inv (starts t) (lengths t) (sizes t) c.before.element2.given.0.0 c.before.element2.given.0.1.0
-emptied_to c = turn_empties (head (emptying c)).loop.inv (subst (done (emptying c)) c.before.element2.given.1 (told (emptying c)))
+    Emptied (head t).loop-answer.inv (starts t) (lengths t) (sizes t) c.element-in-Empty-1.given.0.0 c.element-in-Empty-1.given.0.1.0
+emptied_to c = turn_empties (head (emptying c)).loop.inv (subst (done (emptying c)) c.element-in-Empty-1.given.1 (told (emptying c)))
 
-closed_to : (c : tie.After-known-told4 invariant_loop decreases_loop) →
+closed_to : (c : tie.In-Closes invariant_loop decreases_loop) →
     let t = closing c in
-    Shut (head t).loop.inv (starts t) (lengths t) (sizes t) c.before.behind.given.0.0 c.before.behind.given.0.1.0
-closed_to c = turn_closes (head (closing c)).loop.inv (subst (done (closing c)) c.before.behind.given.1 (told (closing c)))
+    Shut (head t).loop-answer.inv (starts t) (lengths t) (sizes t) c.behind-1.given.0.0 c.behind-1.given.0.1.0
+closed_to c = turn_closes (head (closing c)).loop.inv (subst (done (closing c)) c.behind-1.given.1 (told (closing c)))
 
 -- THE NEEDS
-loop_holds : tie.Need-loop-init invariant_loop decreases_loop
-loop_holds c = begins _ _ _ _ _ c.before.requires.2 (length-replicate {A = ℕ} 64 0)
+loop_holds : tie.Need-loop-answer-init invariant_loop decreases_loop
+loop_holds c = begins _ _ _ _ _ c.requires.2 (length-replicate {A = ℕ} 64 0)
 
-read_turn_requires : tie.Need-read-turn-requires invariant_loop decreases_loop
+read_turn_requires : tie.Need-read_turn-requires invariant_loop decreases_loop
 read_turn_requires c κs =
     let h = c.before.before.before in
-    ((begun h).requires.0, (h.loop.invariant.walked.o, h.loop.invariant.walked.f, may_turn h.loop.invariant (begun h).requires.1))
+    ((begun h).requires.0, (h.loop-answer.invariant.walked.o, h.loop-answer.invariant.walked.f, may_turn h.loop-answer.invariant (begun h).requires.1))
 
-enum_known_answer : tie.Need-enum-known-answer invariant_loop decreases_loop
+enum_known_answer : tie.Need-enum_known-answer invariant_loop decreases_loop
 enum_known_answer c = search rules
 
-returns : tie.Need-returns invariant_loop decreases_loop
+returns : tie.Need-returns-in-Ends invariant_loop decreases_loop
 returns c =
     let t = c.before.before.before in
-    turn_ends (head t).loop.invariant (subst (done t) c.before.answer.given.1 (told t))
+    turn_ends (head t).loop-answer.invariant (subst (done t) c.answer-1.given.1 (told t))
 
-enum_known_element : tie.Need-enum-known-element invariant_loop decreases_loop
+enum_known_element : tie.Need-enum_known-element invariant_loop decreases_loop
 enum_known_element c = search rules
 
-slice_aggregate_push : tie.Need-slice-aggregate-push invariant_loop decreases_loop
+slice_aggregate_push : tie.Need-slice_bounds-push-end invariant_loop decreases_loop
 slice_aggregate_push c = search rules
 
 push_requires : tie.Need-push-requires invariant_loop decreases_loop
@@ -106,53 +106,53 @@ push_requires c κs =
     let o = opened_to c.before in
     (omega (arith, o.shallow, (head (opening c.before)).loop.inv.room), omega (arith, o.low))
 
-add_depth : tie.Need-overflow-add-depth invariant_loop decreases_loop
+add_depth : tie.Need-overflow_add-depth invariant_loop decreases_loop
 add_depth c = omega (arith, (opened_to c.before.before.before).shallow)
 
-add_row : tie.Need-overflow-add-row invariant_loop decreases_loop
+add_row : tie.Need-overflow_add-row invariant_loop decreases_loop
 add_row c = omega (arith, (opened_to c.before.before.before).few)
 
-loop_less : tie.Need-loop-smaller invariant_loop decreases_loop
+loop_less : tie.Need-loop-answer-smaller-in-Opens invariant_loop decreases_loop
 loop_less c = let o = c.before.before.before in less (opening o) (opened_to o).behind
 
-loop_again : tie.Need-loop-preserved invariant_loop decreases_loop
-loop_again c = rw c.before.push.ensures (opened_to c.before.before.before).kept
+loop_again : tie.Need-loop-answer-preserved-in-Opens invariant_loop decreases_loop
+loop_again c = rw c.push.ensures (opened_to c.before.before.before).kept
 
-enum_known_element_2 : tie.Need-enum-known-element-2 invariant_loop decreases_loop
+enum_known_element_2 : tie.Need-enum_known-element-in-Empty-1 invariant_loop decreases_loop
 enum_known_element_2 c = search rules
 
-add_row_2 : tie.Need-overflow-add-row-2 invariant_loop decreases_loop
+add_row_2 : tie.Need-overflow_add-row-in-Empty invariant_loop decreases_loop
 add_row_2 c = omega (arith, (emptied_to c).few)
 
-loop_less_2 : tie.Need-loop-smaller-2 invariant_loop decreases_loop
+loop_less_2 : tie.Need-loop-answer-smaller-in-Empty invariant_loop decreases_loop
 loop_less_2 c = less (emptying c) (emptied_to c).behind
 
-loop_again_2 : tie.Need-loop-preserved-2 invariant_loop decreases_loop
+loop_again_2 : tie.Need-loop-answer-preserved-in-Empty invariant_loop decreases_loop
 loop_again_2 c = (emptied_to c).kept
 
-enum_known_behind : tie.Need-enum-known-behind invariant_loop decreases_loop
+enum_known_behind : tie.Need-enum_known-behind invariant_loop decreases_loop
 enum_known_behind c = search rules
 
 close_requires : tie.Need-close-requires invariant_loop decreases_loop
 close_requires c κs = let o = closed_to c.before in (o.low, o.before, omega (arith, o.few))
 
-sub_depth : tie.Need-overflow-sub-depth invariant_loop decreases_loop
+sub_depth : tie.Need-overflow_sub-depth invariant_loop decreases_loop
 sub_depth c = (closed_to c.before.before).some
 
-slice_aggregate_pop : tie.Need-slice-aggregate-pop invariant_loop decreases_loop
+slice_aggregate_pop : tie.Need-slice_bounds-pop-end invariant_loop decreases_loop
 slice_aggregate_pop c = search rules
 
-pop_requires : tie.Need-pop-requires invariant_loop decreases_loop
+pop_requires : tie.Need-pop-top-requires invariant_loop decreases_loop
 pop_requires c κs =
     let k = c.before.before.before in
     let o = closed_to k in
     omega (arith, o.some, o.shallow, (head (closing k)).loop.inv.room)
 
-loop_less_3 : tie.Need-loop-smaller-3 invariant_loop decreases_loop
+loop_less_3 : tie.Need-loop-answer-smaller invariant_loop decreases_loop
 loop_less_3 c = let o = c.before.before.before.before in less (closing o) (closed_to o).behind
 
-loop_again_3 : tie.Need-loop-preserved-3 invariant_loop decreases_loop
-loop_again_3 c = rw c.before.before.close.ensures ((closed_to c.before.before.before.before).kept c.pop.ensures)
+loop_again_3 : tie.Need-loop-answer-preserved invariant_loop decreases_loop
+loop_again_3 c = rw c.close.ensures ((closed_to c.before.before.before.before).kept c.pop-top.ensures)
 
 pub pass_spec : {M : Type 1} → statement M
 pass_spec =

@@ -10,73 +10,73 @@ use Rattle.rows.proofs.note.read_run.Statement.{statement}
 use Rattle.rows.proofs.note.read_run.Tie as tie
 
 -- THE PLACES: back from where the run's row is put to the run, to the look at the number of rows, and to the function's start
-abbrev ran : tie.After-put → tie.After-run
+abbrev ran : tie.After-put → tie.After-run-text
 ran p = p.before.before.before.before
 
-abbrev few : tie.After-run → tie.Else1
+abbrev few : tie.After-run-text → tie.Else-row-gt-MOST_ROWS
 few r = r.before.before.before
 
-abbrev begun : tie.Else1 → tie.Start
+abbrev begun : tie.Else-row-gt-MOST_ROWS → tie.Start
 begun e = e.before.before
 
 -- THE NEEDS
-returns : tie.Need-returns
-returns c = many c.if1.true
+returns : tie.Need-returns-then-row-gt-MOST_ROWS
+returns c = many c.if-row-gt-MOST_ROWS.true
 
-byte_at_requires : tie.Need-byte-at-requires
+byte_at_requires : tie.Need-byte_at-requires
 byte_at_requires c κs = search rules
 
 -- a tag stands at once
-returns_2 : tie.Need-returns-2
+returns_2 : tie.Need-returns-then-byte_at-eq60
 returns_2 c =
     let b = c.before in
     let s = begun b.before in
-    let less = sym b.byte_at.ensures ∙ c.if2.true in
+    let less = sym b.byte_at.ensures ∙ c.if-byte_at-eq60.true in
     subst (λ (n : ℕ). RunDone s.args.document.now s.args.starts.now s.args.lengths.now s.args.sizes.now s.args.depth s.args.row s.args.i s.args.starts.now s.args.lengths.now s.args.sizes.now (Tag n s.args.i))
     (add-zero s.args.row)
-    (to_tag b.before.if1.false (empty_run s.args.depth s.args.i s.pre.2 less) (passed_over refl) less (omega (arith, s.pre.3)))
+    (to_tag b.if-row-gt-MOST_ROWS.false (empty_run s.args.depth s.args.i s.pre.2 less) (passed_over refl) less (omega (arith, s.pre.3)))
 
-run_requires : tie.Need-run-requires
+run_requires : tie.Need-run-text-requires
 run_requires c κs = search rules
 
-sub_put : tie.Need-overflow-sub-put
-sub_put c = omega (arith, c.before.before.before.run.ensures.span.passed.from)
+sub_put : tie.Need-overflow_sub-at
+sub_put c = omega (arith, c.run-text.ensures.span.passed.from)
 
 put_requires : tie.Need-put-requires
 put_requires c κs =
     let r = c.before.before.before in
     let s = begun (few r) in
-    (omega (arith, (few r).if1.false), omega (arith, s.pre.1, s.pre.2), omega (arith, r.run.ensures.span.passed.within, s.pre.1))
+    (omega (arith, (few r).if-row-gt-MOST_ROWS.false), omega (arith, s.pre.1, s.pre.2), omega (arith, r.run-text.ensures.span.passed.within, s.pre.1))
 
-add_row : tie.Need-overflow-add-row
-add_row c = omega (arith, (few (ran c)).if1.false, (ran c).run.ensures.few)
+add_row : tie.Need-overflow_add-row
+add_row c = omega (arith, (few (ran c)).if1.false, (ran c).run-text.ensures.few)
 
-byte_at_requires_2 : tie.Need-byte-at-requires-2
+byte_at_requires_2 : tie.Need-byte_at-requires-2
 byte_at_requires_2 c κs = search rules
 
 last_requires : tie.Need-last-requires
 last_requires c κs = search rules
 
-returns_3 : tie.Need-returns-3
+returns_3 : tie.Need-returns-then-byte_at-ne60
 returns_3 c =
     let b = c.before.before in
     let r = ran b.before in
-    last_run (few r).if1.left r.run.ensures (noted b.before.put.ensures) (λ e. c.before.if3.true (b.byte-at2.ensures ∙ e)) c.last.ensures
+    last_run (few r).if-row-gt-MOST_ROWS.left r.run-text.ensures (noted b.put.ensures) (λ e. c.if-byte_at-ne60.true (b.byte_at-2.ensures ∙ e)) c.last.ensures
 
-add_if4 : tie.Need-overflow-add-if4
-add_if4 c = let r = ran c.before.before in omega (arith, (begun (few r)).requires.3, r.run.ensures.few)
+add_if4 : tie.Need-overflow_add-depth
+add_if4 c = let r = ran c.before.before in omega (arith, (begun (few r)).requires.3, r.run-text.ensures.few)
 
-returns_4 : tie.Need-returns-4
+returns_4 : tie.Need-returns-then-depth-leaves-gt-DEEPEST
 returns_4 c =
     let b = c.before.before in
     let r = ran b.before in
-    deep_text (few r).if1.left r.run.ensures (noted b.before.put.ensures) (sym b.byte-at2.ensures ∙ c.before.if3.false) c.if4.true
+    deep_text (few r).if-row-gt-MOST_ROWS.left r.run-text.ensures (noted b.put.ensures) (sym b.byte_at-2.ensures ∙ c.if-byte_at-ne60.false) c.if-depth-leaves-gt-DEEPEST.true
 
-returns_5 : tie.Need-returns-5
+returns_5 : tie.Need-returns
 returns_5 c =
     let b = c.before.before in
     let r = ran b.before in
-    to_tag (few r).if1.left r.run.ensures (noted b.before.put.ensures) (sym b.byte-at2.ensures ∙ c.before.if3.false) c.if4.false
+    to_tag (few r).if-row-gt-MOST_ROWS.left r.run-text.ensures (noted b.put.ensures) (sym b.byte_at-2.ensures ∙ c.if-byte_at-ne60.false) c.if-depth-leaves-gt-DEEPEST.false
 
 pub read_run_spec : {M : Type 1} → statement M
 read_run_spec =

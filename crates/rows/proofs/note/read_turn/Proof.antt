@@ -7,49 +7,49 @@ use Rattle.rows.proofs.note.read_turn.Statement.{statement}
 use Rattle.rows.proofs.note.read_turn.Tie as tie
 
 -- THE PLACES: back from the run to the function's start, and from the arms to the run
-abbrev begun : tie.After-read-run → tie.Start
+abbrev begun : tie.After-read_run → tie.Start
 begun r = r.before.before.before.before.before
 
-abbrev ending : tie.After-known-told → tie.After-read-run
+abbrev ending : tie.In-Over → tie.After-read_run
 ending c = c.before.before.before
 
-abbrev tagging : tie.After-known-told2 → tie.After-read-run
+abbrev tagging : tie.In-Tag → tie.After-read_run
 tagging c = c.before.before.before
 
 -- WHAT IS KNOWN THERE
 -- what the run did to the three lists
-abbrev done : tie.After-read-run → Ran → Type 0
+abbrev done : tie.After-read_run → Ran → Type 0
 done r =
     let a = (begun r).args in
-    let l = r.read-run.new.1.1 in
+    let l = r.read_run.new.1.1 in
     RunDone a.document.now a.starts.now a.lengths.now a.sizes.now a.depth a.row a.i l.0 l.1.0 l.1.1.0
 
-to_tag : (c : tie.After-known-told2) → done (tagging c) (Tag c.before.behind.given.0.0 c.before.behind.given.0.1.0)
-to_tag c = subst (done (tagging c)) c.before.behind.given.1 (tagging c).read-run.ensures
+to_tag : (c : tie.In-Tag) → done (tagging c) (Tag c.behind-1.given.0.0 c.behind-1.given.0.1.0)
+to_tag c = subst (done (tagging c)) c.behind-1.given.1 (tagging c).read_run.ensures
 
 -- THE NEEDS
-read_run_requires : tie.Need-read-run-requires
-read_run_requires c κs = let h = c.before.before.before.before.requires in (h.0, h.1.2.short, h.1.2.here, h.1.2.shallow)
+read_run_requires : tie.Need-read_run-requires
+read_run_requires c κs = let h = c.requires in (h.0, h.1.2.short, h.1.2.here, h.1.2.shallow)
 
-enum_known_answer : tie.Need-enum-known-answer
+enum_known_answer : tie.Need-enum_known-answer
 enum_known_answer c = search rules
 
-enum_known_behind : tie.Need-enum-known-behind
+enum_known_behind : tie.Need-enum_known-behind
 enum_known_behind c = search rules
 
-read_tag_requires : tie.Need-read-tag-requires
+read_tag_requires : tie.Need-read_tag-requires
 read_tag_requires c κs =
     let t = c.before.before.before in
     let h = (begun (tagging t)).requires in
     (h.0, (h.1.0, h.1.1, _, h.1.2.tag (to_tag t)))
 
-returns : tie.Need-returns
-returns c = λ o f h. over (subst (done (ending c)) c.before.answer.given.1 (ending c).read-run.ensures)
+returns : tie.Need-returns-in-Over
+returns c = λ o f h. over (subst (done (ending c)) c.answer-1.given.1 (ending c).read_run.ensures)
 
-returns_2 : tie.Need-returns-2
+returns_2 : tie.Need-returns-in-Tag
 returns_2 c =
     let t = c.before.before.before.before in
-    λ o f h. tagged (to_tag t) (c.read-tag.ensures o f _ (h.tag (to_tag t)))
+    λ o f h. tagged (to_tag t) (c.read_tag.ensures o f _ (h.tag (to_tag t)))
 
 pub read_turn_spec : {M : Type 1} → statement M
 read_turn_spec =

@@ -9,46 +9,46 @@ use Rattle.rows.proofs.tags.next_tag.Tie as tie
 
 -- what stands at the place, in the arms
 abbrev stands : tie.After-stands → Kind → Type 0
-stands c = let a = c.before.before.args in KindOf a.document.now a.depth a.rows a.at
+stands c = let a = c.args in KindOf a.document.now a.depth a.rows a.at
 
-starts : (c : tie.After-enum-told2) → stands c.before.before Start
-starts c = subst (stands c.before.before) c.enum-told2.given.1 c.before.before.stands.ensures
+starts : (c : tie.In-Start) → stands c.before.before Start
+starts c = subst (stands c.before.before) c.enum_told-in-Start-1.given.1 c.stands.ensures
 
-ends : (c : tie.After-enum-told3) → stands c.before.before End
-ends c = subst (stands c.before.before) c.enum-told3.given.1 c.before.before.stands.ensures
+ends : (c : tie.In-End) → stands c.before.before End
+ends c = subst (stands c.before.before) c.enum_told-in-End-1.given.1 c.stands.ensures
 
 stands_requires : tie.Need-stands-requires
 stands_requires c κs = search rules
 
-enum_told : tie.Need-enum-told
+enum_told : tie.Need-enum_told-1
 enum_told c = search rules
 
-enum_told_2 : tie.Need-enum-told-2
+enum_told_2 : tie.Need-enum_told-in-Start
 enum_told_2 c = search rules
 
-add_start_tag : tie.Need-overflow-add-start-tag
+add_start_tag : tie.Need-overflow_add-at
 add_start_tag c = search rules
 
-start_tag_requires : tie.Need-start-tag-requires
+start_tag_requires : tie.Need-start_tag-requires
 start_tag_requires c κs = search rules
 
-enum_told_3 : tie.Need-enum-told-3
+enum_told_3 : tie.Need-enum_told-in-End
 enum_told_3 c = search rules
 
-add_end_tag : tie.Need-overflow-add-end-tag
+add_end_tag : tie.Need-overflow_add-at-in-End
 add_end_tag c = search rules
 
-end_tag_requires : tie.Need-end-tag-requires
+end_tag_requires : tie.Need-end_tag-requires
 end_tag_requires c κs = let c₃ = c.before.before.before.before in (c₃.requires.0, (end_within (ends c)).1, c₃.requires.2, c₃.requires.3 (end_within (ends c)).0)
 
-returns : tie.Need-returns
-returns c = let s = c.before.before in none_stands (subst (stands s) c.enum_told.given.1 s.stands.ensures)
+returns : tie.Need-returns-in-Nothing
+returns c = let s = c.before.before in none_stands (subst (stands s) c.enum_told-1.given.1 s.stands.ensures)
 
-returns_2 : tie.Need-returns-2
-returns_2 c = start_stands c.start-tag.result (starts c.before) c.start-tag.ensures
+returns_2 : tie.Need-returns-in-Start
+returns_2 c = start_stands c.start_tag.result (starts c.before) c.start_tag.ensures
 
-returns_3 : tie.Need-returns-3
-returns_3 c = end_stands c.end-tag.result (ends c.before) c.end-tag.ensures
+returns_3 : tie.Need-returns-in-End
+returns_3 c = end_stands c.end_tag.result (ends c.before) c.end_tag.ensures
 
 pub next_tag_spec : {M : Type 1} → statement M
 next_tag_spec =

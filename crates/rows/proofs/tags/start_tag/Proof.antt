@@ -10,47 +10,47 @@ use borrow.Author.Rules.{rules}
 use Rattle.rows.proofs.tags.start_tag.Statement.{statement}
 use Rattle.rows.proofs.tags.start_tag.Tie as tie
 
-abbrev begun : tie.Else1 → tie.Start
+abbrev begun : tie.Else-class_of-lt-FIRST → tie.Start
 begun c = c.before.before.before.before
 
 -- behind the first test the byte starts a name
-first : (c : tie.Else1) → name_start (get_or (begun c).args.document.now (begun c).args.at 0) ≡ true
+first : (c : tie.Else-class_of-lt-FIRST) → name_start (get_or (begun c).args.document.now (begun c).args.at 0) ≡ true
 first c =
-    let e : c.before.class_of.result ≡ class_number (get_or (begun c).args.document.now (begun c).args.at 0) = c.before.class_of.ensures ∙ ap class_number c.before.before.byte_at.ensures in
-    start_yes _ _ e c.if1.false (rw e (few_classes _))
+    let e : c.class_of.result ≡ class_number (get_or (begun c).args.document.now (begun c).args.at 0) = c.class_of.ensures ∙ ap class_number c.byte_at.ensures in
+    start_yes _ _ e c.if-class_of-lt-FIRST.false (rw e (few_classes _))
 
-byte_at_requires : tie.Need-byte-at-requires
+byte_at_requires : tie.Need-byte_at-requires
 byte_at_requires c κs = search rules
 
-class_of_requires : tie.Need-class-of-requires
+class_of_requires : tie.Need-class_of-requires
 class_of_requires c κs = search rules
 
-returns : tie.Need-returns
-returns c = start_none (start_not _ _ (c.before.class_of.ensures ∙ ap class_number c.before.before.byte_at.ensures) c.if1.true)
+returns : tie.Need-returns-then-class_of-lt-FIRST
+returns c = start_none (start_not _ _ (c.class_of.ensures ∙ ap class_number c.byte_at.ensures) c.if-class_of-lt-FIRST.true)
 
-add_long_name_end : tie.Need-overflow-add-long-name-end
+add_long_name_end : tie.Need-overflow_add-at
 add_long_name_end c = search rules
 
-long_name_end_requires : tie.Need-long-name-end-requires
+long_name_end_requires : tie.Need-long_name_end-end-requires
 long_name_end_requires c κs = ((begun c).requires.0, omega (arith, name_there (begun c).args.document.now (begun c).args.at (first c)))
 
-byte_at_requires_2 : tie.Need-byte-at-requires-2
+byte_at_requires_2 : tie.Need-byte_at-requires-2
 byte_at_requires_2 c κs = search rules
 
-add_t9 : tie.Need-overflow-add-t9
+add_t9 : tie.Need-overflow_add-result
 add_t9 c = search rules
 
-returns_2 : tie.Need-returns-2
+returns_2 : tie.Need-returns-then-byte_at-eq62
 returns_2 c =
     let n = c.before.before in
-    let q = sym c.before.byte-at2.ensures ∙ c.if2.true in
-    start_opens (first n.before) n.long-name-end.ensures (shut_at_once n.long-name-end.ensures.passed.within q) q
+    let q = sym c.byte_at-2.ensures ∙ c.if-byte_at-eq62.true in
+    start_opens (first n.before) n.long_name_end-end.ensures (shut_at_once n.long_name_end-end.ensures.passed.within q) q
 
 shut_requires : tie.Need-shut-requires
 shut_requires c κs = search rules
 
-returns_3 : tie.Need-returns-3
-returns_3 c = let n = c.before.before.before in c.shut.ensures _ (first n.before) n.long-name-end.ensures
+returns_3 : tie.Need-returns
+returns_3 c = let n = c.before.before.before in c.shut.ensures _ (first n.before) n.long_name_end-end.ensures
 
 pub start_tag_spec : {M : Type 1} → statement M
 start_tag_spec =

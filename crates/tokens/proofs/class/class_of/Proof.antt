@@ -3,11 +3,11 @@ use borrow.Author.Rules.{rules}
 use Rattle.tokens.proofs.class.class_of.Statement.{statement}
 use Rattle.tokens.proofs.class.class_of.Tie as tie
 
-element_copy_out_result : tie.Need-element-copy-out-result
+element_copy_out_result : tie.Need-bounds-class-i
 element_copy_out_result c = search rules
 
 returns : tie.Need-returns
-returns c = c.before.requires.each c.before.args.b (omega arith)
+returns c = c.requires.each c.args.b (omega arith)
 
 pub class_of_spec : {M : Type 1} → statement M
 class_of_spec = tie.close (tie.spec element_copy_out_result returns)
