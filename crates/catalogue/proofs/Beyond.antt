@@ -74,6 +74,7 @@ place_beyond (v ∷ ts) w = go (upto v w) (place_beyond ts w)
 -- in order, all that stands before an element comes before it, and what stands behind is in order
 module _ {A : Type 0} (R : A → A → Type 0) where
   pub ascending_before : (l k : List A) (a : A) → Ascending R (l ++ (a ∷ k)) → (b : A) → Mem b l → R b a
+  ascending_before [] k a h b m = elim m [ ]
   ascending_before (c ∷ l) k a h b (inl e) = rw e (h.0 a (mem_right a l (a ∷ k) (inl refl)))
   ascending_before (c ∷ l) k a h b (inr m) = ascending_before l k a h.1 b m
 

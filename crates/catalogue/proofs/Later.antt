@@ -70,7 +70,10 @@ module _ (walk : List ℕ → Outcome) (bound : ℕ) where
       let two =
       rest_next walk bound vals (set nexts d v) (set lefts d (suc left)) d v left hv (rw (length-set nexts d v) hn) (rw (length-set lefts d (suc left)) hl)
       (get_or-set_same nexts d v 0 hn) (get_or-set_same lefts d (suc left) 0 hl) in
-      later_more (tried (snoc p v) ∷ []) _ (rw (set-set nexts d v (v + 1), set-set lefts d (suc left) left) at two) (later_more b.0 _ one w)
+      let goes : List ℕ → List ℕ → List Event = λ x y. (tried (snoc p v) ∷ []) ++ ahead walk bound (set vals d v) x y (suc d) in
+      let three : rest walk bound vals (set nexts d v) (set lefts d (suc left)) (suc d) ≡ goes (set nexts d (v + 1)) (set lefts d left) =
+      two ∙ ap (λ (x : List ℕ). goes x (set (set lefts d (suc left)) d left)) (set-set nexts d v (v + 1)) ∙ ap (λ (y : List ℕ). goes (set nexts d (v + 1)) y) (set-set lefts d (suc left) left) in
+      later_more (tried (snoc p v) ∷ []) _ three (later_more b.0 _ one w)
 
 tries_append : (a b : List Event) → tries_of (a ++ b) ≡ tries_of a ++ tries_of b
 tries_append [] b = refl

@@ -238,15 +238,21 @@ module _ {walk : List ℕ → Outcome} {bound limit width budget room : ℕ} {be
         → nexts' ≡ set nexts (depth - 1) (get_or nexts (depth - 1) 0 + 1) → lefts' ≡ set lefts (depth - 1) (get_or lefts (depth - 1) 0 - 1)
         → At walk bound limit width budget room before F (ahead walk bound vals' nexts' lefts' depth) out vals' nexts' lefts' depth count (tries + 1)
     at_next h vals' nexts' lefts' ev en el =
-        subst (λ (k : ℕ). At walk bound limit width budget room before F (ahead walk bound vals' nexts' lefts' k) out vals' nexts' lefts' k count (tries + 1))
-        (sym level) (rw (ev, en, el) (next a' live h _ refl))
+        let G : List ℕ → List ℕ → List ℕ → ℕ → Type 0 = λ x y z k. At walk bound limit width budget room before F (ahead walk bound x y z k) out x y z k count (tries + 1) in
+        let X = set vals (depth - 1) (get_or nexts (depth - 1) 0) in
+        let Y = set nexts (depth - 1) (get_or nexts (depth - 1) 0 + 1) in
+        subst (λ (k : ℕ). G vals' nexts' lefts' k) (sym level)
+        (subst (λ (x : List ℕ). G x nexts' lefts' (suc (depth - 1))) (sym ev)
+        (subst (λ (y : List ℕ). G X y lefts' (suc (depth - 1))) (sym en) (subst (λ (z : List ℕ). G X Y z (suc (depth - 1))) (sym el) (next a' live h _ refl))))
 
     pub at_skip : (k : ℕ) → k ≤ get_or lefts (depth - 1) 0 → tries + k ≤ budget → ((j : ℕ) → j < k → walk (snoc (take (depth - 1) vals) (get_or nexts (depth - 1) 0 + j)) ≡ fail)
         → (nexts' lefts' : List ℕ) → nexts' ≡ set nexts (depth - 1) (get_or nexts (depth - 1) 0 + k) → lefts' ≡ set lefts (depth - 1) (get_or lefts (depth - 1) 0 - k)
         → At walk bound limit width budget room before F (rest walk bound vals nexts' lefts' depth) out vals nexts' lefts' depth count (tries + k)
     at_skip k h b fails nexts' lefts' en el =
-        subst (λ (i : ℕ). At walk bound limit width budget room before F (rest walk bound vals nexts' lefts' i) out vals nexts' lefts' i count (tries + k))
-        (sym level) (rw (en, el) (skip a' live k h b fails))
+        let G : List ℕ → List ℕ → ℕ → Type 0 = λ y z i. At walk bound limit width budget room before F (rest walk bound vals y z i) out vals y z i count (tries + k) in
+        let Y = set nexts (depth - 1) (get_or nexts (depth - 1) 0 + k) in
+        subst (λ (i : ℕ). G nexts' lefts' i) (sym level)
+        (subst (λ (y : List ℕ). G y lefts' (suc (depth - 1))) (sym en) (subst (λ (z : List ℕ). G Y z (suc (depth - 1))) (sym el) (skip a' live k h b fails)))
 
 -- the first walk, before any choice
 module _ {walk : List ℕ → Outcome} {bound limit width room : ℕ} {before : List ℕ} (fx : Fixed walk bound limit width room before) where

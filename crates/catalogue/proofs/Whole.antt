@@ -45,6 +45,7 @@ in_records (s ∷ S) r (inl e) = (s, inl refl, sym e)
 in_records (s ∷ S) r (inr m) = let h = in_records S r m in (h.0, inr h.1, h.2)
 
 of_records : (S : List Match) (s : Match) → Mem s S → Mem s.values (records_of S)
+of_records [] s m = elim m [ ]
 of_records (u ∷ S) s (inl e) = inl (ap (λ (m : Match). m.values) e)
 of_records (u ∷ S) s (inr m) = inr (of_records S s m)
 

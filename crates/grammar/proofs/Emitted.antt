@@ -48,7 +48,7 @@ unfolding rows_on rows_from
 rows_pre R k a nothing r = refl
 rows_pre R k a (empty_element f t n g) r = named_pre (rows_on R k a f) k (a + width f) t n r ∙ rows_pre R k a f _
 rows_pre R k a (element f t n g i l h) r =
-    leaf_pre _ (suc k) _ l r ∙ rows_pre _ (suc k) _ i _ ∙ named_pre (rows_on R k a f) k (a + width f) t n _ ∙ rows_pre R k a f _
+    leaf_pre _ (suc k) _ l r ∙ rows_pre (named_on (rows_on R k a f) k (a + width f) t n) (suc k) _ i _ ∙ named_pre (rows_on R k a f) k (a + width f) t n _ ∙ rows_pre R k a f _
 
 pub rows_same : (f : Content) → rows_on [] 1 0 f ≡ rows_of f
 rows_same f = sym (append-nil (rows_on [] 1 0 f)) ∙ rows_pre [] 1 0 f []

@@ -12,7 +12,7 @@ enum_known_answer_2 : tie.Need-enum_known-answer-in-Rows-1
 enum_known_answer_2 c = search rules
 
 narrow_requires : tie.Need-narrow-requires
-narrow_requires c κs = omega (arith, ap rows_given c.answer-in-Rows-1.given.1)
+narrow_requires c κs = omega (arith, ap rows_given c.in-Rows.is)
 
 returns : tie.Need-returns-in-Refused
 returns c = search rules

@@ -29,13 +29,13 @@ enum_known_n : tie.Need-enum_known-n
 enum_known_n c = search rules
 
 add_result : tie.Need-overflow_add-result
-add_result c = omega (arith, more_fewer_small c.kind.ensures c.if-kind-eq-SEQUENCE.true c.kind-then-kind-eq-SEQUENCE.ensures c.if-kind-eq-SEQUENCE-2.true c.holder.ensures c.holder-then-kind-eq-SEQUENCE-2.ensures c.if-holder.true c.fewer.ensures c.n-1.given.1 c.requires, c.well_formed)
+add_result c = omega (arith, more_fewer_small c.kind.ensures c.if-kind-eq-SEQUENCE.true c.kind-then-kind-eq-SEQUENCE.ensures c.if-kind-eq-SEQUENCE-2.true c.holder.ensures c.holder-then-kind-eq-SEQUENCE-2.ensures c.if-holder.true c.fewer.ensures c.in-Terms.is c.requires, c.well_formed)
 
 returns : tie.Need-returns-in-Unknown
 returns c = more_all c.values.ensures
 
 returns_2 : tie.Need-returns-in-Terms
-returns_2 c = more_terms c.kind.ensures c.if-kind-eq-SEQUENCE.true c.kind-then-kind-eq-SEQUENCE.ensures c.if-kind-eq-SEQUENCE-2.true c.holder.ensures c.holder-then-kind-eq-SEQUENCE-2.ensures c.if-holder.true c.fewer.ensures c.n-1.given.1
+returns_2 c = more_terms c.kind.ensures c.if-kind-eq-SEQUENCE.true c.kind-then-kind-eq-SEQUENCE.ensures c.if-kind-eq-SEQUENCE-2.true c.holder.ensures c.holder-then-kind-eq-SEQUENCE-2.ensures c.if-holder.true c.fewer.ensures c.in-Terms.is
 
 values_requires_2 : tie.Need-values-requires-2
 values_requires_2 c κs = more_at c.requires

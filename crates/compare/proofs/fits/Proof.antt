@@ -30,22 +30,22 @@ enum_told : tie.Need-enum_told-1 invariant_loop decreases_loop
 enum_told c = search rules
 
 returns_2 : tie.Need-returns-in-Fail invariant_loop decreases_loop
-returns_2 c = fitted_fails c.loop-from.invariant c.loop-from-test.true c.level.ensures c.enum_told-1.given.1
+returns_2 c = fitted_fails c.loop-from.invariant c.loop-from-test.true c.level.ensures c.in-Fail.is
 
 enum_known_v : tie.Need-enum_known-v invariant_loop decreases_loop
 enum_known_v c = search rules
 
 sub_from : tie.Need-overflow_sub-from invariant_loop decreases_loop
-sub_from c = omega (arith, fitted_less c.loop-from.invariant c.loop-from-test.true c.level.ensures c.v-1.given.1 c.requires)
+sub_from c = omega (arith, fitted_less c.loop-from.invariant c.loop-from-test.true c.level.ensures c.in-At.is c.requires)
 
 add_from : tie.Need-overflow_add-from invariant_loop decreases_loop
-add_from c = omega (arith, fitted_less c.loop-from.invariant c.loop-from-test.true c.level.ensures c.v-1.given.1 c.requires, c.well_formed)
+add_from c = omega (arith, fitted_less c.loop-from.invariant c.loop-from-test.true c.level.ensures c.in-At.is c.requires, c.well_formed)
 
 loop_less : tie.Need-loop-from-smaller invariant_loop decreases_loop
-loop_less c = omega (arith, fitted_less c.loop-from.invariant c.loop-from-test.true c.level.ensures c.v-1.given.1 c.requires)
+loop_less c = omega (arith, fitted_less c.loop-from.invariant c.loop-from-test.true c.level.ensures c.in-At.is c.requires)
 
 loop_again : tie.Need-loop-from-preserved invariant_loop decreases_loop
-loop_again c = fitted_more c.loop-from.invariant c.loop-from-test.true c.level.ensures c.v-1.given.1
+loop_again c = fitted_more c.loop-from.invariant c.loop-from-test.true c.level.ensures c.in-At.is
 
 returns_3 : tie.Need-returns invariant_loop decreases_loop
 returns_3 c = fitted_done c.loop-from.invariant c.loop-from-test.false

@@ -23,34 +23,34 @@ enum_known_v : tie.Need-enum_known-v
 enum_known_v c = search rules
 
 returns : tie.Need-returns-then-v-e
-returns c = level_none c.next-e.ensures c.left.ensures c.v-1.given.1 c.if-v-e.true
+returns c = level_none c.next-e.ensures c.left.ensures c.in-At.is c.if-v-e.true
 
 sub_next : tie.Need-overflow_sub-v
-sub_next c = omega (arith, level_places c.next-e.ensures c.left.ensures c.v-1.given.1 c.if-v-e.false c.requires)
+sub_next c = omega (arith, level_places c.next-e.ensures c.left.ensures c.in-At.is c.if-v-e.false c.requires)
 
 add_next : tie.Need-overflow_add-a-in-At
-add_next c = omega (arith, level_places c.next-e.ensures c.left.ensures c.v-1.given.1 c.if-v-e.false c.requires, c.well_formed)
+add_next c = omega (arith, level_places c.next-e.ensures c.left.ensures c.in-At.is c.if-v-e.false c.requires, c.well_formed)
 
 next_requires_2 : tie.Need-next-right-requires
-next_requires_2 c κs = (level_places c.next-e.ensures c.left.ensures c.v-1.given.1 c.if-v-e.false c.requires).1
+next_requires_2 c κs = (level_places c.next-e.ensures c.left.ensures c.in-At.is c.if-v-e.false c.requires).1
 
 next_requires_3 : tie.Need-next-end-requires
 next_requires_3 c κs = (level_rows c.requires).0.sized
 
 next_requires_4 : tie.Need-next-there-requires
-next_requires_4 c κs = (level_places c.next-e.ensures c.left.ensures c.v-1.given.1 c.if-v-e.false c.requires).2
+next_requires_4 c κs = (level_places c.next-e.ensures c.left.ensures c.in-At.is c.if-v-e.false c.requires).2
 
 alike_requires : tie.Need-alike-requires
-alike_requires c κs = level_alike_pre c.next-e.ensures c.left.ensures c.v-1.given.1 c.if-v-e.false c.next-right.ensures c.next-end.ensures c.next-there.ensures c.requires
+alike_requires c κs = level_alike_pre c.next-e.ensures c.left.ensures c.in-At.is c.if-v-e.false c.next-right.ensures c.next-end.ensures c.next-there.ensures c.requires
 
 returns_2 : tie.Need-returns-then-alike
-returns_2 c = level_at c.next-e.ensures c.left.ensures c.v-1.given.1 c.if-v-e.false c.next-right.ensures c.next-end.ensures c.next-there.ensures c.alike.ensures c.requires.label c.if-alike.true
+returns_2 c = level_at c.next-e.ensures c.left.ensures c.in-At.is c.if-v-e.false c.next-right.ensures c.next-end.ensures c.next-there.ensures c.alike.ensures c.requires.label c.if-alike.true
 
 returns_3 : tie.Need-returns-in-Fail
-returns_3 c = level_differ c.next-e.ensures c.left.ensures c.enum_told-1.given.1
+returns_3 c = level_differ c.next-e.ensures c.left.ensures c.in-Fail.is
 
 returns_4 : tie.Need-returns-else-alike
-returns_4 c = level_right c.next-e.ensures c.left.ensures c.v-1.given.1 c.if-v-e.false c.next-right.ensures c.next-end.ensures c.next-there.ensures c.alike.ensures c.if-alike.false
+returns_4 c = level_right c.next-e.ensures c.left.ensures c.in-At.is c.if-v-e.false c.next-right.ensures c.next-end.ensures c.next-there.ensures c.alike.ensures c.if-alike.false
 
 pub level_spec : {M : Type 1} → statement M
 level_spec =

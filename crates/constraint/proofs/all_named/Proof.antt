@@ -72,7 +72,7 @@ returns : tie.Need-returns-then-not-marks-row invariant_loop decreases_loop inva
 returns c =
     λ es q.
     let loop = c.loop-row in
-    says_no (named_not loop.invariant.4 c.loop-row-test.true loop.invariant.3 (omega arith) loop.invariant.2 (not-true _ c.if-not-marks-row.true) es q)
+    says_no (named_not loop.invariant.4 c.loop-row-test.true loop.invariant.3 (omega arith) loop.invariant.2 c.if-not-marks-row.true es q)
 
 mul_wide_2 : tie.Need-offset_bounds-size-row invariant_loop decreases_loop invariant_loop2 decreases_loop2
 mul_wide_2 c = search rules
@@ -101,7 +101,7 @@ loop2_again : tie.Need-loop-row-preserved invariant_loop decreases_loop invarian
 loop2_again c =
     let at = c.before.before.before in
     let inv = at.loop-row.invariant in
-    ((forward c).1, inv.1, inv.2, inv.3, rw c.wide-row.ensures.0 (named_one inv.4 at.loop-row-test.true inv.3 (omega arith) (not-false _ c.if-not-marks-row.false)))
+    ((forward c).1, inv.1, inv.2, inv.3, rw c.wide-row.ensures.0 (named_one inv.4 at.loop-row-test.true inv.3 (omega arith) c.if-not-marks-row.false))
 
 returns_2 : tie.Need-returns invariant_loop decreases_loop invariant_loop2 decreases_loop2
 returns_2 c =

@@ -59,7 +59,7 @@ paired_requires c κs = c.requires.table
 returns_2 : tie.Need-returns-then-not-paired invariant_loop decreases_loop
 returns_2 c = λ es Q q p.
     let paired = c.paired in
-    says_no (passed_not _ _ _ _ c.loop-x-test.true paired.ensures (not-true paired.result c.if-not-paired.true) es Q q p)
+    says_no (passed_not _ _ _ _ c.loop-x-test.true paired.ensures c.if-not-paired.true es Q q p)
 
 add_x : tie.Need-overflow_add-x-in-loop-x-3 invariant_loop decreases_loop
 add_x c = search rules
@@ -71,7 +71,7 @@ loop_again : tie.Need-loop-x-preserved invariant_loop decreases_loop
 loop_again c =
     let paired = c.paired in
     let loop = c.loop-x in
-    (omega arith, loop.invariant.1, loop.invariant.2, loop.invariant.3, passed_one _ _ _ _ loop.invariant.4 paired.ensures (not-false paired.result c.if-not-paired.false))
+    (omega arith, loop.invariant.1, loop.invariant.2, loop.invariant.3, passed_one _ _ _ _ loop.invariant.4 paired.ensures c.if-not-paired.false)
 
 returns_3 : tie.Need-returns invariant_loop decreases_loop
 returns_3 c = λ es Q q p.

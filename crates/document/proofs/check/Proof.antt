@@ -15,7 +15,7 @@ mul_result : tie.Need-overflow_mul-result
 mul_result c = search rules
 
 returns : tie.Need-returns-then-not-good
-returns c = checks_bad c.check-checked.ensures (not-true _ c.if-not-good.true) c.wider.ensures
+returns c = checks_bad c.check-checked.ensures c.if-not-good.true c.wider.ensures
 
 verdict_requires : tie.Need-verdict-judged-requires
 verdict_requires c κs = search rules
@@ -43,7 +43,7 @@ add_result_2 c =
 returns_2 : tie.Need-returns
 returns_2 c =
     let v = c.before.before.before in
-    checks_judged v.check-checked.ensures (not-false _ v.if-not-good.false) v.verdict-judged.ensures c.wider-2.ensures c.wider-3.ensures c.wider-4.ensures
+    checks_judged v.check-checked.ensures v.if-not-good.false v.verdict-judged.ensures c.wider-2.ensures c.wider-3.ensures c.wider-4.ensures
 
 pub check_spec : {M : Type 1} → statement M
 check_spec =

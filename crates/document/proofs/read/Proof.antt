@@ -25,7 +25,7 @@ refusal_requires : tie.Need-refusal-requires
 refusal_requires c κs = search rules
 
 returns : tie.Need-returns-then-not-good
-returns c = answers_bad c.learn_names-checked.ensures.checked (not-true _ c.if-not-good.true) c.refusal.ensures
+returns c = answers_bad c.learn_names-checked.ensures.checked c.if-not-good.true c.refusal.ensures
 
 refusal_requires_2 : tie.Need-refusal-requires-then-document-gt-MOST_BYTES
 refusal_requires_2 c κs = search rules
@@ -33,7 +33,7 @@ refusal_requires_2 c κs = search rules
 returns_2 : tie.Need-returns-then-document-gt-MOST_BYTES
 returns_2 c =
     let g = c.before.before in
-    answers_refused (learnt g).learn_names-checked.ensures.checked (not-false _ g.if-not-good.false) (long_verdict c.if-document-gt-MOST_BYTES.true c.refusal-then-document-gt-MOST_BYTES.ensures)
+    answers_refused (learnt g).learn_names-checked.ensures.checked g.if-not-good.false (long_verdict c.if-document-gt-MOST_BYTES.true c.refusal-then-document-gt-MOST_BYTES.ensures)
     (λ e. omega (arith, e, c.refusal-then-document-gt-MOST_BYTES.ensures.0))
 
 slice_aggregate_read_rows : tie.Need-slice_bounds-read_rows-end
@@ -42,7 +42,7 @@ slice_aggregate_read_rows c = search rules
 read_rows_requires : tie.Need-read_rows-requires
 read_rows_requires c κs =
     let g = (short c).before in
-    (_, may_read (learnt g).learn_names-checked.ensures (not-false _ g.if1.left) (omega (arith, length-replicate {A = ℕ} 11264 0)) (short c).if-document-gt-MOST_BYTES.false)
+    (_, may_read (learnt g).learn_names-checked.ensures g.if1.left (omega (arith, length-replicate {A = ℕ} 11264 0)) (short c).if-document-gt-MOST_BYTES.false)
 
 same_length : tie.Need-shape_of-label
 same_length c = search rules

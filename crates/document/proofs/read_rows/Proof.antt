@@ -17,7 +17,7 @@ begun n = n.before.before.before.before.before.before.before.before.before.befor
 
 -- .. from the rows that are noted to the notes
 abbrev notes : tie.In-Rows → tie.After-note
-notes c = c.before.before.before
+notes c = c.before
 
 -- .. and from the copies back to where the rows fit
 abbrev fitting : tie.After-copy_rows → tie.Else-not-fits
@@ -36,8 +36,8 @@ may n = (begun n).requires.1
 abbrev noted : tie.After-note → Noted → Type 0
 noted n = Notes (begun n).args.document.now n.note.new.1.0 n.note.new.1.1.0 n.note.new.1.1.1.0
 
-rows_noted : (c : tie.In-Rows) → noted (notes c) (Rows c.rows-1.given.0.0)
-rows_noted c = subst (noted (notes c)) c.rows-1.given.1 (notes c).note.ensures
+rows_noted : (c : tie.In-Rows) → noted (notes c) (Rows c.in-Rows.rows)
+rows_noted c = subst (noted (notes c)) c.in-Rows.is (notes c).note.ensures
 
 -- THE NEEDS
 note_requires : tie.Need-note-requires
@@ -48,8 +48,8 @@ enum_known_place c = search rules
 
 outside_requires : tie.Need-outside-requires
 outside_requires c κs =
-    let n = c.before.before.before in
-    omega (arith, (subst (noted n) c.place-1.given.1 n.note.ensures).within, (may n).short)
+    let n = c.before in
+    omega (arith, (subst (noted n) c.in-Outside.is n.note.ensures).within, (may n).short)
 
 enum_told : tie.Need-enum_told-1
 enum_told c = search rules
@@ -77,7 +77,7 @@ copy_rows_requires : tie.Need-copy_rows-requires
 copy_rows_requires c κs =
     let e = c.before.before.before.before.before.before in
     let r = rows_noted (rows_told e) in
-    let h = e.before.fits2.ensures.0 (not-false _ e.if-not-fits.false) in
+    let h = e.before.fits2.ensures.0 e.if-not-fits.false in
     (r.long, omega (arith, r.few), h.2, h.3, h.1)
 
 label_rows_requires : tie.Need-label_rows-requires
@@ -85,7 +85,7 @@ label_rows_requires c κs =
     let e = fitting (copies c) in
     let t = rows_told e in
     let a = (begun (notes t)).args in
-    may_label_rows a.label.now a.size.now a.start.now a.length.now (may (notes t)) (rows_noted t) (e.before.fits2.ensures.0 (not-false _ e.if1.left))
+    may_label_rows a.label.now a.size.now a.start.now a.length.now (may (notes t)) (rows_noted t) (e.before.fits2.ensures.0 e.if1.left)
 
 accepted_requires : tie.Need-accepted-requires
 accepted_requires c κs =
@@ -95,14 +95,14 @@ accepted_requires c κs =
 returns_2 : tie.Need-returns-in-Outside
 returns_2 c =
     let t = c.before in
-    let n = t.before.before.before in
-    answers_refused (may n).learnt.checked refl (outside_verdict (may n).short (subst (noted n) t.place-1.given.1 n.note.ensures) c.outside.ensures)
+    let n = t.before in
+    answers_refused (may n).learnt.checked refl (outside_verdict (may n).short (subst (noted n) t.in-Outside.is n.note.ensures) c.outside.ensures)
     (λ e. omega (arith, e, c.outside.ensures.0))
 
 returns_3 : tie.Need-returns-in-Beyond
 returns_3 c =
-    let n = c.before.before.before in
-    answers_refused (may n).learnt.checked refl c.judge.ensures (beyond_refused (subst (noted n) c.enum_told-1.given.1 n.note.ensures) c.judge.ensures)
+    let n = c.before.before in
+    answers_refused (may n).learnt.checked refl c.judge.ensures (beyond_refused (subst (noted n) c.in-Beyond.is n.note.ensures) c.judge.ensures)
 
 same_length : tie.Need-shape_of-index
 same_length c = search rules
@@ -125,7 +125,7 @@ returns_4 c =
     let k = copies l.before in
     let e = fitting k in
     let t = rows_told e in
-    answers_read _ _ _ _ (may (notes t)) (rows_noted t) (e.before.fits2.ensures.0 (not-false _ e.if-not-fits.left)) k.copy_rows.ensures l.label_rows.ensures c.accepted.ensures
+    answers_read _ _ _ _ (may (notes t)) (rows_noted t) (e.before.fits2.ensures.0 e.if-not-fits.left) k.copy_rows.ensures l.label_rows.ensures c.accepted.ensures
 
 pub read_rows_spec : {M : Type 1} → statement M
 read_rows_spec =

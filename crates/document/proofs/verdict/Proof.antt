@@ -18,9 +18,9 @@ enum_known_place c = search rules
 
 outside_requires : tie.Need-outside-requires
 outside_requires c κs =
-    let c₃ = c.before.before.before in
+    let c₃ = c.before in
     let c₇ = c₃.before.before.before.before in
-    omega (arith, (rw c.place-1.given.1 at c₃.note.ensures).within, c₇.if-document-gt-MOST_BYTES.false)
+    omega (arith, (rw c.in-Outside.is at c₃.note.ensures).within, c₇.if-document-gt-MOST_BYTES.false)
 
 enum_told : tie.Need-enum_told-1
 enum_told c = search rules
@@ -33,15 +33,15 @@ enum_known_rows c = search rules
 
 accepted_requires : tie.Need-accepted-requires
 accepted_requires c κs =
-    let c₃ = c.before.before.before in
-    (rw c.rows-1.given.1 at c₃.note.ensures).few
+    let c₃ = c.before in
+    (rw c.in-Rows.is at c₃.note.ensures).few
 
 returns_2 : tie.Need-returns-in-Outside
 returns_2 c =
     let c₂ = c.before.before in
-    let c₄ = c₂.before.before in
+    let c₄ = c₂.before in
     let c₈ = c₄.before.before.before.before in
-    outside_verdict c₈.if-document-gt-MOST_BYTES.false (rw c₂.place-1.given.1 at c₄.note.ensures) c.outside.ensures
+    outside_verdict c₈.if-document-gt-MOST_BYTES.false (rw c₂.in-Outside.is at c₄.note.ensures) c.outside.ensures
 
 returns_3 : tie.Need-returns-in-Beyond
 returns_3 c = search rules
@@ -49,9 +49,9 @@ returns_3 c = search rules
 returns_4 : tie.Need-returns-in-Rows
 returns_4 c =
     let c₂ = c.before.before in
-    let c₄ = c₂.before.before in
+    let c₄ = c₂.before in
     let c₈ = c₄.before.before.before.before in
-    accepted_verdict c₈.if-document-gt-MOST_BYTES.false (rw c₂.rows-1.given.1 at c₄.note.ensures) c.accepted.ensures
+    accepted_verdict c₈.if-document-gt-MOST_BYTES.false (rw c₂.in-Rows.is at c₄.note.ensures) c.accepted.ensures
 
 pub verdict_spec : {M : Type 1} → statement M
 verdict_spec =

@@ -32,11 +32,11 @@ enum_known_w c = search rules
 
 -- src/lib.rt:44:17
 least_requires : tie.Need-least-least-requires
-least_requires c κs = need_room (begun c.before.before.before) c.w-1.given.1
+least_requires c κs = need_room (begun c.before) c.in-Need.is
 
 -- src/lib.rt:45:17
 values_requires : tie.Need-values-values-requires
-values_requires c κs = at_stop (begun c.before.before.before.before.before) c.w-1.given.1
+values_requires c κs = at_stop (begun c.before.before.before) c.in-Need.is
 
 -- src/lib.rt:46:13
 enter_requires : tie.Need-enter-requires
@@ -44,7 +44,7 @@ enter_requires c κs = record { long = length-replicate {A = ℕ} 1536 0; few = 
 
 -- src/lib.rt:52:13
 go_requires : tie.Need-go-requires
-go_requires c κs = (go_asked (begun c.before.before.before.before.before.before.before.before.before.before.before.before) c.w-1.given.1 c.least-least.ensures c.values-values.ensures c.enter.ensures, c.enter.ensures.long ∙ length-replicate {A = ℕ} 1536 0, omega (arith, c.ranges.budget), omega (arith, c.ranges.room))
+go_requires c κs = (go_asked (begun c.before.before.before.before.before.before.before.before.before.before) c.in-Need.is c.least-least.ensures c.values-values.ensures c.enter.ensures, c.enter.ensures.long ∙ length-replicate {A = ℕ} 1536 0, omega (arith, c.ranges.budget), omega (arith, c.ranges.room))
 
 -- src/lib.rt:66:16
 enum_told_2 : tie.Need-enum_told-in-Ok
@@ -56,11 +56,11 @@ ended_requires_2 c κs = search rules
 
 -- src/lib.rt:67:17
 returns : tie.Need-returns-then-room-eq0
-returns c = rw (c.ended-then-room-eq0.ensures.0, c.ended-then-room-eq0.ensures.1, c.ended-then-room-eq0.ensures.2) (begun_full (begun c.before.before.before.before) c.enum_told-in-Ok-1.given.1 c.if-room-eq0.true)
+returns c = rw (c.ended-then-room-eq0.ensures.0, c.ended-then-room-eq0.ensures.1, c.ended-then-room-eq0.ensures.2) (begun_full (begun c.before.before.before) c.in-Ok.is c.if-room-eq0.true)
 
 -- src/lib.rt:69:13
 put_requires : tie.Need-put-requires
-put_requires c κs = begun_put (begun c.before.before.before.before.before) c.enum_told-in-Ok-1.given.1 c.if-room-eq0.false
+put_requires c κs = begun_put (begun c.before.before.before.before) c.in-Ok.is c.if-room-eq0.false
 
 -- src/lib.rt:70:13
 ended_requires_3 : tie.Need-ended-requires-in-Ok
@@ -68,7 +68,7 @@ ended_requires_3 c κs = search rules
 
 -- src/lib.rt:25:1
 returns_2 : tie.Need-returns-in-Fail
-returns_2 c = rw (c.ended.ensures.0, c.ended.ensures.1, c.ended.ensures.2) (begun_fail (begun c.before.before.before) c.enum_told-1.given.1)
+returns_2 c = rw (c.ended.ensures.0, c.ended.ensures.1, c.ended.ensures.2) (begun_fail (begun c.before.before) c.in-Fail.is)
 
 -- src/lib.rt:25:1
 same_length : tie.Need-shape_of-out-in-Need
@@ -76,7 +76,7 @@ same_length c = search rules
 
 -- src/lib.rt:25:1
 returns_3 : tie.Need-returns-in-Need
-returns_3 c = begun_need (begun c.before.before.before.before.before.before.before.before.before.before.before.before.before.before.before) c.w-1.given.1 c.least-least.ensures c.values-values.ensures c.enter.ensures c.go.ensures
+returns_3 c = begun_need (begun c.before.before.before.before.before.before.before.before.before.before.before.before.before) c.in-Need.is c.least-least.ensures c.values-values.ensures c.enter.ensures c.go.ensures
 
 -- src/lib.rt:25:1
 same_length_2 : tie.Need-shape_of-out-else-room-eq0
@@ -84,7 +84,7 @@ same_length_2 c = search rules
 
 -- src/lib.rt:25:1
 returns_4 : tie.Need-returns-else-room-eq0
-returns_4 c = rw (c.ended-in-Ok.ensures.0, c.ended-in-Ok.ensures.1, c.ended-in-Ok.ensures.2, c.put.ensures) (begun_done (begun c.before.before.before.before.before.before.before.before.before) c.enum_told-in-Ok-1.given.1 c.if-room-eq0.false)
+returns_4 c = rw (c.ended-in-Ok.ensures.0, c.ended-in-Ok.ensures.1, c.ended-in-Ok.ensures.2, c.put.ensures) (begun_done (begun c.before.before.before.before.before.before.before.before) c.in-Ok.is c.if-room-eq0.false)
 
 pub begin_spec : {M : Type 1} → statement M
 begin_spec =

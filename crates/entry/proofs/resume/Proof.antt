@@ -18,21 +18,21 @@ enum_known_depth c = search rules
 
 go_requires : tie.Need-go-requires
 go_requires c κs =
-    let r = c.before.before.before.before.before.before.before in
+    let r = c.before.before.before.before.before in
     let s = r.before.before.before.before.before.before.before.before in
-    let a = arrived r.reach.ensures c.depth-1.given.1 in
+    let a = arrived r.reach.ensures c.in-At.is in
     (resumed_asked a s.requires, a.levels_long, omega (arith, s.ranges.budget), omega (arith, s.ranges.room))
 
 returns : tie.Need-returns-in-Nowhere
-returns c = resumed_nowhere c.reach.ensures c.enum_told-1.given.1
+returns c = resumed_nowhere c.reach.ensures c.in-Nowhere.is
 
 same_length : tie.Need-shape_of-out
 same_length c = search rules
 
 returns_2 : tie.Need-returns-in-At
 returns_2 c =
-    let r = c.before.before.before.before.before.before.before.before.before.before in
-    resumed_page (arrived r.reach.ensures c.depth-1.given.1) c.go.ensures
+    let r = c.before.before.before.before.before.before.before.before in
+    resumed_page (arrived r.reach.ensures c.in-At.is) c.go.ensures
 
 pub resume_spec : {M : Type 1} → statement M
 resume_spec =

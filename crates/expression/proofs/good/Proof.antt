@@ -48,7 +48,7 @@ named_requires c κs = search rules
 returns_4 : tie.Need-returns-then-not-named invariant_loop decreases_loop
 returns_4 c =
     let lo = c.loop-i in
-    says_no (λ o. true≢false (sym (c.named.ensures.1 (good_rows o.1 lo.i (omega arith)).named) ∙ not-true c.named.result c.if-not-named.true))
+    says_no (λ o. true≢false (sym (c.named.ensures.1 (good_rows o.1 lo.i (omega arith)).named) ∙ c.if-not-named.true))
 
 sized_requires : tie.Need-sized-requires invariant_loop decreases_loop
 sized_requires c κs = search rules
@@ -56,7 +56,7 @@ sized_requires c κs = search rules
 returns_5 : tie.Need-returns-then-not-sized invariant_loop decreases_loop
 returns_5 c =
     let lo = c.loop-i in
-    says_no (λ o. true≢false (sym (c.sized.ensures.1 (good_rows o.1 lo.i (omega arith)).sized) ∙ not-true c.sized.result c.if-not-sized.true))
+    says_no (λ o. true≢false (sym (c.sized.ensures.1 (good_rows o.1 lo.i (omega arith)).sized) ∙ c.if-not-sized.true))
 
 add_i : tie.Need-overflow_add-i invariant_loop decreases_loop
 add_i c = search rules
@@ -74,8 +74,8 @@ loop_again c =
       lo.invariant.4,
       below_more _ lo.i lo.invariant.5
           (record {
-            sized = c.sized.ensures.0 (not-false c.sized.result c.if-not-sized.false);
-            named = c.named.ensures.0 (not-false c.named.result c.if-not-named.false);
+            sized = c.sized.ensures.0 c.if-not-sized.false;
+            named = c.named.ensures.0 c.if-not-named.false;
           }),
     )
 

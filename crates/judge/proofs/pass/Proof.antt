@@ -37,13 +37,13 @@ begun h = h.before.before
 
 -- .. and from the arms of the match to the tag
 abbrev opening : tie.In-Opens invariant_loop decreases_loop → tie.After-next_tag invariant_loop decreases_loop
-opening c = c.before.before.before
+opening c = c.before
 
 abbrev emptying : tie.In-Empty invariant_loop decreases_loop → tie.After-next_tag invariant_loop decreases_loop
-emptying c = c.before.before.before
+emptying c = c.before
 
 abbrev closing : tie.In-Closes invariant_loop decreases_loop → tie.After-next_tag invariant_loop decreases_loop
-closing c = c.before.before.before
+closing c = c.before
 
 -- WHAT IS KNOWN THERE
 -- the run ends where
@@ -67,17 +67,17 @@ told t =
     t.next_tag.ensures _ _ _
     (tagging (head t).loop-names.invariant (ran m).run_end-text.ensures (short (head t)) m.more-seen.ensures t.innermost-name.ensures.1 (sym (looked t).byte_at.ensures ∙ (looked t).if-byte_at-ne60.false))
 
-refused_at : (c : tie.In-Refused invariant_loop decreases_loop) → does c.before.before.before (Refused c.place-1.given.0.0)
-refused_at c = subst (does c.before.before.before) c.place-1.given.1 (told c.before.before.before)
+refused_at : (c : tie.In-Refused invariant_loop decreases_loop) → does c.before (Refused c.in-Refused.place)
+refused_at c = subst (does c.before) c.in-Refused.is (told c.before)
 
-opened_to : (c : tie.In-Opens invariant_loop decreases_loop) → does (opening c) (Opens c.next-1.given.0.0 c.next-1.given.0.1.0)
-opened_to c = subst (does (opening c)) c.next-1.given.1 (told (opening c))
+opened_to : (c : tie.In-Opens invariant_loop decreases_loop) → does (opening c) (Opens c.in-Opens.field-0 c.in-Opens.next)
+opened_to c = subst (does (opening c)) c.in-Opens.is (told (opening c))
 
-emptied_to : (c : tie.In-Empty invariant_loop decreases_loop) → does (emptying c) (Empty c.next-in-Empty-1.given.0.0 c.next-in-Empty-1.given.0.1.0)
-emptied_to c = subst (does (emptying c)) c.next-in-Empty-1.given.1 (told (emptying c))
+emptied_to : (c : tie.In-Empty invariant_loop decreases_loop) → does (emptying c) (Empty c.in-Empty.field-0 c.in-Empty.next)
+emptied_to c = subst (does (emptying c)) c.in-Empty.is (told (emptying c))
 
-closed_to : (c : tie.In-Closes invariant_loop decreases_loop) → does (closing c) (Closes c.next-in-Closes-1.given.0.0)
-closed_to c = subst (does (closing c)) c.next-in-Closes-1.given.1 (told (closing c))
+closed_to : (c : tie.In-Closes invariant_loop decreases_loop) → does (closing c) (Closes c.in-Closes.next)
+closed_to c = subst (does (closing c)) c.in-Closes.is (told (closing c))
 
 -- where a tag opens there are not too many
 room : (c : tie.In-Opens invariant_loop decreases_loop) → (head (opening c)).loop.depth < 10922
@@ -142,10 +142,10 @@ enum_known_place : tie.Need-enum_known-place invariant_loop decreases_loop
 enum_known_place c = search rules
 
 outside_requires : tie.Need-outside-requires invariant_loop decreases_loop
-outside_requires c κs = omega (arith, (refused_at c).within, short (head c.before.before.before))
+outside_requires c κs = omega (arith, (refused_at c).within, short (head c.before))
 
 returns_2 : tie.Need-returns-in-Refused invariant_loop decreases_loop
-returns_2 c = outside_is (short (head c.before.before.before.before)) (refused_at c.before) c.outside.ensures
+returns_2 c = outside_is (short (head c.before.before)) (refused_at c.before) c.outside.ensures
 
 enum_known_next : tie.Need-enum_known-next invariant_loop decreases_loop
 enum_known_next c = search rules

@@ -17,7 +17,7 @@ gated_requires c κs = search rules
 
 returns : tie.Need-returns-in-0
 returns c =
-    rw c.in-0.keys1 (
+    rw c.in-0.is (
       ap (λ (x : ℕ). x % 2 ^ 64) (one-mul (2 ^ c.args.row)) ∙ mod-eq_of_lt (pow-lt c.requires),
       refl,
     )
@@ -28,10 +28,10 @@ returns_2 c = search rules
 returns_3 : tie.Need-returns-in-2
 returns_3 c =
     let g = c.before.before.before in
-    rw g.in-2.keys3 (ap (λ (x : ℕ). bit_or g.args.l.first x) g.gated-more.ensures, refl)
+    rw g.in-2.is (ap (λ (x : ℕ). bit_or g.args.l.first x) g.gated-more.ensures, refl)
 
 returns_4 : tie.Need-returns-in-3
-returns_4 c = rw c.in-3.keys4 (refl, refl)
+returns_4 c = rw c.in-3.is (refl, refl)
 
 returns_5 : tie.Need-returns-in_default
 returns_5 c =

@@ -71,7 +71,7 @@ enum_told c = search rules
 
 no_page_requires : tie.Need-no_page-requires
 no_page_requires c κs =
-    let z = (measured (tabled (packed c.before.before.before.before.before.before))).before in
+    let z = (measured (tabled (packed c.before.before.before.before.before))).before in
     record_asked _ z.before.check.ensures [] 0 [] z.if1.left
 
 enum_known_found : tie.Need-enum_known-found
@@ -85,27 +85,27 @@ same_length c = search rules
 
 returns_3 : tie.Need-returns-in-NoMatcher
 returns_3 c =
-    let r = c.before.before.before.before.before.before.before in
+    let r = c.before.before.before.before.before.before in
     let k = packed r in
     let t = tabled k in
     let e = measured t in
     let z = e.before in
     page_none _ z.before.check.ensures _ _ _ z.if1.left e.if-record-width.left t.tables_of.ensures k.pack.ensures refl r.room_for-room.ensures
-    r.resume.ensures c.enum_told-1.given.1 c.no_page.ensures
+    r.resume.ensures c.in-NoMatcher.is c.no_page.ensures
 
 same_length_2 : tie.Need-shape_of-out-in-Page
 same_length_2 c = search rules
 
 returns_4 : tie.Need-returns-in-Page
 returns_4 c =
-    let r = c.before.before.before.before.before.before in
+    let r = c.before.before.before.before in
     let k = packed r in
     let t = tabled k in
     let e = measured t in
     let z = e.before in
     rw c.accepted.ensures
     (page_done _ z.before.check.ensures _ _ _ z.if1.left e.if-record-width.left t.tables_of.ensures k.pack.ensures refl r.room_for-room.ensures
-    r.resume.ensures c.found-1.given.1)
+    r.resume.ensures c.in-Page.is)
 
 pub list_after_spec : {M : Type 1} → statement M
 list_after_spec =

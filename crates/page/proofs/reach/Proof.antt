@@ -32,65 +32,65 @@ enum_told : tie.Need-enum_told-1 invariant_loop decreases_loop
 enum_told c = search rules
 
 returns : tie.Need-returns-in-Fail invariant_loop decreases_loop
-returns c = reach_fails c.loop-o.invariant.0 c.enum_told-1.given.1
+returns c = reach_fails c.loop-o.invariant.0 c.in-Fail.is
 
 enum_told_2 : tie.Need-enum_told-in-Ok invariant_loop decreases_loop
 enum_told_2 c = search rules
 
 equal_requires : tie.Need-equal-requires invariant_loop decreases_loop
 equal_requires c κs =
-    let h = c.before.before.before in
+    let h = c.before.before in
     (h.loop.invariant.0.record_long, reach_short h.loop.invariant.0 (begun h).requires.some.5)
 
 returns_2 : tie.Need-returns-then-equal invariant_loop decreases_loop
-returns_2 c = reach_found c.before.before.before.before.before.loop.invariant.0 c.before.before.before.enum-told2.given.1 c.equal.ensures c.if-equal.true
+returns_2 c = reach_found c.before.before.before.before.before.loop.invariant.0 c.in-Ok.is c.equal.ensures c.if-equal.true
 
 returns_3 : tie.Need-returns-in-Ok invariant_loop decreases_loop
-returns_3 c = reach_other c.before.before.before.before.before.loop.invariant.0 c.before.before.before.enum-told2.given.1 c.equal.ensures c.if-equal.false
+returns_3 c = reach_other c.before.before.before.before.before.loop.invariant.0 c.in-Ok.is c.equal.ensures c.if-equal.false
 
 enum_known_o : tie.Need-enum_known-o invariant_loop decreases_loop
 enum_known_o c = search rules
 
 choose_requires : tie.Need-choose-requires invariant_loop decreases_loop
 choose_requires c κs =
-    let h = c.before.before.before.before.before in
-    reach_chooses h.loop.invariant.0 c.before.before.before.o.given.1 (begun h).requires.some.5
+    let h = c.before.before.before in
+    reach_chooses h.loop.invariant.0 c.in-Need.is (begun h).requires.some.5
 
 enum_told_3 : tie.Need-enum_told-in-Beyond invariant_loop decreases_loop
 enum_told_3 c = search rules
 
 returns_4 : tie.Need-returns-in-Beyond invariant_loop decreases_loop
 returns_4 c =
-    let h = c.before.before.before.before.before.before.before.before in
-    reach_beyond h.loop.invariant.0 c.before.before.before.before.before.before.o.given.1 c.choose.ensures c.enum_told-in-Beyond-1.given.1
+    let h = c.before.before.before.before.before in
+    reach_beyond h.loop.invariant.0 c.in-Need.is c.choose.ensures c.in-Beyond.is
 
 enum_known_t : tie.Need-enum_known-t invariant_loop decreases_loop
 enum_known_t c = search rules
 
 attempt_requires : tie.Need-attempt-o-requires invariant_loop decreases_loop
 attempt_requires c κs =
-    let h = c.before.before.before.before.before.before.before.before.before.before.before.before.before in
+    let h = c.before.before.before.before.before.before.before.before.before in
     let k = c.before.before.before.before.before in (
-      reach_tries h.loop.invariant.0 k.before.before.before.before.before.before.o.given.1 (rw k.t-1.given.1 at k.choose.ensures) (begun h).requires.some.5,
+      reach_tries h.loop.invariant.0 k.in-Need.is (rw k.in-Value.is at k.choose.ensures) (begun h).requires.some.5,
       h.loop.invariant.1,
     )
 
 add_depth : tie.Need-overflow_add-depth invariant_loop decreases_loop
 add_depth c =
-    let h = c.before.before.before.before.before.before.before.before.before.before.before.before.before.before in
-    omega (arith, reach_deep h.loop.invariant.0 c.before.before.before.before.before.before.before.before.before.before.before.before.o.given.1 (begun h).requires.some.5)
+    let h = c.before.before.before.before.before.before.before.before.before.before in
+    omega (arith, reach_deep h.loop.invariant.0 c.in-Need.is (begun h).requires.some.5)
 
 loop_less : tie.Need-loop-o-smaller invariant_loop decreases_loop
 loop_less c =
-    let h = c.before.before.before.before.before.before.before.before.before.before.before.before.before.before in
-    omega (arith, reach_deep h.loop.invariant.0 c.before.before.before.before.before.before.before.before.before.before.before.before.o.given.1 (begun h).requires.some.5)
+    let h = c.before.before.before.before.before.before.before.before.before.before in
+    omega (arith, reach_deep h.loop.invariant.0 c.in-Need.is (begun h).requires.some.5)
 
 loop_again : tie.Need-loop-o-preserved invariant_loop decreases_loop
 loop_again c =
-    let h = c.before.before.before.before.before.before.before.before.before.before.before.before.before.before in
+    let h = c.before.before.before.before.before.before.before.before.before.before in
     let k = c.before.before.before.before.before.before in
-    let o = k.before.before.before.before.before.before.o.given.1 in
-    let post = rw k.t-1.given.1 at k.choose.ensures in
+    let o = k.in-Need.is in
+    let post = rw k.in-Value.is at k.choose.ensures in
     let pre = reach_tries h.loop.invariant.0 o post (begun h).requires.some.5 in
     (reach_again h.loop.invariant.0 o post (try_long pre c.attempt-o.ensures.0 ∙ h.loop.invariant.0.record_long) c.attempt-o.ensures.0, c.attempt-o.ensures.1)
 

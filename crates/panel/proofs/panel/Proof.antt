@@ -34,16 +34,16 @@ agree_requires : tie.Need-agree-requires invariant_loop decreases_loop
 agree_requires c κs = search rules
 
 returns : tie.Need-returns-then-not-agree invariant_loop decreases_loop
-returns c = lists_disagree _ _ _ c.agree.ensures (not-true _ c.if-not-agree.true)
+returns c = lists_disagree _ _ _ c.agree.ensures c.if-not-agree.true
 
 whole_requires : tie.Need-whole-all-requires invariant_loop decreases_loop
-whole_requires c κs = few_lengths c.agree.ensures (not-false _ c.if-not-agree.false)
+whole_requires c κs = few_lengths c.agree.ensures c.if-not-agree.false
 
 fill_requires : tie.Need-fill-requires invariant_loop decreases_loop
 fill_requires c κs = search rules
 
 returns_2 : tie.Need-returns-then-not-fill invariant_loop decreases_loop
-returns_2 c = do_not_add_up _ _ _ c.whole-all.ensures c.fill.ensures (not-true _ c.if-not-fill.true)
+returns_2 c = do_not_add_up _ _ _ c.whole-all.ensures c.fill.ensures c.if-not-fill.true
 
 good_requires : tie.Need-good-tree-requires invariant_loop decreases_loop
 good_requires c κs = search rules
@@ -52,7 +52,7 @@ loop_holds : tie.Need-loop-i-init invariant_loop decreases_loop
 loop_holds c =
     let f = c.before.before in
     let o = f.before.before in
-    begins _ _ _ o.agree.ensures (not-false _ o.if-not-agree.false) f.whole-all.ensures f.fill.ensures (not-false _ c.if-not-fill.false) c.good2.ensures
+    begins _ _ _ o.agree.ensures o.if-not-agree.false f.whole-all.ensures f.fill.ensures c.if-not-fill.false c.good2.ensures
 
 with_next_requires : tie.Need-with_next-to-requires invariant_loop decreases_loop
 with_next_requires c κs = next_asked c.loop-i.invariant (omega arith)

@@ -35,13 +35,13 @@ refused_requires_4 c κs = search rules
 returns_4 : tie.Need-returns-then-not-shape
 returns_4 c =
     let t = c.shape in
-    let h = said_no t.ensures (not-true t.result c.if-not-shape.true) in
+    let h = said_no t.ensures c.if-not-shape.true in
     settled_no (λ g. h (good_shape g.2, omega (arith, c.if-rows-gt256.false, c.if-size-rows.false))) c.refused-then-not-shape.ensures
 
 shared_slice_read_if5 : tie.Need-bounds-kind-0
 shared_slice_read_if5 c =
     let t = c.shape in
-    let h = shape_some (t.ensures.0 (not-false t.result c.if-not-shape.false)).0 in
+    let h = shape_some (t.ensures.0 c.if-not-shape.false).0 in
     omega (arith, h, c.if-size-rows.false)
 
 refused_requires_5 : tie.Need-refused-requires-then-kind-eq-SEQUENCE
@@ -56,7 +56,7 @@ scan_requires c κs = search rules
 returns_6 : tie.Need-returns
 returns_6 c =
     let t = c.shape in
-    let h = (t.ensures.0 (not-false t.result c.if-not-shape.false)).0 in
+    let h = (t.ensures.0 c.if-not-shape.false).0 in
     settled_scan h c.if-kind-eq-SEQUENCE.false c.if-rows-gt256.false c.scan.ensures
 
 pub check_spec : {M : Type 1} → statement M

@@ -42,7 +42,7 @@ inside w = w.loop-row-test.true
 fits : (w : tie.After-named-naming invariant_loop decreases_loop) → SizedAt (kind_of_code w) (size_of w) (row_of w)
 fits w =
     let t = w.sized in
-    t.ensures.0 (not-false t.result w.if-not-sized.false)
+    t.ensures.0 w.if-not-sized.false
 
 naming : (w : tie.After-named-naming invariant_loop decreases_loop)
     → Named (before w).loop-row.kinds (get_or (kind_of_code w) (row_of w) 0) (get_or (name_of w) (row_of w) 0) (before w).loop-row.variables w.named-naming.result
@@ -62,7 +62,7 @@ returns : tie.Need-returns-then-not-sized invariant_loop decreases_loop
 returns c =
     let v = c.loop-row.invariant in
     let t = c.sized in
-    let h = said_no t.ensures (not-true t.result c.if-not-sized.true) in
+    let h = said_no t.ensures c.if-not-sized.true in
     failed (seen_unsized v.3 v.1 v.2 c.loop-row-test.true h) c.refused.ensures
 
 mul_k : tie.Need-offset_bounds-kind-row invariant_loop decreases_loop
@@ -88,9 +88,9 @@ refused_requires_2 c κs = search rules
 
 returns_2 : tie.Need-returns-in-Bad invariant_loop decreases_loop
 returns_2 c =
-    let w = c.before.before.before in
+    let w = c.before.before in
     let v = (before w).loop-row.invariant in
-    failed (seen_misnamed v.3 v.1 v.2 (inside w) (named_as c.enum_told-1.given.1 (naming w))) c.refused-in-Bad.ensures
+    failed (seen_misnamed v.3 v.1 v.2 (inside w) (named_as c.in-Bad.is (naming w))) c.refused-in-Bad.ensures
 
 enum_told_2 : tie.Need-enum_told-in-Known invariant_loop decreases_loop
 enum_told_2 c = search rules
@@ -100,9 +100,9 @@ loop_less c = search rules
 
 loop_again : tie.Need-loop-row-preserved-in-Known invariant_loop decreases_loop
 loop_again c =
-    let w = c.before.before in
+    let w = c.before in
     let v = (before w).loop-row.invariant in
-    (omega arith, v.1, v.2, seen_known v.3 v.1 v.2 (inside w) (fits w) (named_as c.enum_told-in-Known-1.given.1 (naming w)))
+    (omega arith, v.1, v.2, seen_known v.3 v.1 v.2 (inside w) (fits w) (named_as c.in-Known.is (naming w)))
 
 enum_told_3 : tie.Need-enum_told-in-New invariant_loop decreases_loop
 enum_told_3 c = search rules
@@ -111,7 +111,7 @@ mul_kinds : tie.Need-offset_bounds-kinds-variables invariant_loop decreases_loop
 mul_kinds c = search rules
 
 array_write_kinds : tie.Need-bounds-kinds-variables invariant_loop decreases_loop
-array_write_kinds c = new_room (named_as c.enum_told-in-New-1.given.1 (naming c.before.before))
+array_write_kinds c = new_room (named_as c.in-New.is (naming c.before))
 
 add_variables : tie.Need-overflow_add-variables invariant_loop decreases_loop
 add_variables c = search rules
@@ -121,9 +121,9 @@ loop_less_2 c = search rules
 
 loop_again_2 : tie.Need-loop-row-preserved invariant_loop decreases_loop
 loop_again_2 c =
-    let w = c.before.before in
+    let w = c.before in
     let v = (before w).loop-row.invariant in
-    (omega arith, v.1, v.2, seen_new v.3 v.1 v.2 (inside w) (fits w) (named_as c.enum_told-in-New-1.given.1 (naming w)))
+    (omega arith, v.1, v.2, seen_new v.3 v.1 v.2 (inside w) (fits w) (named_as c.in-New.is (naming w)))
 
 returns_3 : tie.Need-returns invariant_loop decreases_loop
 returns_3 c =

@@ -21,16 +21,16 @@ shared_slice_read_result : tie.Need-bounds-size-row
 shared_slice_read_result c = search rules
 
 returns : tie.Need-returns-in-0
-returns c = any_size c.in-0.keys1
+returns c = any_size c.in-0.is
 
 returns_2 : tie.Need-returns-in-4
-returns_2 c = says_of a_context c.in-4.keys2 c.one_argument.ensures
+returns_2 c = says_of a_context c.in-4.is c.one_argument.ensures
 
 returns_3 : tie.Need-returns-in-1
-returns_3 c = size_one c.in_default-1.rest.0.1 c.if-this-lt3.true
+returns_3 c = size_one c.in-1.in_default-own.rest.0.1 c.in-1.if-this-lt3-own.true
 
 returns_4 : tie.Need-returns-in_default
-returns_4 c = no_kind c.in_default-1.rest.0.1 c.in_default-1.rest.1 c.if-this-lt3.false
+returns_4 c = no_kind c.in_default.in_default-own.rest.0.1 c.in_default.in_default-own.rest.1 c.in_default.if-this-lt3-own.false
 
 pub sized_spec : {M : Type 1} → statement M
 sized_spec =

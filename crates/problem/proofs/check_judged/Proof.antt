@@ -10,7 +10,7 @@ refused_requires : tie.Need-refused-requires
 refused_requires c κs = search rules
 
 returns : tie.Need-returns-then-not-tree
-returns c = record { on = λ L S j. no_tree _ j (not-true _ c.if-not-tree.true) c.refused.ensures }
+returns c = record { on = λ L S j. no_tree _ j c.if-not-tree.true c.refused.ensures }
 
 check_requires : tie.Need-check-checked-requires
 check_requires c κs = search rules
@@ -21,7 +21,7 @@ refused_requires_2 c κs = search rules
 returns_2 : tie.Need-returns-then-not-checked
 returns_2 c =
     let first = c.before.before.before.before in
-    record { on = λ L S j. no_pattern _ j (not-false _ first.if-not-tree.false) c.check-checked.ensures (not-true _ c.if-not-checked.true) c.refused-then-not-checked.ensures }
+    record { on = λ L S j. no_pattern _ j first.if-not-tree.false c.check-checked.ensures c.if-not-checked.true c.refused-then-not-checked.ensures }
 
 good_requires : tie.Need-good-requires
 good_requires c κs = search rules
@@ -34,15 +34,15 @@ returns_3 c =
     let second = c.before.before.before in
     let first = second.before.before.before in
     record {
-      on = λ L S j. no_table _ j (not-false _ first.if-not-tree.false) second.check-checked.ensures (not-false _ second.if-not-checked.false) c.before.before.good2.ensures
-          (not-true _ c.if-not-good.true) c.refused-then-not-good.ensures;
+      on = λ L S j. no_table _ j first.if-not-tree.false second.check-checked.ensures second.if-not-checked.false c.before.before.good2.ensures
+          c.if-not-good.true c.refused-then-not-good.ensures;
     }
 
 given_requires : tie.Need-given-requires
 given_requires c κs =
     let third = c.before.before in
     let second = third.before.before in
-    list_asked second.check-checked.ensures third.before.good2.ensures (not-false _ second.if-not-checked.false) (not-false _ third.if-not-good.false)
+    list_asked second.check-checked.ensures third.before.good2.ensures second.if-not-checked.false third.if-not-good.false
 
 refused_requires_4 : tie.Need-refused-requires-then-not-given
 refused_requires_4 c κs = search rules
@@ -53,16 +53,16 @@ returns_4 c =
     let second = third.before.before in
     let first = second.before.before.before in
     record {
-      on = λ L S j. no_constraints _ j (not-false _ first.if-not-tree.false) second.check-checked.ensures (not-false _ second.if-not-checked.false) third.before.good2.ensures
-          (not-false _ third.if-not-good.false) c.given.ensures (not-true _ c.if-not-given.true) c.refused-then-not-given.ensures;
+      on = λ L S j. no_constraints _ j first.if-not-tree.false second.check-checked.ensures second.if-not-checked.false third.before.good2.ensures
+          third.if-not-good.false c.given.ensures c.if-not-given.true c.refused-then-not-given.ensures;
     }
 
 all_named_requires : tie.Need-all_named-requires
 all_named_requires c κs =
     let third = c.before.before.before.before in
     let second = third.before.before in
-    names_asked second.check-checked.ensures (not-false _ second.if-not-checked.false) third.before.good2.ensures
-    (not-false _ third.if-not-good.false) c.given.ensures (not-false _ c.if-not-given.false)
+    names_asked second.check-checked.ensures second.if-not-checked.false third.before.good2.ensures
+    third.if-not-good.false c.given.ensures c.if-not-given.false
 
 refused_requires_5 : tie.Need-refused-requires-then-not-all_named
 refused_requires_5 c κs = search rules
@@ -74,8 +74,8 @@ returns_5 c =
     let second = third.before.before in
     let first = second.before.before.before in
     record {
-      on = λ L S j. forgotten _ j (not-false _ first.if-not-tree.false) second.check-checked.ensures (not-false _ second.if-not-checked.false) third.before.good2.ensures
-          (not-false _ third.if-not-good.false) fourth.given.ensures (not-false _ fourth.if-not-given.false) c.all_named.ensures (not-true _ c.if-not-all_named.true) c.refused-then-not-all_named.ensures;
+      on = λ L S j. forgotten _ j first.if-not-tree.false second.check-checked.ensures second.if-not-checked.false third.before.good2.ensures
+          third.if-not-good.false fourth.given.ensures fourth.if-not-given.false c.all_named.ensures c.if-not-all_named.true c.refused-then-not-all_named.ensures;
     }
 
 returns_6 : tie.Need-returns
@@ -85,8 +85,8 @@ returns_6 c =
     let second = third.before.before in
     let first = second.before.before.before in
     record {
-      on = λ L S j. all_good _ j (not-false _ first.if-not-tree.false) second.check-checked.ensures (not-false _ second.if-not-checked.false) third.before.good2.ensures
-          (not-false _ third.if-not-good.false) fourth.given.ensures (not-false _ fourth.if-not-given.false) c.all_named.ensures (not-false _ c.if-not-all_named.false) refl;
+      on = λ L S j. all_good _ j first.if-not-tree.false second.check-checked.ensures second.if-not-checked.false third.before.good2.ensures
+          third.if-not-good.false fourth.given.ensures fourth.if-not-given.false c.all_named.ensures c.if-not-all_named.false refl;
     }
 
 pub check_judged_spec : {M : Type 1} → statement M

@@ -89,10 +89,10 @@ long c = (passed c).next_try-t.ensures.moved.long ∙ (head (passed c)).loop.inv
 
 -- the walk is done, and there is room for the record
 room_left : (c : tie.Else-count-room invariant_loop decreases_loop) →
-    let h = head (passed c.before.before.before) in
+    let h = head (passed c.before.before) in
     let width = (begun h).args.limits.width in
     (width ≤ 32) × (h.loop.count * width + width ≤ length h.loop.out)
-room_left c = put_asked (after c.before.before.before) c.enum_told-in-Ok-1.given.1 (begun (head (passed c.before.before.before))).pre.0 c.if-count-room.false
+room_left c = put_asked (after c.before.before) c.in-Ok.is (begun (head (passed c.before.before))).pre.0 c.if-count-room.false
 
 loop_holds : tie.Need-loop-depth-init invariant_loop decreases_loop
 loop_holds c = (going_start (columns_long c.args.levels.now) c.requires.0, record { sequences = blank _ _ _ _; contexts = paths.blank _ _ _ _ }, c.requires.1)
@@ -137,25 +137,25 @@ enum_told : tie.Need-enum_told-1 invariant_loop decreases_loop
 enum_told c = search rules
 
 loop_less : tie.Need-loop-depth-smaller-in-Fail invariant_loop decreases_loop
-loop_less c = omega (arith, (after c.before.before).charged)
+loop_less c = omega (arith, (after c.before).charged)
 
 loop_again : tie.Need-loop-depth-preserved-in-Fail invariant_loop decreases_loop
-loop_again c = (tried_fail (after c.before.before) c.enum_told-1.given.1, c.attempt.ensures.1, long c.before.before)
+loop_again c = (tried_fail (after c.before) c.in-Fail.is, c.attempt.ensures.1, long c.before)
 
 enum_known_w : tie.Need-enum_known-w invariant_loop decreases_loop
 enum_known_w c = search rules
 
 deeper_requires : tie.Need-deeper-requires invariant_loop decreases_loop
-deeper_requires c κs = deeper_pre (ready c.before.before.before.before.before.before.before.before.before.before.before.before.before.before.before) c.requires.0 c.before.before.before.before.before.before.before.before.before.before.before.next-try.ensures c.before.before.before.before.before.attempt.ensures.0 c.before.before.before.w.given.1 c.before.before.before.before.before.before.before.before.before.before.before.before.before.before.before.before.before.before.loop.invariant.2
+deeper_requires c κs = deeper_pre (ready c.before.before.before.before.before.before.before.before.before.before.before.before.before) c.requires.0 c.before.before.before.before.before.before.before.before.before.before.before.next-try.ensures c.before.before.before.before.before.attempt.ensures.0 c.in-Need.is c.before.before.before.before.before.before.before.before.before.before.before.before.before.before.before.before.before.before.loop.invariant.2
 
 add_depth : tie.Need-overflow_add-depth invariant_loop decreases_loop
-add_depth c = omega (arith, need_fits (after c.before.before.before.before.before.before) c.before.before.before.before.w.given.1 c.requires.0)
+add_depth c = omega (arith, need_fits (after c.before.before.before.before) c.in-Need.is c.requires.0)
 
 loop_less_2 : tie.Need-loop-depth-smaller-in-Need invariant_loop decreases_loop
-loop_less_2 c = omega (arith, (after c.before.before.before.before.before.before).charged)
+loop_less_2 c = omega (arith, (after c.before.before.before.before).charged)
 
 loop_again_2 : tie.Need-loop-depth-preserved-in-Need invariant_loop decreases_loop
-loop_again_2 c = (entered (ready c.before.before.before.before.before.before.before.before.before.before.before.before.before.before.before.before) c.requires.0 c.before.before.before.before.before.before.before.before.before.before.before.before.next-try.ensures c.before.before.before.before.before.before.attempt.ensures.0 c.before.before.before.before.w.given.1 c.deeper.ensures, c.before.before.before.before.before.before.attempt.ensures.1, c.deeper.ensures.entered.long ∙ long c.before.before.before.before.before.before)
+loop_again_2 c = (entered (ready c.before.before.before.before.before.before.before.before.before.before.before.before.before.before) c.requires.0 c.before.before.before.before.before.before.before.before.before.before.before.before.next-try.ensures c.before.before.before.before.before.before.attempt.ensures.0 c.in-Need.is c.deeper.ensures, c.before.before.before.before.before.before.attempt.ensures.1, c.deeper.ensures.entered.long ∙ long c.before.before.before.before)
 
 enum_told_2 : tie.Need-enum_told-in-Ok invariant_loop decreases_loop
 enum_told_2 c = search rules
@@ -164,25 +164,25 @@ ended_requires_3 : tie.Need-ended-requires-then-count-room invariant_loop decrea
 ended_requires_3 c κs = search rules
 
 same_length_3 : tie.Need-shape_of-out-then-count-room invariant_loop decreases_loop
-same_length_3 c = kept c.before.before.before.before.before.before.before.before.before.before.before.before.before.before.before.before.before
+same_length_3 c = kept c.before.before.before.before.before.before.before.before.before.before.before.before.before.before.before.before
 
 returns_3 : tie.Need-returns-then-count-room invariant_loop decreases_loop
-returns_3 c = rw (c.ended-then-count-room.ensures.0, c.ended-then-count-room.ensures.1, c.ended-then-count-room.ensures.2) (tried_full (after c.before.before.before.before) c.enum_told-in-Ok-1.given.1 c.if-count-room.true)
+returns_3 c = rw (c.ended-then-count-room.ensures.0, c.ended-then-count-room.ensures.1, c.ended-then-count-room.ensures.2) (tried_full (after c.before.before.before) c.in-Ok.is c.if-count-room.true)
 
 mul_put : tie.Need-overflow_mul-count invariant_loop decreases_loop
-mul_put c = omega (arith, room_left c.before, kept c.before.before.before.before.before.before.before.before.before.before.before.before.before.before.before.before.before, c.well_formed)
+mul_put c = omega (arith, room_left c.before, kept c.before.before.before.before.before.before.before.before.before.before.before.before.before.before.before.before, c.well_formed)
 
 put_requires : tie.Need-put-requires invariant_loop decreases_loop
-put_requires c κs = let r = room_left c.before.before in (r.0, (after c.before.before.before.before.before).long, r.1)
+put_requires c κs = let r = room_left c.before.before in (r.0, (after c.before.before.before.before).long, r.1)
 
 add_count : tie.Need-overflow_add-count invariant_loop decreases_loop
-add_count c = omega (arith, tried_counted (after c.before.before.before.before.before.before.before.before) c.requires.0, c.before.before.before.before.before.if3.false, c.requires.3)
+add_count c = omega (arith, tried_counted (after c.before.before.before.before.before.before.before) c.requires.0, c.before.before.before.before.before.if3.false, c.requires.3)
 
 loop_less_3 : tie.Need-loop-depth-smaller invariant_loop decreases_loop
-loop_less_3 c = omega (arith, (after c.before.before.before.before.before.before.before.before).charged)
+loop_less_3 c = omega (arith, (after c.before.before.before.before.before.before.before).charged)
 
 loop_again_3 : tie.Need-loop-depth-preserved invariant_loop decreases_loop
-loop_again_3 c = (rw c.put.ensures (tried_match (after c.before.before.before.before.before.before.before.before) c.before.before.before.before.before.before.enum-told2.given.1 c.before.before.before.before.before.if3.false), c.before.before.before.before.before.before.before.before.attempt.ensures.1, long c.before.before.before.before.before.before.before.before)
+loop_again_3 c = (rw c.put.ensures (tried_match (after c.before.before.before.before.before.before.before) c.in-Ok.is c.before.before.before.before.before.if3.false), c.before.before.before.before.before.before.before.before.attempt.ensures.1, long c.before.before.before.before.before.before.before)
 
 pub go_spec : {M : Type 1} → statement M
 go_spec = tie.close (tie.spec invariant_loop decreases_loop loop_holds back_requires ended_requires same_length returns ended_requires_2 same_length_2 returns_2 sub_next_try next_try_requires add_tries add_tries_2 attempt_requires enum_told loop_less loop_again enum_known_w deeper_requires add_depth loop_less_2 loop_again_2 enum_told_2 ended_requires_3 same_length_3 returns_3 mul_put put_requires add_count loop_less_3 loop_again_3)

@@ -33,7 +33,7 @@ allowed_requires : tie.Need-allowed-requires invariant_loop decreases_loop
 allowed_requires c κs = judge_asked _ _ _ _ _ _ _ c.loop-x-test.true c.at-a.ensures.0 c.at-b.ensures.0 c.requires
 
 returns : tie.Need-returns-then-not-allowed invariant_loop decreases_loop
-returns c = obeying_not _ _ _ _ _ _ _ c.loop-x-test.true c.at-a.ensures.0 c.at-b.ensures.0 c.allowed.ensures (not-true _ c.if-not-allowed.true)
+returns c = obeying_not _ _ _ _ _ _ _ c.loop-x-test.true c.at-a.ensures.0 c.at-b.ensures.0 c.allowed.ensures c.if-not-allowed.true
 
 add_x : tie.Need-overflow_add-x-in-loop-x-3 invariant_loop decreases_loop
 add_x c = omega (arith, list_long _ _ _ _ _ _ _ c.requires)
@@ -42,7 +42,7 @@ loop_less : tie.Need-loop-x-smaller invariant_loop decreases_loop
 loop_less c = omega arith
 
 loop_again : tie.Need-loop-x-preserved invariant_loop decreases_loop
-loop_again c = obeying_more _ _ _ _ _ _ _ c.loop-x-test.true c.at-a.ensures.0 c.at-b.ensures.0 c.loop-x.invariant c.allowed.ensures (not-false _ c.if-not-allowed.false)
+loop_again c = obeying_more _ _ _ _ _ _ _ c.loop-x-test.true c.at-a.ensures.0 c.at-b.ensures.0 c.loop-x.invariant c.allowed.ensures c.if-not-allowed.false
 
 returns_2 : tie.Need-returns invariant_loop decreases_loop
 returns_2 c = obeying_all _ _ _ _ _ _ _ c.loop-x.invariant c.loop-x-test.false

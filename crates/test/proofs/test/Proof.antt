@@ -28,7 +28,7 @@ fitted : (c : tie.Else-not-fits) →
 fitted c =
     let z = c.before.before.before.before in
     let f = c.before.fits2 in
-    record { answered = z.check-p.ensures; passed = z.if-code-ne0.false; fits = rw (not-false f.result c.if-not-fits.false) at f.ensures }
+    record { answered = z.check-p.ensures; passed = z.if-code-ne0.false; fits = rw c.if-not-fits.false at f.ensures }
 
 check_requires : tie.Need-check-p-requires
 check_requires c κs = search rules
@@ -42,13 +42,13 @@ fits_requires c κs = record_asked _ c.check-p.ensures c.if-code-ne0.false
 returns_2 : tie.Need-returns-then-not-fits
 returns_2 c =
     let z = c.before.before.before.before in
-    test_bad_record _ z.check-p.ensures z.if-code-ne0.false _ c.before.fits2.ensures (not-true _ c.if-not-fits.true)
+    test_bad_record _ z.check-p.ensures z.if-code-ne0.false _ c.before.fits2.ensures c.if-not-fits.true
 
 placed_requires : tie.Need-placed-requires
 placed_requires c κs = placed_asked (fitted c)
 
 returns_3 : tie.Need-returns-then-not-placed
-returns_3 c = test_elsewhere (fitted c.before.before) c.placed.ensures (not-true _ c.if-not-placed.true)
+returns_3 c = test_elsewhere (fitted c.before.before) c.placed.ensures c.if-not-placed.true
 
 obeyed_requires : tie.Need-obeyed-requires
 obeyed_requires c κs = obeyed_asked (fitted c.before.before.before)
@@ -56,12 +56,12 @@ obeyed_requires c κs = obeyed_asked (fitted c.before.before.before)
 returns_4 : tie.Need-returns-then-obeyed
 returns_4 c =
     let p = c.before.before.before.before in
-    test_yes (fitted p.before) p.placed.ensures (not-false _ c.if-not-placed.false) c.obeyed.ensures c.if-obeyed.true
+    test_yes (fitted p.before) p.placed.ensures c.if-not-placed.false c.obeyed.ensures c.if-obeyed.true
 
 returns_5 : tie.Need-returns
 returns_5 c =
     let p = c.before.before.before.before in
-    test_no (fitted p.before) p.placed.ensures (not-false _ c.if-not-placed.false) c.obeyed.ensures c.if-obeyed.false
+    test_no (fitted p.before) p.placed.ensures c.if-not-placed.false c.obeyed.ensures c.if-obeyed.false
 
 pub test_spec : {M : Type 1} → statement M
 test_spec =

@@ -33,7 +33,7 @@ loop_less : tie.Need-loop-i-smaller invariant_loop decreases_loop
 loop_less c = search rules
 
 loop_again : tie.Need-loop-i-preserved invariant_loop decreases_loop
-loop_again c = passed_block 16 c.loop-i.invariant c.loop-i-test.true (c.blank.ensures (not-false _ c.if-not-blank.false))
+loop_again c = passed_block 16 c.loop-i.invariant c.loop-i-test.true (c.blank.ensures c.if-not-blank.false)
 
 returns_2 : tie.Need-returns invariant_loop decreases_loop
 returns_2 c = c.loop-i.invariant

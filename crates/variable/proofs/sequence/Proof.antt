@@ -32,10 +32,10 @@ enum_known_u : tie.Need-enum_known-u
 enum_known_u c = search rules
 
 returns_2 : tie.Need-returns-in-Fail
-returns_2 c = sequence_differs c.if-x-n.false c.at-a.ensures.0 c.at-c.ensures.0 c.again.ensures c.enum_told-1.given.1
+returns_2 c = sequence_differs c.if-x-n.false c.at-a.ensures.0 c.at-c.ensures.0 c.again.ensures c.in-Fail.is
 
 returns_3 : tie.Need-returns-in-At
-returns_3 c = sequence_again c.if-x-n.false c.at-a.ensures.0 c.at-c.ensures.0 c.again.ensures c.u-1.given.1
+returns_3 c = sequence_again c.if-x-n.false c.at-a.ensures.0 c.at-c.ensures.0 c.again.ensures c.in-At.is
 
 pub sequence_spec : {M : Type 1} → statement M
 sequence_spec =

@@ -36,16 +36,16 @@ enum_known_m : tie.Need-enum_known-m
 enum_known_m c = search rules
 
 up_requires : tie.Need-up-requires
-up_requires c κs = resume_up_pre (omega (arith, c.before.before.before.before.before.before.before.before.before.before.before.before.before.before.kind.ensures, c.before.before.before.before.before.before.before.before.before.before.before.before.before.if1.true)) c.before.before.before.before.before.before.before.before.before.before.before.before.holder.ensures c.next.ensures c.row-g.ensures c.next-then-kind-eq-SEQUENCE.ensures c.args-then-kind-eq-SEQUENCE.ensures c.m-1.given.1 c.requires
+up_requires c κs = resume_up_pre (omega (arith, c.before.before.before.before.before.before.before.before.before.before.before.before.before.before.kind.ensures, c.before.before.before.before.before.before.before.before.before.before.before.before.before.if1.true)) c.before.before.before.before.before.before.before.before.before.before.before.before.holder.ensures c.next.ensures c.row-g.ensures c.next-then-kind-eq-SEQUENCE.ensures c.args-then-kind-eq-SEQUENCE.ensures c.in-Ok.is c.requires
 
 returns : tie.Need-returns-in-Fail
-returns c = resume_list_fails (omega (arith, c.before.before.before.before.before.before.before.before.before.before.before.kind.ensures, c.before.before.before.before.before.before.before.before.before.before.if1.true)) c.before.before.before.before.before.before.before.before.before.holder.ensures c.next.ensures c.row-g.ensures c.next-then-kind-eq-SEQUENCE.ensures c.args-then-kind-eq-SEQUENCE.ensures c.enum_told-1.given.1
+returns c = resume_list_fails (omega (arith, c.before.before.before.before.before.before.before.before.before.before.before.kind.ensures, c.before.before.before.before.before.before.before.before.before.before.if1.true)) c.before.before.before.before.before.before.before.before.before.holder.ensures c.next.ensures c.row-g.ensures c.next-then-kind-eq-SEQUENCE.ensures c.args-then-kind-eq-SEQUENCE.ensures c.in-Fail.is
 
 returns_2 : tie.Need-returns-in-Need
-returns_2 c = resume_list_needs (omega (arith, c.before.before.before.before.before.before.before.before.before.before.before.before.kind.ensures, c.before.before.before.before.before.before.before.before.before.before.before.if1.true)) c.before.before.before.before.before.before.before.before.before.before.holder.ensures c.next.ensures c.row-g.ensures c.next-then-kind-eq-SEQUENCE.ensures c.args-then-kind-eq-SEQUENCE.ensures c.w-1.given.1
+returns_2 c = resume_list_needs (omega (arith, c.before.before.before.before.before.before.before.before.before.before.before.before.kind.ensures, c.before.before.before.before.before.before.before.before.before.before.before.if1.true)) c.before.before.before.before.before.before.before.before.before.before.holder.ensures c.next.ensures c.row-g.ensures c.next-then-kind-eq-SEQUENCE.ensures c.args-then-kind-eq-SEQUENCE.ensures c.in-Need.is
 
 returns_3 : tie.Need-returns-in-Ok
-returns_3 c = resume_up_is (omega (arith, c.before.before.before.before.before.before.before.before.before.before.before.before.before.before.before.kind.ensures, c.before.before.before.before.before.before.before.before.before.before.before.before.before.before.if1.true)) c.before.before.before.before.before.before.before.before.before.before.before.before.before.holder.ensures c.next.ensures c.row-g.ensures c.next-then-kind-eq-SEQUENCE.ensures c.args-then-kind-eq-SEQUENCE.ensures c.m-1.given.1 c.up.ensures
+returns_3 c = resume_up_is (omega (arith, c.before.before.before.before.before.before.before.before.before.before.before.before.before.before.before.kind.ensures, c.before.before.before.before.before.before.before.before.before.before.before.before.before.before.if1.true)) c.before.before.before.before.before.before.before.before.before.before.before.before.before.holder.ensures c.next.ensures c.row-g.ensures c.next-then-kind-eq-SEQUENCE.ensures c.args-then-kind-eq-SEQUENCE.ensures c.in-Ok.is c.up.ensures
 
 add_term : tie.Need-overflow_add-p-2
 add_term c = omega (arith, resume_row c.requires)
@@ -63,16 +63,16 @@ enum_known_m_2 : tie.Need-enum_known-m-in-Ok-term
 enum_known_m_2 c = search rules
 
 up_requires_2 : tie.Need-up-requires-in-Ok-term
-up_requires_2 c κs = resume_over_pre (omega (arith, c.kind.ensures, c.if-kind-eq-SEQUENCE.false)) c.term.ensures c.m-in-Ok-term-1.given.1 c.requires
+up_requires_2 c κs = resume_over_pre (omega (arith, c.kind.ensures, c.if-kind-eq-SEQUENCE.false)) c.term.ensures c.in-Ok-term.is c.requires
 
 returns_4 : tie.Need-returns-in-Fail-term
-returns_4 c = resume_term_fails (omega (arith, c.kind.ensures, c.if-kind-eq-SEQUENCE.false)) c.term.ensures c.enum_told-in-Fail-term-1.given.1
+returns_4 c = resume_term_fails (omega (arith, c.kind.ensures, c.if-kind-eq-SEQUENCE.false)) c.term.ensures c.in-Fail-term.is
 
 returns_5 : tie.Need-returns-in-Need-term
-returns_5 c = resume_term_needs (omega (arith, c.kind.ensures, c.if-kind-eq-SEQUENCE.false)) c.term.ensures c.w-in-Need-term-1.given.1
+returns_5 c = resume_term_needs (omega (arith, c.kind.ensures, c.if-kind-eq-SEQUENCE.false)) c.term.ensures c.in-Need-term.is
 
 returns_6 : tie.Need-returns-in-Ok-term
-returns_6 c = resume_over_is (omega (arith, c.kind.ensures, c.if-kind-eq-SEQUENCE.false)) c.term.ensures c.m-in-Ok-term-1.given.1 c.up-in-Ok-term.ensures
+returns_6 c = resume_over_is (omega (arith, c.kind.ensures, c.if-kind-eq-SEQUENCE.false)) c.term.ensures c.in-Ok-term.is c.up-in-Ok-term.ensures
 
 pub resume_spec : {M : Type 1} → statement M
 resume_spec =

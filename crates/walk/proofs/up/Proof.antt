@@ -57,22 +57,22 @@ enum_told : tie.Need-enum_told-1 invariant_loop decreases_loop
 enum_told c = search rules
 
 returns : tie.Need-returns-in-Fail invariant_loop decreases_loop
-returns c = up_fails (below c.before.before.before.before.before.before.before.before.before.before.before.before.before.before.before.before) c.before.before.before.before.before.before.before.before.before.before.before.before.before.before.before.holder.ensures (omega (arith, c.before.before.before.before.before.before.before.before.before.before.before.before.before.before.kind.ensures, c.before.before.before.before.before.before.before.before.before.before.before.before.before.if1.false)) c.next.ensures c.next-else-kind-eq-CONTEXT.ensures c.before.before.before.before.before.before.before.before.before.before.before.row.ensures c.next-else-kind-eq-CONTEXT-2.ensures c.row-g.ensures c.next-else-kind-eq-CONTEXT-3.ensures c.args-else-kind-eq-CONTEXT.ensures c.enum_told-1.given.1
+returns c = up_fails (below c.before.before.before.before.before.before.before.before.before.before.before.before.before.before.before) c.before.before.before.before.before.before.before.before.before.before.before.before.before.before.before.holder.ensures (omega (arith, c.before.before.before.before.before.before.before.before.before.before.before.before.before.before.kind.ensures, c.before.before.before.before.before.before.before.before.before.before.before.before.before.if1.false)) c.next.ensures c.next-else-kind-eq-CONTEXT.ensures c.before.before.before.before.before.before.before.before.before.before.before.row.ensures c.next-else-kind-eq-CONTEXT-2.ensures c.row-g.ensures c.next-else-kind-eq-CONTEXT-3.ensures c.args-else-kind-eq-CONTEXT.ensures c.in-Fail.is
 
 enum_known_w : tie.Need-enum_known-w invariant_loop decreases_loop
 enum_known_w c = search rules
 
 returns_2 : tie.Need-returns-in-Need invariant_loop decreases_loop
-returns_2 c = up_needs (below c.before.before.before.before.before.before.before.before.before.before.before.before.before.before.before.before.before) c.before.before.before.before.before.before.before.before.before.before.before.before.before.before.before.before.holder.ensures (omega (arith, c.before.before.before.before.before.before.before.before.before.before.before.before.before.before.before.kind.ensures, c.before.before.before.before.before.before.before.before.before.before.before.before.before.before.if1.false)) c.next.ensures c.next-else-kind-eq-CONTEXT.ensures c.before.before.before.before.before.before.before.before.before.before.before.before.row.ensures c.next-else-kind-eq-CONTEXT-2.ensures c.row-g.ensures c.next-else-kind-eq-CONTEXT-3.ensures c.args-else-kind-eq-CONTEXT.ensures c.w-1.given.1
+returns_2 c = up_needs (below c.before.before.before.before.before.before.before.before.before.before.before.before.before.before.before) c.before.before.before.before.before.before.before.before.before.before.before.before.before.before.before.before.holder.ensures (omega (arith, c.before.before.before.before.before.before.before.before.before.before.before.before.before.before.before.kind.ensures, c.before.before.before.before.before.before.before.before.before.before.before.before.before.before.if1.false)) c.next.ensures c.next-else-kind-eq-CONTEXT.ensures c.before.before.before.before.before.before.before.before.before.before.before.before.row.ensures c.next-else-kind-eq-CONTEXT-2.ensures c.row-g.ensures c.next-else-kind-eq-CONTEXT-3.ensures c.args-else-kind-eq-CONTEXT.ensures c.in-Need.is
 
 enum_known_k : tie.Need-enum_known-k invariant_loop decreases_loop
 enum_known_k c = search rules
 
 loop_less_2 : tie.Need-loop-q-smaller invariant_loop decreases_loop
-loop_less_2 c = omega (arith, (up_holding (below c.before.before.before.before.before.before.before.before.before.before.before.before.before.before.before.before.before)).lower, c.before.before.before.before.before.before.before.before.before.before.before.before.before.before.before.before.holder.ensures)
+loop_less_2 c = omega (arith, (up_holding (below c.before.before.before.before.before.before.before.before.before.before.before.before.before.before.before)).lower, c.before.before.before.before.before.before.before.before.before.before.before.before.before.before.before.before.holder.ensures)
 
 loop_again_2 : tie.Need-loop-q-preserved invariant_loop decreases_loop
-loop_again_2 c = up_goes (below c.before.before.before.before.before.before.before.before.before.before.before.before.before.before.before.before.before) c.before.before.before.before.before.before.before.before.before.before.before.before.before.before.before.before.holder.ensures (omega (arith, c.before.before.before.before.before.before.before.before.before.before.before.before.before.before.before.kind.ensures, c.before.before.before.before.before.before.before.before.before.before.before.before.before.before.if1.false)) c.next.ensures c.next-else-kind-eq-CONTEXT.ensures c.before.before.before.before.before.before.before.before.before.before.before.before.row.ensures c.next-else-kind-eq-CONTEXT-2.ensures c.row-g.ensures c.next-else-kind-eq-CONTEXT-3.ensures c.args-else-kind-eq-CONTEXT.ensures c.k-1.given.1
+loop_again_2 c = up_goes (below c.before.before.before.before.before.before.before.before.before.before.before.before.before.before.before) c.before.before.before.before.before.before.before.before.before.before.before.before.before.before.before.before.holder.ensures (omega (arith, c.before.before.before.before.before.before.before.before.before.before.before.before.before.before.before.kind.ensures, c.before.before.before.before.before.before.before.before.before.before.before.before.before.before.if1.false)) c.next.ensures c.next-else-kind-eq-CONTEXT.ensures c.before.before.before.before.before.before.before.before.before.before.before.before.row.ensures c.next-else-kind-eq-CONTEXT-2.ensures c.row-g.ensures c.next-else-kind-eq-CONTEXT-3.ensures c.args-else-kind-eq-CONTEXT.ensures c.in-Ok.is
 
 returns_3 : tie.Need-returns invariant_loop decreases_loop
 returns_3 c = up_ends c.loop-q.invariant c.loop-q-test.false

@@ -11,11 +11,11 @@ use Rattle.judge.proofs.tags.next_tag.Tie as tie
 abbrev stands : tie.After-stands → Kind → Type 0
 stands c = let a = c.args in KindOf a.document.now a.depth a.rows a.at
 
-starts : (c : tie.In-Start) → stands c.before.before Start
-starts c = subst (stands c.before.before) c.enum_told-in-Start-1.given.1 c.stands.ensures
+starts : (c : tie.In-Start) → stands c.before Start
+starts c = subst (stands c.before) c.in-Start.is c.stands.ensures
 
-ends : (c : tie.In-End) → stands c.before.before End
-ends c = subst (stands c.before.before) c.enum_told-in-End-1.given.1 c.stands.ensures
+ends : (c : tie.In-End) → stands c.before End
+ends c = subst (stands c.before) c.in-End.is c.stands.ensures
 
 stands_requires : tie.Need-stands-requires
 stands_requires c κs = search rules
@@ -39,10 +39,10 @@ add_end_tag : tie.Need-overflow_add-at-in-End
 add_end_tag c = search rules
 
 end_tag_requires : tie.Need-end_tag-requires
-end_tag_requires c κs = let c₃ = c.before.before.before.before in (c₃.requires.0, (end_within (ends c)).1, c₃.requires.2)
+end_tag_requires c κs = let c₃ = c.before.before.before in (c₃.requires.0, (end_within (ends c)).1, c₃.requires.2)
 
 returns : tie.Need-returns-in-Nothing
-returns c = let s = c.before.before in none_stands (subst (stands s) c.enum_told-1.given.1 s.stands.ensures)
+returns c = let s = c.before in none_stands (subst (stands s) c.in-Nothing.is s.stands.ensures)
 
 returns_2 : tie.Need-returns-in-Start
 returns_2 c = start_stands c.start_tag.result (starts c.before) c.start_tag.ensures

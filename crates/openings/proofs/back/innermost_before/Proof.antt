@@ -35,22 +35,22 @@ did t p o now = t.tag_before.ensures _ (t.loop-less.invariant p o now).here
 
 -- the arms: back to the tag
 abbrev ending : tie.In-End invariant_loop decreases_loop → tie.After-tag_before invariant_loop decreases_loop
-ending c = c.before.before.before
+ending c = c.before
 
-an_end : (c : tie.In-End invariant_loop decreases_loop) → Did (ending c) (End c.less-1.given.0.0)
-an_end c = subst (Did (ending c)) c.less-1.given.1 (did (ending c))
+an_end : (c : tie.In-End invariant_loop decreases_loop) → Did (ending c) (End c.in-End.less)
+an_end c = subst (Did (ending c)) c.in-End.is (did (ending c))
 
 abbrev emptying : tie.In-Empty invariant_loop decreases_loop → tie.After-tag_before invariant_loop decreases_loop
-emptying c = c.before.before.before
+emptying c = c.before
 
-an_empty : (c : tie.In-Empty invariant_loop decreases_loop) → Did (emptying c) (Empty c.less-in-Empty-1.given.0.0)
-an_empty c = subst (Did (emptying c)) c.less-in-Empty-1.given.1 (did (emptying c))
+an_empty : (c : tie.In-Empty invariant_loop decreases_loop) → Did (emptying c) (Empty c.in-Empty.less)
+an_empty c = subst (Did (emptying c)) c.in-Empty.is (did (emptying c))
 
 abbrev starting : tie.In-Start invariant_loop decreases_loop → tie.After-tag_before invariant_loop decreases_loop
-starting c = c.before.before.before
+starting c = c.before
 
-a_start : (c : tie.In-Start invariant_loop decreases_loop) → Did (starting c) (Start c.less-in-Start-1.given.0.0)
-a_start c = subst (Did (starting c)) c.less-in-Start-1.given.1 (did (starting c))
+a_start : (c : tie.In-Start invariant_loop decreases_loop) → Did (starting c) (Start c.in-Start.less)
+a_start c = subst (Did (starting c)) c.in-Start.is (did (starting c))
 
 tag_before_requires : tie.Need-tag_before-requires invariant_loop decreases_loop
 tag_before_requires c κs = let s = some c in pass_some (c.loop-less.invariant s.0 s.1 s.2)

@@ -29,13 +29,13 @@ begun h = h.before.before
 
 -- .. and from the arms to the turn
 abbrev opening : tie.In-Opens invariant_loop decreases_loop → tie.After-read_turn invariant_loop decreases_loop
-opening c = c.before.before.before
+opening c = c.before
 
 abbrev emptying : tie.In-Empty invariant_loop decreases_loop → tie.After-read_turn invariant_loop decreases_loop
-emptying c = c.before.before.before
+emptying c = c.before
 
 abbrev closing : tie.In-Closes invariant_loop decreases_loop → tie.After-read_turn invariant_loop decreases_loop
-closing c = c.before.before.before
+closing c = c.before
 
 -- WHAT IS KNOWN THERE
 -- the three lists behind the turn
@@ -65,18 +65,18 @@ less t h = omega (arith, h.more, h.within)
 
 opened_to : (c : tie.In-Opens invariant_loop decreases_loop) →
     let t = opening c in
-    Opened (head t).loop-answer.inv (starts t) (lengths t) (sizes t) c.element-1.given.0.0 c.element-1.given.0.1.0
-opened_to c = turn_opens (head (opening c)).loop.inv (subst (done (opening c)) c.element-1.given.1 (told (opening c)))
+    Opened (head t).loop-answer.inv (starts t) (lengths t) (sizes t) c.in-Opens.element c.in-Opens.next
+opened_to c = turn_opens (head (opening c)).loop.inv (subst (done (opening c)) c.in-Opens.is (told (opening c)))
 
 emptied_to : (c : tie.In-Empty invariant_loop decreases_loop) →
     let t = emptying c in
-    Emptied (head t).loop-answer.inv (starts t) (lengths t) (sizes t) c.element-in-Empty-1.given.0.0 c.element-in-Empty-1.given.0.1.0
-emptied_to c = turn_empties (head (emptying c)).loop.inv (subst (done (emptying c)) c.element-in-Empty-1.given.1 (told (emptying c)))
+    Emptied (head t).loop-answer.inv (starts t) (lengths t) (sizes t) c.in-Empty.element c.in-Empty.next
+emptied_to c = turn_empties (head (emptying c)).loop.inv (subst (done (emptying c)) c.in-Empty.is (told (emptying c)))
 
 closed_to : (c : tie.In-Closes invariant_loop decreases_loop) →
     let t = closing c in
-    Shut (head t).loop-answer.inv (starts t) (lengths t) (sizes t) c.behind-1.given.0.0 c.behind-1.given.0.1.0
-closed_to c = turn_closes (head (closing c)).loop.inv (subst (done (closing c)) c.behind-1.given.1 (told (closing c)))
+    Shut (head t).loop-answer.inv (starts t) (lengths t) (sizes t) c.in-Closes.behind c.in-Closes.next
+closed_to c = turn_closes (head (closing c)).loop.inv (subst (done (closing c)) c.in-Closes.is (told (closing c)))
 
 -- THE NEEDS
 loop_holds : tie.Need-loop-answer-init invariant_loop decreases_loop
@@ -92,8 +92,8 @@ enum_known_answer c = search rules
 
 returns : tie.Need-returns-in-Ends invariant_loop decreases_loop
 returns c =
-    let t = c.before.before.before in
-    turn_ends (head t).loop-answer.invariant (subst (done t) c.answer-1.given.1 (told t))
+    let t = c.before in
+    turn_ends (head t).loop-answer.invariant (subst (done t) c.in-Ends.is (told t))
 
 enum_known_element : tie.Need-enum_known-element invariant_loop decreases_loop
 enum_known_element c = search rules

@@ -18,10 +18,10 @@ abbrev begun : tie.After-next_tag → tie.Start
 begun t = t.before.before.before.before.before.before
 
 abbrev opening : tie.In-Opens → tie.After-next_tag
-opening c = c.before.before.before
+opening c = c.before
 
 abbrev emptying : tie.In-Empty → tie.After-next_tag
-emptying c = c.before.before.before
+emptying c = c.before
 
 -- WHAT IS KNOWN THERE
 abbrev May : tie.Start → List Open → Content → Bytes → Type 0
@@ -37,12 +37,12 @@ told t {o} {f} {u} h =
     (subst (λ n. Tagging a.document.now n a.depth a.row a.at o f u) (sym t.before.before.before.number.ensures.0) h.tagging)
 
 opened_to : (c : tie.In-Opens) {o : List Open} {f : Content} {u : Bytes} → May (begun (opening c)) o f u →
-    does (opening c) o f u (Opens c.end-1.given.0.0 c.end-1.given.0.1.0)
-opened_to c {o} {f} {u} h = subst (does (opening c) o f u) c.end-1.given.1 (told (opening c) h)
+    does (opening c) o f u (Opens c.in-Opens.end c.in-Opens.next)
+opened_to c {o} {f} {u} h = subst (does (opening c) o f u) c.in-Opens.is (told (opening c) h)
 
 emptied_to : (c : tie.In-Empty) {o : List Open} {f : Content} {u : Bytes} → May (begun (emptying c)) o f u →
-    does (emptying c) o f u (Empty c.end-in-Empty-1.given.0.0 c.end-in-Empty-1.given.0.1.0)
-emptied_to c {o} {f} {u} h = subst (does (emptying c) o f u) c.end-in-Empty-1.given.1 (told (emptying c) h)
+    does (emptying c) o f u (Empty c.in-Empty.end c.in-Empty.next)
+emptied_to c {o} {f} {u} h = subst (does (emptying c) o f u) c.in-Empty.is (told (emptying c) h)
 
 -- THE NEEDS
 number_requires : tie.Need-number-name-requires
@@ -114,8 +114,8 @@ enum_known_next c = search rules
 
 returns_3 : tie.Need-returns-in-Refused
 returns_3 c =
-    let t = c.before.before.before in
-    λ o f u h. refused (subst (does t o f u) c.place-1.given.1 (told t h))
+    let t = c.before in
+    λ o f u h. refused (subst (does t o f u) c.in-Refused.is (told t h))
 
 returns_4 : tie.Need-returns-else-depth-ge-DEEPEST
 returns_4 c =
@@ -129,8 +129,8 @@ returns_5 c =
 
 returns_6 : tie.Need-returns-in-Closes
 returns_6 c =
-    let t = c.before.before.before in
-    λ o f u h. let d = subst (does t o f u) c.next-1.given.1 (told t h) in closes d.0 d.1
+    let t = c.before in
+    λ o f u h. let d = subst (does t o f u) c.in-Closes.is (told t h) in closes d.0 d.1
 
 pub read_tag_spec : {M : Type 1} → statement M
 read_tag_spec =

@@ -11,10 +11,10 @@ abbrev begun : tie.After-read_run → tie.Start
 begun r = r.before.before.before.before.before
 
 abbrev ending : tie.In-Over → tie.After-read_run
-ending c = c.before.before.before
+ending c = c.before
 
 abbrev tagging : tie.In-Tag → tie.After-read_run
-tagging c = c.before.before.before
+tagging c = c.before
 
 -- WHAT IS KNOWN THERE
 -- what the run did to the three lists
@@ -24,8 +24,8 @@ done r =
     let l = r.read_run.new.1.1 in
     RunDone a.document.now a.starts.now a.lengths.now a.sizes.now a.depth a.row a.i l.0 l.1.0 l.1.1.0
 
-to_tag : (c : tie.In-Tag) → done (tagging c) (Tag c.behind-1.given.0.0 c.behind-1.given.0.1.0)
-to_tag c = subst (done (tagging c)) c.behind-1.given.1 (tagging c).read_run.ensures
+to_tag : (c : tie.In-Tag) → done (tagging c) (Tag c.in-Tag.behind c.in-Tag.at)
+to_tag c = subst (done (tagging c)) c.in-Tag.is (tagging c).read_run.ensures
 
 -- THE NEEDS
 read_run_requires : tie.Need-read_run-requires
@@ -44,7 +44,7 @@ read_tag_requires c κs =
     (h.0, (h.1.0, h.1.1, _, h.1.2.tag (to_tag t)))
 
 returns : tie.Need-returns-in-Over
-returns c = λ o f h. over (subst (done (ending c)) c.answer-1.given.1 (ending c).read_run.ensures)
+returns c = λ o f h. over (subst (done (ending c)) c.in-Over.is (ending c).read_run.ensures)
 
 returns_2 : tie.Need-returns-in-Tag
 returns_2 c =

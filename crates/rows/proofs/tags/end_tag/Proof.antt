@@ -14,7 +14,7 @@ use Rattle.rows.proofs.tags.end_tag.Tie as tie
 stood : (c : tie.Else-not-stands_again) →
     (c.args.at + c.args.length ≤ length c.args.document.now)
     × Again c.args.document.now c.args.name c.args.document.now c.args.at c.args.length
-stood c = c.stands_again.ensures (not-false _ c.if-not-stands_again.false)
+stood c = c.stands_again.ensures c.if-not-stands_again.false
 
 stands_again_requires : tie.Need-stands_again-requires
 stands_again_requires c κs = search rules
