@@ -15,16 +15,16 @@ good_requires : tie.Need-good-requires
 good_requires c κs = search rules
 
 returns_2 : tie.Need-returns-then-not-good
-returns_2 c = says_no (table_bad _ _ _ _ _ _ _ c.before.good2.ensures c.if-not-good.true)
+returns_2 c = says_no (table_bad _ _ _ _ _ _ _ c.good.ensures c.if-not-good.true)
 
 given_requires : tie.Need-given-requires
 given_requires c κs =
-    list_asked c.check-checked.ensures c.before.before.before.good2.ensures c.if-not-checked.false
+    list_asked c.check-checked.ensures c.good.ensures c.if-not-checked.false
     c.if-not-good.false
 
 returns_3 : tie.Need-returns
 returns_3 c =
-    list_judged _ _ _ _ _ _ _ c.check-checked.ensures c.before.before.before.before.good2.ensures c.if-not-checked.false
+    list_judged _ _ _ _ _ _ _ c.check-checked.ensures c.good.ensures c.if-not-checked.false
     c.if-not-good.false c.given.ensures
 
 pub good_spec : {M : Type 1} → statement M

@@ -16,30 +16,30 @@ found : (c : tie.Else-not-fits) →
     (U : Term) × Instance (lists a.label.now a.size.now a.kind.now a.name.now a.pattern_size.now a.«record».now) U
 found c =
     let a = c.args in
-    let t = c.before.before.before.before.before.before.before.before.good2.ensures.0 c.if-not-good.false in
-    let g = (record_judged t c.check-p.ensures c.if-not-p.false c.before.fits2.ensures).0 c.if-not-fits.false in
+    let t = c.good.ensures.0 c.if-not-good.false in
+    let g = (record_judged t c.check-p.ensures (not-false _ c.if-not-p.false) c.fits.ensures).0 c.if-not-fits.false in
     (_, its_instance (lists a.label.now a.size.now a.kind.now a.name.now a.pattern_size.now a.«record».now) g)
 
 good_requires : tie.Need-good-requires
 good_requires c κs = search rules
 
 returns : tie.Need-returns-then-not-good
-returns c = refused_tree _ _ _ c.before.good2.ensures c.if-not-good.true
+returns c = refused_tree _ _ _ c.good.ensures c.if-not-good.true
 
 check_requires : tie.Need-check-p-requires
 check_requires c κs = search rules
 
 returns_2 : tie.Need-returns-then-not-p
-returns_2 c = refused_pattern _ _ _ (c.before.before.before.before.good2.ensures.0 c.if-not-good.false) c.check-p.ensures.judged c.if-not-p.true
+returns_2 c = refused_pattern _ _ _ (c.good.ensures.0 c.if-not-good.false) c.check-p.ensures.judged (not-true _ c.if-not-p.true)
 
 fits_requires : tie.Need-fits-requires
-fits_requires c κs = record_pre (c.before.before.before.before.before.before.good2.ensures.0 c.if-not-good.false) c.check-p.ensures c.if-not-p.false
+fits_requires c κs = record_pre (c.good.ensures.0 c.if-not-good.false) c.check-p.ensures (not-false _ c.if-not-p.false)
 
 returns_3 : tie.Need-returns-then-not-fits
 returns_3 c =
-    let t = c.before.before.before.before.before.before.before.before.good2.ensures.0 c.if-not-good.false in
+    let t = c.good.ensures.0 c.if-not-good.false in
     let e = not-false _ c.if-not-p.false in
-    refused_record _ _ _ t (c.check-p.ensures.judged.0 e) (record_judged t c.check-p.ensures e c.before.fits2.ensures) c.if-not-fits.true
+    refused_record _ _ _ t (c.check-p.ensures.judged.0 e) (record_judged t c.check-p.ensures e c.fits.ensures) c.if-not-fits.true
 
 rows_of_requires : tie.Need-rows_of-rows-requires
 rows_of_requires c κs = rows_pre (found c).1

@@ -35,7 +35,7 @@ returns_4 c = rw c.in-3.is (refl, refl)
 
 returns_5 : tie.Need-returns-in_default
 returns_5 c =
-    let n = c.in_default.rest in
+    let n = c.in_default.in_default-own.rest in
     let k = is_rest c.args.kind n.0.0.0.1 n.0.0.1 n.0.1 n.1 in
     rw k.1 (refl, refl)
 

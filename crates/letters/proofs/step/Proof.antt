@@ -17,6 +17,7 @@ use Rattle.letters.proofs.step.Statement.{statement}
 use Rattle.letters.proofs.step.Tie as tie
 use Rattle.letters.proofs.step.Reads as reads
 use Rattle.letters.proofs.step.Lts as lts
+use Rattle.letters.proofs.step.Lts.{then-tables-at, else-tables-at}
 
 abbrev invariant_loop : tie.invariant-loop-left
 invariant_loop next tables label letter left₀ set₀ end₀ left set end =
@@ -35,17 +36,21 @@ low : (c : tie.In-loop-left invariant_loop decreases_loop) → Lowest c.loop-lef
 low c = lowest c.loop-left.left c.loop-left-test.true (fits c)
 
 -- what the branch did to `set` and `end`
-module _ (c : tie.Joined1 invariant_loop decreases_loop) where
+module _ (c : tie.Joined-tables-at invariant_loop decreases_loop) where
   abbrev tables : List ℕ
-  tables = c.before.before.before.before.args.tables.now
+  tables = c.args.tables.now
 
   abbrev label : ℕ
-  label = c.before.before.before.before.args.label
+  label = c.args.label
 
   added :
-      (c.if1.set ≡ add_set (λ p. eqb (name_of tables p) label) (cont_of tables) (count_trailing_zeros 64 c.before.before.before.loop.left) c.before.before.before.loop.set)
-      × (c.if1.end ≡ add_end (λ p. eqb (name_of tables p) label) (ends_of tables) (count_trailing_zeros 64 c.before.before.before.loop.left) c.before.before.before.loop.end)
-  added = ⊎_elim (λ w. rw (eq-eqb _ _ w.0.taken) (w.3, w.4)) (λ w. rw (ne_eqb _ _ w.0.left) (w.1, w.2)) c.if1.branch
+      (c.if-tables-at.set ≡ add_set (λ p. eqb (name_of tables p) label) (cont_of tables) (count_trailing_zeros 64 c.loop-left.left) c.loop-left.set)
+      × (c.if-tables-at.end ≡ add_end (λ p. eqb (name_of tables p) label) (ends_of tables) (count_trailing_zeros 64 c.loop-left.left) c.loop-left.end)
+  added =
+      elim c.if-tables-at.branch [
+        then-tables-at w ↦ rw (eq-eqb _ _ w.if-tables-at.true) (w.set-is, w.end-is)
+        | else-tables-at w ↦ rw (ne_eqb _ _ w.if-tables-at.false) (w.set-is, w.end-is)
+      ]
 
 -- src/lib.rt:309:5
 loop_holds : tie.Need-loop-left-init invariant_loop decreases_loop
@@ -65,53 +70,53 @@ mul_if1 c = omega (arith, (low c).lt)
 
 -- src/lib.rt:312:12
 element_copy_out_if1 : tie.Need-bounds-tables-at invariant_loop decreases_loop
-element_copy_out_if1 c = omega (arith, (low c).lt)
+element_copy_out_if1 c = omega (arith, (low c.before).lt)
 
 -- src/lib.rt:313:32
 add_set_lem : tie.Need-overflow_add-set invariant_loop decreases_loop
-add_set_lem c = omega (arith, (low c.before.before).lt)
+add_set_lem c = omega (arith, (low c.before.before.before).lt)
 
 -- src/lib.rt:313:25
 mul_set : tie.Need-offset_bounds-tables-at-then-tables-at invariant_loop decreases_loop
-mul_set c = omega (arith, (low c.before.before).lt)
+mul_set c = omega (arith, (low c.before.before.before).lt)
 
 -- src/lib.rt:313:25
 element_copy_out_set : tie.Need-bounds-tables-at-then-tables-at invariant_loop decreases_loop
-element_copy_out_set c = omega (arith, (low c.before.before).lt)
+element_copy_out_set c = omega (arith, (low c.before.before.before).lt)
 
 -- src/lib.rt:314:33
 add_end_lem : tie.Need-overflow_add-end invariant_loop decreases_loop
-add_end_lem c = omega (arith, (low c.before.before.before).lt)
+add_end_lem c = omega (arith, (low c.before.before.before.before).lt)
 
 -- src/lib.rt:314:26
 mul_end : tie.Need-offset_bounds-tables-at-then-tables-at-2 invariant_loop decreases_loop
-mul_end c = omega (arith, (low c.before.before.before).lt)
+mul_end c = omega (arith, (low c.before.before.before.before).lt)
 
 -- src/lib.rt:314:26
 element_copy_out_end : tie.Need-bounds-tables-at-then-tables-at-2 invariant_loop decreases_loop
-element_copy_out_end c = omega (arith, (low c.before.before.before).lt)
+element_copy_out_end c = omega (arith, (low c.before.before.before.before).lt)
 
 -- src/lib.rt:316:24
 shl_left : tie.Need-overflow_shl-left invariant_loop decreases_loop
-shl_left c = (low c.before.before).lt
+shl_left c = (low c.before.before.before).lt
 
 -- src/lib.rt:316:16
 sub_left : tie.Need-overflow_sub-left invariant_loop decreases_loop
-sub_left c = rw (low c.before.before).bit (low c.before.before).le
+sub_left c = rw (low c.before.before.before).bit (low c.before.before.before).le
 
 -- src/lib.rt:309:5
 loop_less : tie.Need-loop-left-smaller invariant_loop decreases_loop
-loop_less c = rw (low c.before.before).bit (omega (arith, (low c.before.before).fewer))
+loop_less c = rw (low c.before.before.before).bit (omega (arith, (low c.before.before.before).fewer))
 
 -- src/lib.rt:309:5
 loop_again : tie.Need-loop-left-preserved invariant_loop decreases_loop
 loop_again c =
     let d = c.before.before in
     let i = d.loop-left.invariant in
-    rw (low d).bit (
+    rw (low d.before).bit (
       omega arith,
-      visit_turn _ d.loop-left.left d.loop-left.set c.if-tables-at.set d.loop-left-test.true (fits d) (added c).0 ∙ i.1,
-      visit_turn _ d.loop-left.left d.loop-left.end c.if-tables-at.end d.loop-left-test.true (fits d) (added c).1 ∙ i.2,
+      visit_turn _ d.loop-left.left d.loop-left.set c.if-tables-at.set d.loop-left-test.true (fits d.before) (added c).0 ∙ i.1,
+      visit_turn _ d.loop-left.left d.loop-left.end c.if-tables-at.end d.loop-left-test.true (fits d.before) (added c).1 ∙ i.2,
     )
 
 -- src/lib.rt:301:1

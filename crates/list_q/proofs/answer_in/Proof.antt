@@ -59,7 +59,7 @@ part_list_q_start_2 : tie.Need-slice_bounds-list_q-end-2
 part_list_q_start_2 c = search rules
 
 part_list_q_end_2 : tie.Need-list_q-requires
-part_list_q_end_2 c = omega (arith, fits (cases c.before.before.before.before.before.before.before.before.before.before.before.before.before.read.ensures) (omega arith))
+part_list_q_end_2 c = omega (arith, fits (cases c.read-read.ensures) (omega arith))
 
 list_q_requires : tie.Need-shape_of-label
 list_q_requires c κs = search rules

@@ -43,10 +43,10 @@ equal_requires c κs =
     (h.loop.invariant.0.record_long, reach_short h.loop.invariant.0 (begun h).requires.some.5)
 
 returns_2 : tie.Need-returns-then-equal invariant_loop decreases_loop
-returns_2 c = reach_found c.before.before.before.before.before.loop.invariant.0 c.in-Ok.is c.equal.ensures c.if-equal.true
+returns_2 c = reach_found c.loop-o.invariant.0 c.in-Ok.is c.equal.ensures c.if-equal.true
 
 returns_3 : tie.Need-returns-in-Ok invariant_loop decreases_loop
-returns_3 c = reach_other c.before.before.before.before.before.loop.invariant.0 c.in-Ok.is c.equal.ensures c.if-equal.false
+returns_3 c = reach_other c.loop-o.invariant.0 c.in-Ok.is c.equal.ensures c.if-equal.false
 
 enum_known_o : tie.Need-enum_known-o invariant_loop decreases_loop
 enum_known_o c = search rules

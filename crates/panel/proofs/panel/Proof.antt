@@ -52,7 +52,7 @@ loop_holds : tie.Need-loop-i-init invariant_loop decreases_loop
 loop_holds c =
     let f = c.before.before in
     let o = f.before.before in
-    begins _ _ _ o.agree.ensures o.if-not-agree.false f.whole-all.ensures f.fill.ensures c.if-not-fill.false c.good2.ensures
+    begins _ _ _ o.agree.ensures o.if-not-agree.false f.whole-all.ensures f.fill.ensures c.if-not-fill.false c.good-tree.ensures
 
 with_next_requires : tie.Need-with_next-to-requires invariant_loop decreases_loop
 with_next_requires c κs = next_asked c.loop-i.invariant (omega arith)

@@ -49,19 +49,19 @@ mul_row_2 : tie.Need-offset_bounds-path-i invariant_loop decreases_loop
 mul_row_2 c = omega (arith, c.loop-root.invariant.places.few)
 
 element_copy_out_row : tie.Need-bounds-path-i invariant_loop decreases_loop
-element_copy_out_row c = omega (arith, row_in c)
+element_copy_out_row c = omega (arith, row_in c.before)
 
 mul_result : tie.Need-overflow_mul-result invariant_loop decreases_loop
-mul_result c = omega (arith, row_in c.before.before)
+mul_result c = omega (arith, row_in c.before.before.before)
 
 add_result : tie.Need-overflow_add-result invariant_loop decreases_loop
-add_result c = omega (arith, row_in c.before.before)
+add_result c = omega (arith, row_in c.before.before.before)
 
 mul_result_2 : tie.Need-offset_bounds-path-i-then-row-b invariant_loop decreases_loop
-mul_result_2 c = omega (arith, row_in c.before.before)
+mul_result_2 c = omega (arith, row_in c.before.before.before)
 
 element_copy_out_result : tie.Need-bounds-path-i-then-row-b invariant_loop decreases_loop
-element_copy_out_result c = omega (arith, row_in c.before.before)
+element_copy_out_result c = omega (arith, row_in c.before.before.before)
 
 returns : tie.Need-returns-then-row-b invariant_loop decreases_loop
 returns c = record { next = _; after = standing_all (standing_noted c.loop-root.invariant) c.if-row-b.true; remembers = standing_kept c.loop-root.invariant }
@@ -73,55 +73,55 @@ returns_2 : tie.Need-returns-then-i-eq63 invariant_loop decreases_loop
 returns_2 c = record { next = _; after = c.after_path.ensures; remembers = standing_kept c.loop-root.invariant }
 
 mul_next : tie.Need-overflow_mul-next invariant_loop decreases_loop
-mul_next c = omega (arith, row_in c.before.before.before)
+mul_next c = omega (arith, row_in c.before.before.before.before)
 
 add_next : tie.Need-overflow_add-next invariant_loop decreases_loop
-add_next c = omega (arith, row_in c.before.before.before)
+add_next c = omega (arith, row_in c.before.before.before.before)
 
 mul_next_2 : tie.Need-offset_bounds-path-i-in-loop-root invariant_loop decreases_loop
-mul_next_2 c = omega (arith, row_in c.before.before.before)
+mul_next_2 c = omega (arith, row_in c.before.before.before.before)
 
 element_copy_out_next : tie.Need-bounds-path-i-in-loop-root invariant_loop decreases_loop
-element_copy_out_next c = omega (arith, row_in c.before.before.before)
+element_copy_out_next c = omega (arith, row_in c.before.before.before.before)
 
 mul_from : tie.Need-overflow_mul-from invariant_loop decreases_loop
-mul_from c = omega (arith, row_in c.before.before.before.before)
+mul_from c = omega (arith, row_in c.before.before.before.before.before)
 
 add_from : tie.Need-overflow_add-from invariant_loop decreases_loop
-add_from c = omega (arith, row_in c.before.before.before.before)
+add_from c = omega (arith, row_in c.before.before.before.before.before)
 
 mul_from_2 : tie.Need-offset_bounds-path-i-in-loop-root-2 invariant_loop decreases_loop
-mul_from_2 c = omega (arith, row_in c.before.before.before.before)
+mul_from_2 c = omega (arith, row_in c.before.before.before.before.before)
 
 element_copy_out_from : tie.Need-bounds-path-i-in-loop-root-2 invariant_loop decreases_loop
-element_copy_out_from c = omega (arith, row_in c.before.before.before.before)
+element_copy_out_from c = omega (arith, row_in c.before.before.before.before.before)
 
 child_requires : tie.Need-child-u-requires invariant_loop decreases_loop
 child_requires c κs = standing_child (standing_noted c.loop-root.invariant) c.requires.path c.if-row-b.false
 
 mul_path : tie.Need-overflow_mul-path invariant_loop decreases_loop
-mul_path c = omega (arith, row_in c.before.before.before.before.before.before)
+mul_path c = omega (arith, row_in c.before.before.before.before.before.before.before)
 
 add_path : tie.Need-overflow_add-path invariant_loop decreases_loop
-add_path c = omega (arith, row_in c.before.before.before.before.before.before)
+add_path c = omega (arith, row_in c.before.before.before.before.before.before.before)
 
 mul_path_2 : tie.Need-offset_bounds-path-i-in-loop-root-3 invariant_loop decreases_loop
-mul_path_2 c = omega (arith, row_in c.before.before.before.before.before.before)
+mul_path_2 c = omega (arith, row_in c.before.before.before.before.before.before.before)
 
 element_write_path_2 : tie.Need-bounds-path-i-in-loop-root-3 invariant_loop decreases_loop
-element_write_path_2 c = omega (arith, row_in c.before.before.before.before.before.before)
+element_write_path_2 c = omega (arith, row_in c.before.before.before.before.before.before.before)
 
 mul_step : tie.Need-offset_bounds-label-row invariant_loop decreases_loop
-mul_step c = omega (arith, row_in c.before.before.before.before.before.before)
+mul_step c = omega (arith, row_in c.before.before.before.before.before.before.before)
 
 shared_slice_read_step : tie.Need-bounds-label-row invariant_loop decreases_loop
-shared_slice_read_step c = omega (arith, row_in c.before.before.before.before.before.before.before)
+shared_slice_read_step c = omega (arith, row_in c.before.before.before.before.before.before.before.before)
 
 step_requires : tie.Need-step-state-requires invariant_loop decreases_loop
 step_requires c κs = search rules
 
 add_i : tie.Need-overflow_add-i invariant_loop decreases_loop
-add_i c = omega (arith, row_in c.before.before.before.before.before.before.before.before)
+add_i c = omega (arith, row_in c.before.before.before.before.before.before.before.before.before)
 
 put_requires : tie.Need-put-requires invariant_loop decreases_loop
 put_requires c κs = let k = row_in c.before.before.before.before.before.before.before.before.before in (omega (arith, k, c.if-i-eq63.false), omega (arith, c.child-u.ensures.low, context_hole c.requires.path.some.1, c.requires.small), simp length-set c.loop-root.invariant.places.long)

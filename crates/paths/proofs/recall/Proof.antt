@@ -16,10 +16,10 @@ element_copy_out_m : tie.Need-bounds-path-2
 element_copy_out_m c = search rules
 
 holding_requires : tie.Need-holding-requires
-holding_requires c κs = recall_rows c.requires c.before.before.before.before.if1.true
+holding_requires c κs = recall_rows c.requires c.if-path-choice.true
 
 returns : tie.Need-returns-then-path-a
-returns c = recall_again c.before.before.before.before.before.if1.true c.before.before.before.if2.true c.holding.ensures
+returns c = recall_again c.if-path-choice.true c.if-path-a.true c.holding.ensures
 
 begin_requires : tie.Need-begin-state-requires
 begin_requires c κs = search rules

@@ -9,7 +9,7 @@ check_judged_requires : tie.Need-check_judged-requires
 check_judged_requires c κs = search rules
 
 returns : tie.Need-returns
-returns c = c.check_judged.ensures.on _ _ c.before.good2.ensures
+returns c = c.check_judged.ensures.on _ _ c.good.ensures
 
 pub check_spec : {M : Type 1} → statement M
 check_spec = tie.close (tie.spec good_requires check_judged_requires returns)

@@ -34,7 +34,7 @@ returns_3 c =
     let second = c.before.before.before in
     let first = second.before.before.before in
     record {
-      on = λ L S j. no_table _ j first.if-not-tree.false second.check-checked.ensures second.if-not-checked.false c.before.before.good2.ensures
+      on = λ L S j. no_table _ j first.if-not-tree.false second.check-checked.ensures second.if-not-checked.false c.good.ensures
           c.if-not-good.true c.refused-then-not-good.ensures;
     }
 
@@ -42,7 +42,7 @@ given_requires : tie.Need-given-requires
 given_requires c κs =
     let third = c.before.before in
     let second = third.before.before in
-    list_asked second.check-checked.ensures third.before.good2.ensures second.if-not-checked.false third.if-not-good.false
+    list_asked second.check-checked.ensures third.good.ensures second.if-not-checked.false third.if-not-good.false
 
 refused_requires_4 : tie.Need-refused-requires-then-not-given
 refused_requires_4 c κs = search rules
@@ -53,7 +53,7 @@ returns_4 c =
     let second = third.before.before in
     let first = second.before.before.before in
     record {
-      on = λ L S j. no_constraints _ j first.if-not-tree.false second.check-checked.ensures second.if-not-checked.false third.before.good2.ensures
+      on = λ L S j. no_constraints _ j first.if-not-tree.false second.check-checked.ensures second.if-not-checked.false third.good.ensures
           third.if-not-good.false c.given.ensures c.if-not-given.true c.refused-then-not-given.ensures;
     }
 
@@ -61,7 +61,7 @@ all_named_requires : tie.Need-all_named-requires
 all_named_requires c κs =
     let third = c.before.before.before.before in
     let second = third.before.before in
-    names_asked second.check-checked.ensures second.if-not-checked.false third.before.good2.ensures
+    names_asked second.check-checked.ensures second.if-not-checked.false third.good.ensures
     third.if-not-good.false c.given.ensures c.if-not-given.false
 
 refused_requires_5 : tie.Need-refused-requires-then-not-all_named
@@ -74,7 +74,7 @@ returns_5 c =
     let second = third.before.before in
     let first = second.before.before.before in
     record {
-      on = λ L S j. forgotten _ j first.if-not-tree.false second.check-checked.ensures second.if-not-checked.false third.before.good2.ensures
+      on = λ L S j. forgotten _ j first.if-not-tree.false second.check-checked.ensures second.if-not-checked.false third.good.ensures
           third.if-not-good.false fourth.given.ensures fourth.if-not-given.false c.all_named.ensures c.if-not-all_named.true c.refused-then-not-all_named.ensures;
     }
 
@@ -85,7 +85,7 @@ returns_6 c =
     let second = third.before.before in
     let first = second.before.before.before in
     record {
-      on = λ L S j. all_good _ j first.if-not-tree.false second.check-checked.ensures second.if-not-checked.false third.before.good2.ensures
+      on = λ L S j. all_good _ j first.if-not-tree.false second.check-checked.ensures second.if-not-checked.false third.good.ensures
           third.if-not-good.false fourth.given.ensures fourth.if-not-given.false c.all_named.ensures c.if-not-all_named.false refl;
     }
 

@@ -46,7 +46,7 @@ pair_fits_requires : tie.Need-pair_fits-requires invariant_loop decreases_loop
 pair_fits_requires c κs = c.requires.rows
 
 returns_2 : tie.Need-returns-then-not-pair_fits invariant_loop decreases_loop
-returns_2 c = passed_bad c.loop-x.invariant c.loop-x-test.true (read_pair c.loop-x.invariant c.loop-x-test.true refl c.at-a.ensures.0 c.at-b.ensures.0 c.before.pair_Fits.ensures c.if-not-pair_fits.true)
+returns_2 c = passed_bad c.loop-x.invariant c.loop-x-test.true (read_pair c.loop-x.invariant c.loop-x-test.true refl c.at-a.ensures.0 c.at-b.ensures.0 c.pair_fits.ensures c.if-not-pair_fits.true)
 
 add_x : tie.Need-overflow_add-x-in-loop-x-3 invariant_loop decreases_loop
 add_x c = omega (arith, kinds_long c.requires)
@@ -55,7 +55,7 @@ loop_less : tie.Need-loop-x-smaller invariant_loop decreases_loop
 loop_less c = omega arith
 
 loop_again : tie.Need-loop-x-preserved invariant_loop decreases_loop
-loop_again c = passed_more c.loop-x.invariant c.loop-x-test.true (read_pair c.loop-x.invariant c.loop-x-test.true refl c.at-a.ensures.0 c.at-b.ensures.0 c.before.pair_Fits.ensures c.if-not-pair_fits.false)
+loop_again c = passed_more c.loop-x.invariant c.loop-x-test.true (read_pair c.loop-x.invariant c.loop-x-test.true refl c.at-a.ensures.0 c.at-b.ensures.0 c.pair_fits.ensures c.if-not-pair_fits.false)
 
 returns_3 : tie.Need-returns invariant_loop decreases_loop
 returns_3 c = passed_all c.loop-x.invariant c.loop-x-test.false

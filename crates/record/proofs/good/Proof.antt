@@ -8,21 +8,21 @@ good_requires : tie.Need-good-requires
 good_requires c κs = search rules
 
 returns : tie.Need-returns-then-not-good
-returns c = no_tree c.before.good2.ensures c.if-not-good.true
+returns c = no_tree c.good.ensures c.if-not-good.true
 
 check_requires : tie.Need-check-p-requires
 check_requires c κs = search rules
 
 returns_2 : tie.Need-returns-then-not-p
-returns_2 c = no_pattern c.check-p.ensures c.if-not-p.true
+returns_2 c = no_pattern c.check-p.ensures (not-true _ c.if-not-p.true)
 
 fits_requires : tie.Need-fits-requires
 fits_requires c κs =
-    record_pre (c.before.before.before.before.before.before.good2.ensures.0 c.if-not-good.false) c.check-p.ensures c.if-not-p.false
+    record_pre (c.good.ensures.0 c.if-not-good.false) c.check-p.ensures (not-false _ c.if-not-p.false)
 
 returns_3 : tie.Need-returns
 returns_3 c =
-    record_judged (c.before.before.before.before.before.before.before.good2.ensures.0 c.if-not-good.false) c.check-p.ensures c.if-not-p.false c.fits2.ensures
+    record_judged (c.good.ensures.0 c.if-not-good.false) c.check-p.ensures (not-false _ c.if-not-p.false) c.fits.ensures
 
 pub good_spec : {M : Type 1} → statement M
 good_spec =

@@ -27,7 +27,7 @@ fitted : (c : tie.Else-not-fits) →
     Fitted (lists s) k.check-p.result s.args.«record».now
 fitted c =
     let z = c.before.before.before.before in
-    let f = c.before.fits2 in
+    let f = c.fits in
     record { answered = z.check-p.ensures; passed = z.if-code-ne0.false; fits = rw c.if-not-fits.false at f.ensures }
 
 check_requires : tie.Need-check-p-requires
@@ -42,7 +42,7 @@ fits_requires c κs = record_asked _ c.check-p.ensures c.if-code-ne0.false
 returns_2 : tie.Need-returns-then-not-fits
 returns_2 c =
     let z = c.before.before.before.before in
-    test_bad_record _ z.check-p.ensures z.if-code-ne0.false _ c.before.fits2.ensures c.if-not-fits.true
+    test_bad_record _ z.check-p.ensures z.if-code-ne0.false _ c.fits.ensures c.if-not-fits.true
 
 placed_requires : tie.Need-placed-requires
 placed_requires c κs = placed_asked (fitted c)

@@ -32,10 +32,10 @@ enum_known_h : tie.Need-enum_known-h
 enum_known_h c = search rules
 
 returns_2 : tie.Need-returns-in-Fail
-returns_2 c = context_differs c.if-x-n.false c.at-a.ensures.0 c.at-b.ensures.0 c.before.before.fits2.ensures c.in-Fail.is
+returns_2 c = context_differs c.if-x-n.false c.at-a.ensures.0 c.at-b.ensures.0 c.fits.ensures c.in-Fail.is
 
 returns_3 : tie.Need-returns-in-At
-returns_3 c = context_again c.if-x-n.false c.at-a.ensures.0 c.at-b.ensures.0 c.before.before.before.fits2.ensures c.in-At.is
+returns_3 c = context_again c.if-x-n.false c.at-a.ensures.0 c.at-b.ensures.0 c.fits.ensures c.in-At.is
 
 pub context_spec : {M : Type 1} → statement M
 context_spec =

@@ -20,19 +20,19 @@ add_t13 : tie.Need-overflow_add-result
 add_t13 c = omega (arith, function_room c.if-kind-eq-SYMBOL.false c.requires, c.if-x-n.true, c.well_formed)
 
 same_length : tie.Need-shape_of-record-then-x-n
-same_length c = c.put.auto.0
+same_length c = c.put.auto.«record»
 
 returns_3 : tie.Need-returns-then-x-n
 returns_3 c = function_first c.if-kind-eq-SYMBOL.false c.requires.row c.if-x-n.true c.put.ensures
 
 add_at : tie.Need-overflow_add-x
-add_at c = omega (arith, function_room c.before.before.if1.false c.requires, c.well_formed)
+add_at c = omega (arith, function_room c.if-kind-eq-SYMBOL.false c.requires, c.well_formed)
 
 at_requires_2 : tie.Need-at-requires-2
-at_requires_2 c κs = omega (arith, function_room c.before.before.if1.false c.requires)
+at_requires_2 c κs = omega (arith, function_room c.if-kind-eq-SYMBOL.false c.requires)
 
 at_requires_3 : tie.Need-at-requires-3
-at_requires_3 c κs = function_next c.before.before.before.if1.false c.before.before.if3.false c.at-2.ensures.0 c.requires
+at_requires_3 c κs = function_next c.if-kind-eq-SYMBOL.false c.if-x-n.false c.at-2.ensures.0 c.requires
 
 at_requires_4 : tie.Need-at-requires-4
 at_requires_4 c κs = c.requires.row
@@ -41,13 +41,13 @@ same_length_2 : tie.Need-shape_of-record-then-at
 same_length_2 c = search rules
 
 returns_4 : tie.Need-returns-then-at
-returns_4 c = function_same c.before.before.before.before.before.before.if1.false c.before.before.before.before.before.if3.false c.at-2.ensures.0 c.at-3.ensures.0 c.at-4.ensures.0 c.if-at.true
+returns_4 c = function_same c.if-kind-eq-SYMBOL.false c.if-x-n.false c.at-2.ensures.0 c.at-3.ensures.0 c.at-4.ensures.0 c.if-at.true
 
 same_length_3 : tie.Need-shape_of-record-else-at
 same_length_3 c = search rules
 
 returns_5 : tie.Need-returns-else-at
-returns_5 c = function_differs c.before.before.before.before.before.before.if1.false c.before.before.before.before.before.if3.false c.at-2.ensures.0 c.at-3.ensures.0 c.at-4.ensures.0 c.if-at.false
+returns_5 c = function_differs c.if-kind-eq-SYMBOL.false c.if-x-n.false c.at-2.ensures.0 c.at-3.ensures.0 c.at-4.ensures.0 c.if-at.false
 
 pub head_spec : {M : Type 1} → statement M
 head_spec =

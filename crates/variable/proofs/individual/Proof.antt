@@ -12,7 +12,7 @@ add_t12 : tie.Need-overflow_add-result
 add_t12 c = omega (arith, individual_room c.requires, c.if-x-n.true, c.well_formed)
 
 same_length : tie.Need-shape_of-record-then-x-n
-same_length c = c.put.auto.0
+same_length c = c.put.auto.«record»
 
 returns : tie.Need-returns-then-x-n
 returns c = individual_first c.if-x-n.true c.put.ensures
@@ -24,25 +24,25 @@ at_requires : tie.Need-at-a-requires
 at_requires c κs = omega (arith, individual_room c.requires)
 
 next_requires : tie.Need-next-requires
-next_requires c κs = (individual_next c.before.before.if1.false c.at-a.ensures.0 c.requires).sized
+next_requires c κs = (individual_next c.if-x-n.false c.at-a.ensures.0 c.requires).sized
 
 next_requires_2 : tie.Need-next-requires-2
 next_requires_2 c κs = (term_next c.requires.tree.2).sized
 
 alike_requires : tie.Need-alike-requires
-alike_requires c κs = individual_alike_pre c.before.before.before.before.if1.false c.at-a.ensures.0 c.next.ensures c.next-2.ensures c.requires
+alike_requires c κs = individual_alike_pre c.if-x-n.false c.at-a.ensures.0 c.next.ensures c.next-2.ensures c.requires
 
 same_length_2 : tie.Need-shape_of-record-then-alike
 same_length_2 c = search rules
 
 returns_2 : tie.Need-returns-then-alike
-returns_2 c = individual_same c.before.before.before.before.before.before.if1.false c.at-a.ensures.0 c.next.ensures c.next-2.ensures c.alike.ensures c.if-alike.true
+returns_2 c = individual_same c.if-x-n.false c.at-a.ensures.0 c.next.ensures c.next-2.ensures c.alike.ensures c.if-alike.true
 
 same_length_3 : tie.Need-shape_of-record-else-alike
 same_length_3 c = search rules
 
 returns_3 : tie.Need-returns-else-alike
-returns_3 c = individual_differs c.before.before.before.before.before.before.if1.false c.at-a.ensures.0 c.next.ensures c.next-2.ensures c.alike.ensures c.if-alike.false
+returns_3 c = individual_differs c.if-x-n.false c.at-a.ensures.0 c.next.ensures c.next-2.ensures c.alike.ensures c.if-alike.false
 
 pub individual_spec : {M : Type 1} → statement M
 individual_spec =

@@ -47,10 +47,10 @@ term_at t = and 5 term-kinds.ps (is 5 term-kinds.ps μ-term t) term.Pre
 abbrev term_below : ℕ → In 5 term-kinds.ps
 term_below t = and 5 term-kinds.ps (falls 5 term-kinds.ps ◌<◌ μ-term t) term.Pre
 
-abbrev args_inv_loop : args-lts.invariant_loop
+abbrev args_inv_loop : args-lts.invariant-loop-q
 args_inv_loop label size pattern record₀ at₀ p pe t te n q₀ u₀ m₀ record₁ at₁ q u m = Walking label size pattern record₀ record₁ at₀ at₁ p pe t te n q u m
 
-abbrev args-μ-loop : args-lts.decreases_loop
+abbrev args-μ-loop : args-lts.decreases-loop-q
 args-μ-loop label size pattern record₀ at₀ p pe t te n q₀ u₀ m₀ record₁ at₁ q u m = pe - q
 
 -- what the callees of `args` ask and give
@@ -98,199 +98,199 @@ term_claims t = (
 )
 
 -- a turn, at a row of the pattern
-turn : (t : ℕ) (c : args-lts.In-loop (args_claims t) (args_at t) args.Post args_inv_loop args-μ-loop) →
-    let a = c.before.before.before.before.args in
-    let l = c.before.loop in
+turn : (t : ℕ) (c : args-lts.In-loop-q (args_claims t) (args_at t) args.Post args_inv_loop args-μ-loop) →
+    let a = c.args in
+    let l = c.loop-q in
     Turn a.label.now a.size.now a.pattern.now a.«record».now l.«record» a.at.now l.at
     a.p a.pe a.t a.te a.n l.q l.u l.m
-turn t c = record { pre = c.before.before.before.before.requires.1; walking = c.before.loop.invariant; more = c.loop-test.true }
+turn t c = record { pre = c.requires.1; walking = c.loop-q.invariant; more = c.loop-q-test.true }
 
 -- a turn at a sequence variable
-at_sequence : (t : ℕ) (c : args-lts.After-name (args_claims t) (args_at t) args.Post args_inv_loop args-μ-loop) →
-    let a = c.before.before.before.before.before.before.before.args in
-    let l = c.before.before.before.before.loop in
+at_sequence : (t : ℕ) (c : args-lts.After-name-x (args_claims t) (args_at t) args.Post args_inv_loop args-μ-loop) →
+    let a = c.args in
+    let l = c.loop-q in
     AtSequence a.label.now a.size.now a.pattern.now a.«record».now l.«record» a.at.now l.at
-    a.p a.pe a.t a.te a.n l.q l.u l.m c.name.result
-at_sequence t c = record { turn = turn t c.before.before.before; kind = omega (arith, c.before.before.kind.ensures, c.before.if1.true); name = c.name.ensures }
+    a.p a.pe a.t a.te a.n l.q l.u l.m c.name-x.result
+at_sequence t c = record { turn = turn t c.before.before.before; kind = omega (arith, c.kind.ensures, c.if-kind-eq-SEQUENCE.true); name = c.name-x.ensures }
 
 -- a turn at a term, with a term of the tree left
-at_term : (t : ℕ) (c : args-lts.Else2 (args_claims t) (args_at t) args.Post args_inv_loop args-μ-loop) →
-    let a = c.before.before.before.before.before.before.before.args in
-    let l = c.before.before.before.before.loop in
+at_term : (t : ℕ) (c : args-lts.Else-u-te (args_claims t) (args_at t) args.Post args_inv_loop args-μ-loop) →
+    let a = c.args in
+    let l = c.loop-q in
     AtTerm a.label.now a.size.now a.pattern.now a.«record».now l.«record» a.at.now l.at
     a.p a.pe a.t a.te a.n l.q l.u l.m
-at_term t c = record { turn = turn t c.before.before.before; kind = omega (arith, c.before.before.kind.ensures, c.before.if1.false); left = c.if2.false }
+at_term t c = record { turn = turn t c.before.before.before; kind = omega (arith, c.kind.ensures, c.if-kind-eq-SEQUENCE.false); left = c.if-u-te.false }
 
-args_loop_holds : (t : ℕ) → args-lts.Need-loop-init (args_claims t) (args_at t) args.Post args_inv_loop args-μ-loop
+args_loop_holds : (t : ℕ) → args-lts.Need-loop-q-init (args_claims t) (args_at t) args.Post args_inv_loop args-μ-loop
 args_loop_holds t c = walking_first
 
 args_kind_requires : (t : ℕ) → args-lts.Need-kind-requires (args_claims t) (args_at t) args.Post args_inv_loop args-μ-loop
 args_kind_requires t c κs = (list_row (turn t c)).room
 
-args_name_requires : (t : ℕ) → args-lts.Need-name-requires (args_claims t) (args_at t) args.Post args_inv_loop args-μ-loop
+args_name_requires : (t : ℕ) → args-lts.Need-name-x-requires (args_claims t) (args_at t) args.Post args_inv_loop args-μ-loop
 args_name_requires t c κs = (list_row (turn t c.before.before)).room
 
 args_sequence_requires : (t : ℕ) → args-lts.Need-sequence-requires (args_claims t) (args_at t) args.Post args_inv_loop args-μ-loop
 args_sequence_requires t c κs = list_sequence_pre (at_sequence t c.before.before)
 
-args_enum_told : (t : ℕ) → args-lts.Need-enum-told (args_claims t) (args_at t) args.Post args_inv_loop args-μ-loop
+args_enum_told : (t : ℕ) → args-lts.Need-enum_told-1 (args_claims t) (args_at t) args.Post args_inv_loop args-μ-loop
 args_enum_told t c = search rules
 
-args_returns : (t : ℕ) → args-lts.Need-returns (args_claims t) (args_at t) args.Post args_inv_loop args-μ-loop
-args_returns t c = list_sequence_fails (at_sequence t c.before.before.before.before.before) c.before.before.sequence.ensures c.enum_told.given.1
+args_returns : (t : ℕ) → args-lts.Need-returns-in-Fail (args_claims t) (args_at t) args.Post args_inv_loop args-μ-loop
+args_returns t c = list_sequence_fails (at_sequence t c.before.before.before.before) c.sequence.ensures c.in-Fail.is
 
-args_enum_told_2 : (t : ℕ) → args-lts.Need-enum-told-2 (args_claims t) (args_at t) args.Post args_inv_loop args-μ-loop
+args_enum_told_2 : (t : ℕ) → args-lts.Need-enum_told-in-Need (args_claims t) (args_at t) args.Post args_inv_loop args-μ-loop
 args_enum_told_2 t c = search rules
 
 args_come_requires : (t : ℕ) → args-lts.Need-come-requires (args_claims t) (args_at t) args.Post args_inv_loop args-μ-loop
-args_come_requires t c κs = list_marks (turn t c.before.before.before.before.before.before.before.before.before)
+args_come_requires t c κs = list_marks (turn t c.before.before.before.before.before.before.before.before)
 
-args_returns_2 : (t : ℕ) → args-lts.Need-returns-2 (args_claims t) (args_at t) args.Post args_inv_loop args-μ-loop
-args_returns_2 t c = list_sequence_needs (at_sequence t c.before.before.before.before.before.before.before) c.before.before.before.before.sequence.ensures c.before.before.enum-told2.given.1 c.come.ensures
+args_returns_2 : (t : ℕ) → args-lts.Need-returns-in-Need (args_claims t) (args_at t) args.Post args_inv_loop args-μ-loop
+args_returns_2 t c = list_sequence_needs (at_sequence t c.before.before.before.before.before.before) c.sequence.ensures c.in-Need.is c.come.ensures
 
-args_enum_known_v : (t : ℕ) → args-lts.Need-enum-known-v (args_claims t) (args_at t) args.Post args_inv_loop args-μ-loop
+args_enum_known_v : (t : ℕ) → args-lts.Need-enum_known-v (args_claims t) (args_at t) args.Post args_inv_loop args-μ-loop
 args_enum_known_v t c = search rules
 
-args_add_q : (t : ℕ) → args-lts.Need-overflow-add-q (args_claims t) (args_at t) args.Post args_inv_loop args-μ-loop
-args_add_q t c = omega (arith, list_sequence_before (at_sequence t c.before.before.before.before.before.before), c.before.before.before.before.before.before.before.before.before.before.before.before.before.well-formed)
+args_add_q : (t : ℕ) → args-lts.Need-overflow_add-q (args_claims t) (args_at t) args.Post args_inv_loop args-μ-loop
+args_add_q t c = omega (arith, list_sequence_before (at_sequence t c.before.before.before.before), c.well_formed)
 
-args_loop_less : (t : ℕ) → args-lts.Need-loop-smaller (args_claims t) (args_at t) args.Post args_inv_loop args-μ-loop
-args_loop_less t c = omega (arith, list_sequence_before (at_sequence t c.before.before.before.before.before.before))
+args_loop_less : (t : ℕ) → args-lts.Need-loop-q-smaller-in-Go (args_claims t) (args_at t) args.Post args_inv_loop args-μ-loop
+args_loop_less t c = omega (arith, list_sequence_before (at_sequence t c.before.before.before.before))
 
-args_loop_again : (t : ℕ) → args-lts.Need-loop-preserved (args_claims t) (args_at t) args.Post args_inv_loop args-μ-loop
-args_loop_again t c = list_sequence_goes (at_sequence t c.before.before.before.before.before.before) c.before.before.before.sequence.ensures c.before.v.given.1
+args_loop_again : (t : ℕ) → args-lts.Need-loop-q-preserved-in-Go (args_claims t) (args_at t) args.Post args_inv_loop args-μ-loop
+args_loop_again t c = list_sequence_goes (at_sequence t c.before.before.before.before) c.sequence.ensures c.in-Go.is
 
-args_returns_3 : (t : ℕ) → args-lts.Need-returns-3 (args_claims t) (args_at t) args.Post args_inv_loop args-μ-loop
-args_returns_3 t c = list_tree_ends (turn t c.before.before.before) (omega (arith, c.before.before.kind.ensures, c.before.if1.false)) c.if2.true
+args_returns_3 : (t : ℕ) → args-lts.Need-returns-then-u-te (args_claims t) (args_at t) args.Post args_inv_loop args-μ-loop
+args_returns_3 t c = list_tree_ends (turn t c.before.before.before) (omega (arith, c.kind.ensures, c.if-kind-eq-SEQUENCE.false)) c.if-u-te.true
 
 args_term_requires : (t : ℕ) → args-lts.Need-term-requires (args_claims t) (args_at t) args.Post args_inv_loop args-μ-loop
-args_term_requires t c κs = (omega (arith, c.before.before.before.before.before.before.before.before.before.requires.0, list_term_within (at_term t c.before.before), c.before.before.before.before.before.before.loop.invariant.later, c.before.before.before.before.before.before.loop.invariant.further), list_term_pre (at_term t c.before.before))
+args_term_requires t c κs = (omega (arith, c.requires.0, list_term_within (at_term t c.before.before), c.loop-q.invariant.later, c.loop-q.invariant.further), list_term_pre (at_term t c.before.before))
 
-args_enum_told_3 : (t : ℕ) → args-lts.Need-enum-told-3 (args_claims t) (args_at t) args.Post args_inv_loop args-μ-loop
+args_enum_told_3 : (t : ℕ) → args-lts.Need-enum_told-in-Fail-term (args_claims t) (args_at t) args.Post args_inv_loop args-μ-loop
 args_enum_told_3 t c = search rules
 
-args_returns_4 : (t : ℕ) → args-lts.Need-returns-4 (args_claims t) (args_at t) args.Post args_inv_loop args-μ-loop
-args_returns_4 t c = list_term_fails (at_term t c.before.before.before.before.before) c.before.before.term.ensures c.enum-told3.given.1
+args_returns_4 : (t : ℕ) → args-lts.Need-returns-in-Fail-term (args_claims t) (args_at t) args.Post args_inv_loop args-μ-loop
+args_returns_4 t c = list_term_fails (at_term t c.before.before.before.before) c.term.ensures c.in-Fail-term.is
 
-args_enum_known_w : (t : ℕ) → args-lts.Need-enum-known-w (args_claims t) (args_at t) args.Post args_inv_loop args-μ-loop
+args_enum_known_w : (t : ℕ) → args-lts.Need-enum_known-w (args_claims t) (args_at t) args.Post args_inv_loop args-μ-loop
 args_enum_known_w t c = search rules
 
-args_returns_5 : (t : ℕ) → args-lts.Need-returns-5 (args_claims t) (args_at t) args.Post args_inv_loop args-μ-loop
-args_returns_5 t c = list_term_needs (at_term t c.before.before.before.before.before.before) c.before.before.before.term.ensures c.before.w.given.1
+args_returns_5 : (t : ℕ) → args-lts.Need-returns-in-Need-term (args_claims t) (args_at t) args.Post args_inv_loop args-μ-loop
+args_returns_5 t c = list_term_needs (at_term t c.before.before.before.before) c.term.ensures c.in-Need-term.is
 
-args_enum_known_k : (t : ℕ) → args-lts.Need-enum-known-k (args_claims t) (args_at t) args.Post args_inv_loop args-μ-loop
+args_enum_known_k : (t : ℕ) → args-lts.Need-enum_known-k (args_claims t) (args_at t) args.Post args_inv_loop args-μ-loop
 args_enum_known_k t c = search rules
 
-args_next_requires : (t : ℕ) → args-lts.Need-next-requires (args_claims t) (args_at t) args.Post args_inv_loop args-μ-loop
-args_next_requires t c κs = (list_row (turn t c.before.before.before.before.before.before.before.before.before)).room
+args_next_requires : (t : ℕ) → args-lts.Need-next-q-requires (args_claims t) (args_at t) args.Post args_inv_loop args-μ-loop
+args_next_requires t c κs = (list_row (turn t c.before.before.before.before.before.before.before)).room
 
-args_next_requires_2 : (t : ℕ) → args-lts.Need-next-requires-2 (args_claims t) (args_at t) args.Post args_inv_loop args-μ-loop
-args_next_requires_2 t c κs = list_term_tree (at_term t c.before.before.before.before.before.before.before)
+args_next_requires_2 : (t : ℕ) → args-lts.Need-next-u-requires (args_claims t) (args_at t) args.Post args_inv_loop args-μ-loop
+args_next_requires_2 t c κs = list_term_tree (at_term t c.before.before.before.before.before)
 
-args_loop_less_2 : (t : ℕ) → args-lts.Need-loop-smaller-2 (args_claims t) (args_at t) args.Post args_inv_loop args-μ-loop
-args_loop_less_2 t c = omega (arith, list_term_within (at_term t c.before.before.before.before.before.before.before.before), c.before.next.ensures)
+args_loop_less_2 : (t : ℕ) → args-lts.Need-loop-q-smaller (args_claims t) (args_at t) args.Post args_inv_loop args-μ-loop
+args_loop_less_2 t c = omega (arith, list_term_within (at_term t c.before.before.before.before.before.before), c.next-q.ensures)
 
-args_loop_again_2 : (t : ℕ) → args-lts.Need-loop-preserved-2 (args_claims t) (args_at t) args.Post args_inv_loop args-μ-loop
-args_loop_again_2 t c = list_term_goes (at_term t c.before.before.before.before.before.before.before.before) c.before.before.before.before.before.term.ensures c.before.before.before.k.given.1 c.before.next.ensures c.next2.ensures
+args_loop_again_2 : (t : ℕ) → args-lts.Need-loop-q-preserved (args_claims t) (args_at t) args.Post args_inv_loop args-μ-loop
+args_loop_again_2 t c = list_term_goes (at_term t c.before.before.before.before.before.before) c.term.ensures c.in-Ok.is c.next-q.ensures c.next-u.ensures
 
-args_returns_6 : (t : ℕ) → args-lts.Need-returns-6 (args_claims t) (args_at t) args.Post args_inv_loop args-μ-loop
-args_returns_6 t c = list_ends c.before.before.loop.invariant c.before.loop-test.false c.if3.true
+args_returns_6 : (t : ℕ) → args-lts.Need-returns-then-u-te-2 (args_claims t) (args_at t) args.Post args_inv_loop args-μ-loop
+args_returns_6 t c = list_ends c.loop-q.invariant c.loop-q-test.false c.if-u-te-2.true
 
-args_returns_7 : (t : ℕ) → args-lts.Need-returns-7 (args_claims t) (args_at t) args.Post args_inv_loop args-μ-loop
-args_returns_7 t c = list_tree_left c.before.before.loop.invariant c.before.loop-test.false c.if3.false
+args_returns_7 : (t : ℕ) → args-lts.Need-returns (args_claims t) (args_at t) args.Post args_inv_loop args-μ-loop
+args_returns_7 t c = list_tree_left c.loop-q.invariant c.loop-q-test.false c.if-u-te-2.false
 
 -- the term's row, whose kind and name were read
-row : (t : ℕ) (c : term-lts.After-name (term_claims t) (term_at t) term.Post) →
-    let a = c.before.before.before.before.before.before.args in
-    AtRow a.label.now a.size.now a.pattern.now a.«record».now a.at.now c.before.before.come.new.0 a.p a.t a.n c.before.kind.result c.name.result
-row t c = record { pre = c.before.before.before.before.before.before.requires.1; came = c.before.before.come.ensures; kind = c.before.kind.ensures; name = c.name.ensures }
+row : (t : ℕ) (c : term-lts.After-name-x (term_claims t) (term_at t) term.Post) →
+    let a = c.args in
+    AtRow a.label.now a.size.now a.pattern.now a.«record».now a.at.now c.come.new.0 a.p a.t a.n c.kind-k.result c.name-x.result
+row t c = record { pre = c.requires.1; came = c.come.ensures; kind = c.kind-k.ensures; name = c.name-x.ensures }
 
 term_come_requires : (t : ℕ) → term-lts.Need-come-requires (term_claims t) (term_at t) term.Post
-term_come_requires t c κs = term_marks c.before.before.before.requires.1
+term_come_requires t c κs = term_marks c.requires.1
 
-term_kind_requires : (t : ℕ) → term-lts.Need-kind-requires (term_claims t) (term_at t) term.Post
-term_kind_requires t c κs = (term_row c.before.before.before.before.requires.1).room
+term_kind_requires : (t : ℕ) → term-lts.Need-kind-k-requires (term_claims t) (term_at t) term.Post
+term_kind_requires t c κs = (term_row c.requires.1).room
 
-term_name_requires : (t : ℕ) → term-lts.Need-name-requires (term_claims t) (term_at t) term.Post
-term_name_requires t c κs = (term_row c.before.before.before.before.before.requires.1).room
+term_name_requires : (t : ℕ) → term-lts.Need-name-x-requires (term_claims t) (term_at t) term.Post
+term_name_requires t c κs = (term_row c.requires.1).room
 
 term_individual_requires : (t : ℕ) → term-lts.Need-individual-requires (term_claims t) (term_at t) term.Post
-term_individual_requires t c κs = term_individual_pre (row t c.before.before) c.before.if1.true
+term_individual_requires t c κs = term_individual_pre (row t c.before.before) c.if-k-eq-INDIVIDUAL.true
 
-term_enum_told : (t : ℕ) → term-lts.Need-enum-told (term_claims t) (term_at t) term.Post
+term_enum_told : (t : ℕ) → term-lts.Need-enum_told-1 (term_claims t) (term_at t) term.Post
 term_enum_told t c = search rules
 
-term_enum_known_m : (t : ℕ) → term-lts.Need-enum-known-m (term_claims t) (term_at t) term.Post
+term_enum_known_m : (t : ℕ) → term-lts.Need-enum_known-m (term_claims t) (term_at t) term.Post
 term_enum_known_m t c = search rules
 
-term_returns : (t : ℕ) → term-lts.Need-returns (term_claims t) (term_at t) term.Post
-term_returns t c = term_individual_fails (row t c.before.before.before.before.before) c.before.before.before.before.if1.true c.before.before.individual.ensures c.enum_told.given.1
+term_returns : (t : ℕ) → term-lts.Need-returns-in-Fail (term_claims t) (term_at t) term.Post
+term_returns t c = term_individual_fails (row t c.before.before.before.before) c.if-k-eq-INDIVIDUAL.true c.individual.ensures c.in-Fail.is
 
-term_returns_2 : (t : ℕ) → term-lts.Need-returns-2 (term_claims t) (term_at t) term.Post
-term_returns_2 t c = term_individual_ok (row t c.before.before.before.before.before.before) c.before.before.before.before.before.if1.true c.before.before.before.individual.ensures c.before.m.given.1
+term_returns_2 : (t : ℕ) → term-lts.Need-returns-in-Ok (term_claims t) (term_at t) term.Post
+term_returns_2 t c = term_individual_ok (row t c.before.before.before.before) c.if-k-eq-INDIVIDUAL.true c.individual.ensures c.in-Ok.is
 
 term_context_requires : (t : ℕ) → term-lts.Need-context-requires (term_claims t) (term_at t) term.Post
-term_context_requires t c κs = term_context_pre (row t c.before.before.before.before) c.before.before.if2.true
+term_context_requires t c κs = term_context_pre (row t c.before.before.before.before) c.if-k-eq-CONTEXT.true
 
-term_enum_told_2 : (t : ℕ) → term-lts.Need-enum-told-2 (term_claims t) (term_at t) term.Post
+term_enum_told_2 : (t : ℕ) → term-lts.Need-enum_told-in-Fail-context (term_claims t) (term_at t) term.Post
 term_enum_told_2 t c = search rules
 
-term_enum_told_3 : (t : ℕ) → term-lts.Need-enum-told-3 (term_claims t) (term_at t) term.Post
+term_enum_told_3 : (t : ℕ) → term-lts.Need-enum_told-in-Need (term_claims t) (term_at t) term.Post
 term_enum_told_3 t c = search rules
 
-term_enum_known_u : (t : ℕ) → term-lts.Need-enum-known-u (term_claims t) (term_at t) term.Post
+term_enum_known_u : (t : ℕ) → term-lts.Need-enum_known-u (term_claims t) (term_at t) term.Post
 term_enum_known_u t c = search rules
 
-term_add_term : (t : ℕ) → term-lts.Need-overflow-add-term (term_claims t) (term_at t) term.Post
-term_add_term t c = omega (arith, term_marks c.before.before.before.before.before.before.before.before.before.before.before.before.before.before.before.before.requires.1)
+term_add_term : (t : ℕ) → term-lts.Need-overflow_add-p (term_claims t) (term_at t) term.Post
+term_add_term t c = omega (arith, term_marks c.requires.1)
 
 term_term_requires : (t : ℕ) → term-lts.Need-term-requires (term_claims t) (term_at t) term.Post
 term_term_requires t c κs = (
-  omega (arith, c.before.before.before.before.before.before.before.before.before.before.before.before.before.before.before.before.requires.0, term_under (row t c.before.before.before.before.before.before.before.before.before.before) c.before.before.before.before.before.before.before.before.if2.true, term_under_tree (row t c.before.before.before.before.before.before.before.before.before.before) c.before.before.before.before.before.before.before.before.if2.true c.before.before.before.before.before.context.ensures c.before.before.before.u.given.1),
-  term_under_pre (row t c.before.before.before.before.before.before.before.before.before.before) c.before.before.before.before.before.before.before.before.if2.true c.before.before.before.before.before.context.ensures c.before.before.before.u.given.1,
+  omega (arith, c.requires.0, term_under (row t c.before.before.before.before.before.before.before.before) c.if-k-eq-CONTEXT.true, term_under_tree (row t c.before.before.before.before.before.before.before.before) c.if-k-eq-CONTEXT.true c.context.ensures c.in-Go.is),
+  term_under_pre (row t c.before.before.before.before.before.before.before.before) c.if-k-eq-CONTEXT.true c.context.ensures c.in-Go.is,
 )
 
-term_returns_3 : (t : ℕ) → term-lts.Need-returns-3 (term_claims t) (term_at t) term.Post
-term_returns_3 t c = term_context_fails (row t c.before.before.before.before.before.before.before) c.before.before.before.before.before.if2.true c.before.before.context.ensures c.enum-told2.given.1
+term_returns_3 : (t : ℕ) → term-lts.Need-returns-in-Fail-context (term_claims t) (term_at t) term.Post
+term_returns_3 t c = term_context_fails (row t c.before.before.before.before.before.before) c.if-k-eq-CONTEXT.true c.context.ensures c.in-Fail-context.is
 
-term_returns_4 : (t : ℕ) → term-lts.Need-returns-4 (term_claims t) (term_at t) term.Post
-term_returns_4 t c = term_context_needs (row t c.before.before.before.before.before.before.before) c.before.before.before.before.before.if2.true c.before.before.context.ensures c.enum-told3.given.1
+term_returns_4 : (t : ℕ) → term-lts.Need-returns-in-Need (term_claims t) (term_at t) term.Post
+term_returns_4 t c = term_context_needs (row t c.before.before.before.before.before.before) c.if-k-eq-CONTEXT.true c.context.ensures c.in-Need.is
 
-term_returns_5 : (t : ℕ) → term-lts.Need-returns-5 (term_claims t) (term_at t) term.Post
-term_returns_5 t c = term_under_is (row t c.before.before.before.before.before.before.before.before.before.before.before) c.before.before.before.before.before.before.before.before.before.if2.true c.before.before.before.before.before.before.context.ensures c.before.before.before.before.u.given.1 c.term.ensures
+term_returns_5 : (t : ℕ) → term-lts.Need-returns-in-Go (term_claims t) (term_at t) term.Post
+term_returns_5 t c = term_under_is (row t c.before.before.before.before.before.before.before.before.before) c.if-k-eq-CONTEXT.true c.context.ensures c.in-Go.is c.term.ensures
 
 term_head_requires : (t : ℕ) → term-lts.Need-head-requires (term_claims t) (term_at t) term.Post
-term_head_requires t c κs = term_head_pre (row t c.before.before.before) c.before.before.if1.false c.before.if2.false
+term_head_requires t c κs = term_head_pre (row t c.before.before.before) c.if-k-eq-INDIVIDUAL.false c.if-k-eq-CONTEXT.false
 
-term_enum_told_4 : (t : ℕ) → term-lts.Need-enum-told-4 (term_claims t) (term_at t) term.Post
+term_enum_told_4 : (t : ℕ) → term-lts.Need-enum_told-in-Fail-head (term_claims t) (term_at t) term.Post
 term_enum_told_4 t c = search rules
 
-term_enum_known_m_2 : (t : ℕ) → term-lts.Need-enum-known-m-2 (term_claims t) (term_at t) term.Post
+term_enum_known_m_2 : (t : ℕ) → term-lts.Need-enum_known-m-in-Ok-head (term_claims t) (term_at t) term.Post
 term_enum_known_m_2 t c = search rules
 
-term_add_args : (t : ℕ) → term-lts.Need-overflow-add-args (term_claims t) (term_at t) term.Post
-term_add_args t c = omega (arith, term_marks c.before.before.before.before.before.before.before.before.before.before.before.before.before.before.before.requires.1)
+term_add_args : (t : ℕ) → term-lts.Need-overflow_add-p-in-Ok-head (term_claims t) (term_at t) term.Post
+term_add_args t c = omega (arith, term_marks c.requires.1)
 
 term_next_requires : (t : ℕ) → term-lts.Need-next-requires (term_claims t) (term_at t) term.Post
-term_next_requires t c κs = (term_row (row t c.before.before.before.before.before.before.before.before.before).pre).room
+term_next_requires t c κs = (term_row (row t c.before.before.before.before.before.before.before).pre).room
 
-term_add_args_2 : (t : ℕ) → term-lts.Need-overflow-add-args-2 (term_claims t) (term_at t) term.Post
-term_add_args_2 t c = omega (arith, term_tree (row t c.before.before.before.before.before.before.before.before.before.before).pre, c.before.before.before.before.before.before.before.before.before.before.before.before.before.before.before.before.well-formed)
+term_add_args_2 : (t : ℕ) → term-lts.Need-overflow_add-t (term_claims t) (term_at t) term.Post
+term_add_args_2 t c = omega (arith, term_tree (row t c.before.before.before.before.before.before.before.before).pre, c.well_formed)
 
-term_next_requires_2 : (t : ℕ) → term-lts.Need-next-requires-2 (term_claims t) (term_at t) term.Post
-term_next_requires_2 t c κs = (term_tree (row t c.before.before.before.before.before.before.before.before.before.before).pre).sized
+term_next_requires_2 : (t : ℕ) → term-lts.Need-next-requires-in-Ok-head (term_claims t) (term_at t) term.Post
+term_next_requires_2 t c κs = (term_tree (row t c.before.before.before.before.before.before.before.before).pre).sized
 
 term_args_requires : (t : ℕ) → term-lts.Need-args-requires (term_claims t) (term_at t) term.Post
 term_args_requires t c κs = (
-  omega (arith, c.before.before.before.before.before.before.before.before.before.before.before.before.before.before.before.before.before.requires.0, term_row (row t c.before.before.before.before.before.before.before.before.before.before.before).pre, (term_tree (row t c.before.before.before.before.before.before.before.before.before.before.before).pre).positive, c.before.next.ensures, c.next2.ensures),
-  term_inside_pre (row t c.before.before.before.before.before.before.before.before.before.before.before) c.before.before.before.before.before.before.before.before.before.before.if1.false c.before.before.before.before.before.before.before.before.before.if2.false c.before.before.before.before.before.before.before.head.ensures c.before.before.before.before.before.m2.given.1 c.before.next.ensures c.next2.ensures,
+  omega (arith, c.requires.0, term_row (row t c.before.before.before.before.before.before.before.before.before).pre, (term_tree (row t c.before.before.before.before.before.before.before.before.before).pre).positive, c.next.ensures, c.next-in-Ok-head.ensures),
+  term_inside_pre (row t c.before.before.before.before.before.before.before.before.before) c.if-k-eq-INDIVIDUAL.false c.if-k-eq-CONTEXT.false c.head.ensures c.in-Ok-head.is c.next.ensures c.next-in-Ok-head.ensures,
 )
 
-term_returns_6 : (t : ℕ) → term-lts.Need-returns-6 (term_claims t) (term_at t) term.Post
-term_returns_6 t c = term_head_fails (row t c.before.before.before.before.before.before) c.before.before.before.before.before.if1.false c.before.before.before.before.if2.false c.before.before.head.ensures c.enum-told4.given.1
+term_returns_6 : (t : ℕ) → term-lts.Need-returns-in-Fail-head (term_claims t) (term_at t) term.Post
+term_returns_6 t c = term_head_fails (row t c.before.before.before.before.before) c.if-k-eq-INDIVIDUAL.false c.if-k-eq-CONTEXT.false c.head.ensures c.in-Fail-head.is
 
-term_returns_7 : (t : ℕ) → term-lts.Need-returns-7 (term_claims t) (term_at t) term.Post
-term_returns_7 t c = term_inside_is (row t c.before.before.before.before.before.before.before.before.before.before.before.before) c.before.before.before.before.before.before.before.before.before.before.before.if1.false c.before.before.before.before.before.before.before.before.before.before.if2.false c.before.before.before.before.before.before.before.before.head.ensures c.before.before.before.before.before.before.m2.given.1 c.before.before.next.ensures c.before.next2.ensures c.args2.ensures
+term_returns_7 : (t : ℕ) → term-lts.Need-returns-in-Ok-head (term_claims t) (term_at t) term.Post
+term_returns_7 t c = term_inside_is (row t c.before.before.before.before.before.before.before.before.before.before) c.if-k-eq-INDIVIDUAL.false c.if-k-eq-CONTEXT.false c.head.ensures c.in-Ok-head.is c.next.ensures c.next-in-Ok-head.ensures c.args-in-Ok-head.ensures
 
 pub +args-term-spec : {M : Type 1} → statement M
 +args-term-spec =

@@ -25,15 +25,15 @@ loop_holds c = (omega arith, packing_first)
 
 -- src/lib.rt:72:22
 holder_of_requires : tie.Need-holder_of-holder-requires invariant_loop decreases_loop
-holder_of_requires c κs = packing_holder c.before.before.loop.invariant.1 c.requires c.before.loop-test.true
+holder_of_requires c κs = packing_holder c.loop-row.invariant.1 c.requires c.loop-row-test.true
 
 -- src/lib.rt:72:22
 cast_holder : tie.Need-overflow_cast-holder invariant_loop decreases_loop
-cast_holder c = omega (arith, c.holder_of-holder.ensures.least, c.before.before.loop-test.true, c.requires.few)
+cast_holder c = omega (arith, c.holder_of-holder.ensures.least, c.loop-row-test.true, c.requires.few)
 
 -- src/lib.rt:73:13
 at_requires : tie.Need-at-x-requires invariant_loop decreases_loop
-at_requires c κs = omega (arith, c.before.before.loop-test.true, c.requires.names)
+at_requires c κs = omega (arith, c.loop-row-test.true, c.requires.names)
 
 -- src/lib.rt:75:19
 mul_t10 : tie.Need-offset_bounds-kind-row invariant_loop decreases_loop
@@ -41,7 +41,7 @@ mul_t10 c = search rules
 
 -- src/lib.rt:75:19
 shared_slice_read_t15 : tie.Need-bounds-kind-row invariant_loop decreases_loop
-shared_slice_read_t15 c = c.before.before.before.before.loop-test.true
+shared_slice_read_t15 c = c.loop-row-test.true
 
 -- src/lib.rt:76:19
 mul_t16 : tie.Need-offset_bounds-name-row invariant_loop decreases_loop
@@ -49,7 +49,7 @@ mul_t16 c = search rules
 
 -- src/lib.rt:76:19
 shared_slice_read_t18 : tie.Need-bounds-name-row invariant_loop decreases_loop
-shared_slice_read_t18 c = omega (arith, c.before.before.before.before.before.loop-test.true, c.requires.names)
+shared_slice_read_t18 c = omega (arith, c.loop-row-test.true, c.requires.names)
 
 -- src/lib.rt:77:19
 mul_t19 : tie.Need-offset_bounds-size-row invariant_loop decreases_loop
@@ -57,7 +57,7 @@ mul_t19 c = search rules
 
 -- src/lib.rt:77:19
 shared_slice_read_t21 : tie.Need-bounds-size-row invariant_loop decreases_loop
-shared_slice_read_t21 c = omega (arith, c.before.before.before.before.before.before.loop-test.true, c.requires.sizes)
+shared_slice_read_t21 c = omega (arith, c.loop-row-test.true, c.requires.sizes)
 
 -- src/lib.rt:79:38
 add_entry : tie.Need-overflow_add-x invariant_loop decreases_loop
@@ -81,19 +81,19 @@ entry_requires_2 c κs = search rules
 
 -- src/lib.rt:82:9
 put_requires : tie.Need-put-requires invariant_loop decreases_loop
-put_requires c κs = packing_room c.before.before.before.before.before.before.before.before.before.before.loop.invariant.1 c.requires c.before.before.before.before.before.before.before.before.before.loop-test.true
+put_requires c κs = packing_room c.loop-row.invariant.1 c.requires c.loop-row-test.true
 
 -- src/lib.rt:83:9
 add_row : tie.Need-overflow_add-row invariant_loop decreases_loop
-add_row c = omega (arith, c.before.before.before.before.before.before.before.before.before.before.before.before.loop-test.true, c.requires.few)
+add_row c = omega (arith, c.loop-row-test.true, c.requires.few)
 
 -- src/lib.rt:71:5
 loop_less : tie.Need-loop-row-smaller invariant_loop decreases_loop
-loop_less c = omega (arith, c.before.before.before.before.before.before.before.before.before.before.before.before.loop-test.true)
+loop_less c = omega (arith, c.loop-row-test.true)
 
 -- src/lib.rt:71:5
 loop_again : tie.Need-loop-row-preserved invariant_loop decreases_loop
-loop_again c = (omega (arith, c.before.before.before.before.before.before.before.before.before.before.before.before.loop-test.true), packing_more c.before.before.before.before.before.before.before.before.before.before.before.before.before.loop.invariant.1 c.requires c.before.before.before.before.before.before.before.before.before.before.before.before.loop-test.true c.holder_of-holder.ensures (rw (c.entry.ensures, c.entry-in-loop-row.ensures, c.at-x.ensures.0) at c.put.ensures))
+loop_again c = (omega (arith, c.loop-row-test.true), packing_more c.loop-row.invariant.1 c.requires c.loop-row-test.true c.holder_of-holder.ensures (rw (c.entry.ensures, c.entry-in-loop-row.ensures, c.at-x.ensures.0) at c.put.ensures))
 
 -- src/lib.rt:65:1
 same_length : tie.Need-shape_of-packed invariant_loop decreases_loop

@@ -12,19 +12,19 @@ holder_requires : tie.Need-holder-h-requires
 holder_requires c κs = (resume_row c.requires).1
 
 row_requires : tie.Need-row-g-requires
-row_requires c κs = (resume_holder (omega (arith, c.before.before.before.kind.ensures, c.before.before.if1.true)) c.before.holder.ensures c.requires).0
+row_requires c κs = (resume_holder (omega (arith, c.kind.ensures, c.if-kind-eq-SEQUENCE.true)) c.holder-h.ensures c.requires).0
 
 add_args : tie.Need-overflow_add-p
 add_args c = omega (arith, resume_row c.requires)
 
 next_requires : tie.Need-next-requires
-next_requires c κs = (resume_holder (omega (arith, c.before.before.before.before.before.before.kind.ensures, c.before.before.before.before.before.if1.true)) c.before.before.before.before.holder.ensures c.requires).1
+next_requires c κs = (resume_holder (omega (arith, c.kind.ensures, c.if-kind-eq-SEQUENCE.true)) c.holder-h.ensures c.requires).1
 
 next_requires_2 : tie.Need-next-requires-then-kind-eq-SEQUENCE
-next_requires_2 c κs = omega (arith, (resume_holder (omega (arith, c.before.before.before.before.before.before.before.kind.ensures, c.before.before.before.before.before.before.if1.true)) c.before.before.before.before.before.holder.ensures c.requires).2, c.row-g.ensures)
+next_requires_2 c κs = omega (arith, (resume_holder (omega (arith, c.kind.ensures, c.if-kind-eq-SEQUENCE.true)) c.holder-h.ensures c.requires).2, c.row-g.ensures)
 
 args_requires : tie.Need-args-requires
-args_requires c κs = resume_list_pre (omega (arith, c.before.before.before.before.before.before.before.before.kind.ensures, c.before.before.before.before.before.before.before.if1.true)) c.before.before.before.before.before.before.holder.ensures c.next.ensures c.row-g.ensures c.next-then-kind-eq-SEQUENCE.ensures c.requires
+args_requires c κs = resume_list_pre (omega (arith, c.kind.ensures, c.if-kind-eq-SEQUENCE.true)) c.holder-h.ensures c.next.ensures c.row-g.ensures c.next-then-kind-eq-SEQUENCE.ensures c.requires
 
 enum_told : tie.Need-enum_told-1
 enum_told c = search rules
@@ -36,16 +36,16 @@ enum_known_m : tie.Need-enum_known-m
 enum_known_m c = search rules
 
 up_requires : tie.Need-up-requires
-up_requires c κs = resume_up_pre (omega (arith, c.before.before.before.before.before.before.before.before.before.before.before.before.before.before.kind.ensures, c.before.before.before.before.before.before.before.before.before.before.before.before.before.if1.true)) c.before.before.before.before.before.before.before.before.before.before.before.before.holder.ensures c.next.ensures c.row-g.ensures c.next-then-kind-eq-SEQUENCE.ensures c.args-then-kind-eq-SEQUENCE.ensures c.in-Ok.is c.requires
+up_requires c κs = resume_up_pre (omega (arith, c.kind.ensures, c.if-kind-eq-SEQUENCE.true)) c.holder-h.ensures c.next.ensures c.row-g.ensures c.next-then-kind-eq-SEQUENCE.ensures c.args-then-kind-eq-SEQUENCE.ensures c.in-Ok.is c.requires
 
 returns : tie.Need-returns-in-Fail
-returns c = resume_list_fails (omega (arith, c.before.before.before.before.before.before.before.before.before.before.before.kind.ensures, c.before.before.before.before.before.before.before.before.before.before.if1.true)) c.before.before.before.before.before.before.before.before.before.holder.ensures c.next.ensures c.row-g.ensures c.next-then-kind-eq-SEQUENCE.ensures c.args-then-kind-eq-SEQUENCE.ensures c.in-Fail.is
+returns c = resume_list_fails (omega (arith, c.kind.ensures, c.if-kind-eq-SEQUENCE.true)) c.holder-h.ensures c.next.ensures c.row-g.ensures c.next-then-kind-eq-SEQUENCE.ensures c.args-then-kind-eq-SEQUENCE.ensures c.in-Fail.is
 
 returns_2 : tie.Need-returns-in-Need
-returns_2 c = resume_list_needs (omega (arith, c.before.before.before.before.before.before.before.before.before.before.before.before.kind.ensures, c.before.before.before.before.before.before.before.before.before.before.before.if1.true)) c.before.before.before.before.before.before.before.before.before.before.holder.ensures c.next.ensures c.row-g.ensures c.next-then-kind-eq-SEQUENCE.ensures c.args-then-kind-eq-SEQUENCE.ensures c.in-Need.is
+returns_2 c = resume_list_needs (omega (arith, c.kind.ensures, c.if-kind-eq-SEQUENCE.true)) c.holder-h.ensures c.next.ensures c.row-g.ensures c.next-then-kind-eq-SEQUENCE.ensures c.args-then-kind-eq-SEQUENCE.ensures c.in-Need.is
 
 returns_3 : tie.Need-returns-in-Ok
-returns_3 c = resume_up_is (omega (arith, c.before.before.before.before.before.before.before.before.before.before.before.before.before.before.before.kind.ensures, c.before.before.before.before.before.before.before.before.before.before.before.before.before.before.if1.true)) c.before.before.before.before.before.before.before.before.before.before.before.before.before.holder.ensures c.next.ensures c.row-g.ensures c.next-then-kind-eq-SEQUENCE.ensures c.args-then-kind-eq-SEQUENCE.ensures c.in-Ok.is c.up.ensures
+returns_3 c = resume_up_is (omega (arith, c.kind.ensures, c.if-kind-eq-SEQUENCE.true)) c.holder-h.ensures c.next.ensures c.row-g.ensures c.next-then-kind-eq-SEQUENCE.ensures c.args-then-kind-eq-SEQUENCE.ensures c.in-Ok.is c.up.ensures
 
 add_term : tie.Need-overflow_add-p-2
 add_term c = omega (arith, resume_row c.requires)

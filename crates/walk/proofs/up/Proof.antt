@@ -33,46 +33,46 @@ loop_again : tie.Need-loop-q-preserved-then-kind-eq-CONTEXT invariant_loop decre
 loop_again c = up_context (below c.before.before.before) c.holder-h.ensures (omega (arith, c.kind.ensures, c.if-kind-eq-CONTEXT.true))
 
 row_requires : tie.Need-row-t-requires invariant_loop decreases_loop
-row_requires c κs = (up_holding (below c.before.before.before.before)).few
+row_requires c κs = (up_holding (below c.before.before.before)).few
 
 row_requires_2 : tie.Need-row-g-requires invariant_loop decreases_loop
-row_requires_2 c κs = (up_row (below c.before.before.before.before.before.before) c.before.before.before.before.before.holder.ensures (omega (arith, c.before.before.before.before.kind.ensures, c.before.before.before.if1.false))).1
+row_requires_2 c κs = (up_row (below c.before.before.before.before) c.holder-h.ensures (omega (arith, c.kind.ensures, c.if-kind-eq-CONTEXT.false))).1
 
 next_requires : tie.Need-next-requires invariant_loop decreases_loop
-next_requires c κs = (up_holding (below c.before.before.before.before.before.before.before.before.before)).room
+next_requires c κs = (up_holding (below c.before.before.before.before.before.before.before)).room
 
 next_requires_2 : tie.Need-next-requires-else-kind-eq-CONTEXT invariant_loop decreases_loop
-next_requires_2 c κs = (up_row (below c.before.before.before.before.before.before.before.before.before.before) c.before.before.before.before.before.before.before.before.before.holder.ensures (omega (arith, c.before.before.before.before.before.before.before.before.kind.ensures, c.before.before.before.before.before.before.before.if1.false))).2
+next_requires_2 c κs = (up_row (below c.before.before.before.before.before.before.before.before) c.holder-h.ensures (omega (arith, c.kind.ensures, c.if-kind-eq-CONTEXT.false))).2
 
 next_requires_3 : tie.Need-next-requires-else-kind-eq-CONTEXT-2 invariant_loop decreases_loop
-next_requires_3 c κs = omega (arith, (up_holding (below c.before.before.before.before.before.before.before.before.before.before.before)).row, c.before.before.before.before.before.before.row.ensures)
+next_requires_3 c κs = omega (arith, (up_holding (below c.before.before.before.before.before.before.before.before.before)).row, c.row-t.ensures)
 
 next_requires_4 : tie.Need-next-requires-else-kind-eq-CONTEXT-3 invariant_loop decreases_loop
-next_requires_4 c κs = omega (arith, (up_row (below c.before.before.before.before.before.before.before.before.before.before.before.before) c.before.before.before.before.before.before.before.before.before.before.before.holder.ensures (omega (arith, c.before.before.before.before.before.before.before.before.before.before.kind.ensures, c.before.before.before.before.before.before.before.before.before.if1.false))).0, c.row-g.ensures)
+next_requires_4 c κs = omega (arith, (up_row (below c.before.before.before.before.before.before.before.before.before.before) c.holder-h.ensures (omega (arith, c.kind.ensures, c.if-kind-eq-CONTEXT.false))).0, c.row-g.ensures)
 
 args_requires : tie.Need-args-requires invariant_loop decreases_loop
-args_requires c κs = up_list_pre (below c.before.before.before.before.before.before.before.before.before.before.before.before.before) c.before.before.before.before.before.before.before.before.before.before.before.before.holder.ensures (omega (arith, c.before.before.before.before.before.before.before.before.before.before.before.kind.ensures, c.before.before.before.before.before.before.before.before.before.before.if1.false)) c.next.ensures c.next-else-kind-eq-CONTEXT.ensures c.before.before.before.before.before.before.before.before.row.ensures c.next-else-kind-eq-CONTEXT-2.ensures c.row-g.ensures c.next-else-kind-eq-CONTEXT-3.ensures
+args_requires c κs = up_list_pre (below c.before.before.before.before.before.before.before.before.before.before.before) c.holder-h.ensures (omega (arith, c.kind.ensures, c.if-kind-eq-CONTEXT.false)) c.next.ensures c.next-else-kind-eq-CONTEXT.ensures c.row-t.ensures c.next-else-kind-eq-CONTEXT-2.ensures c.row-g.ensures c.next-else-kind-eq-CONTEXT-3.ensures
 
 enum_told : tie.Need-enum_told-1 invariant_loop decreases_loop
 enum_told c = search rules
 
 returns : tie.Need-returns-in-Fail invariant_loop decreases_loop
-returns c = up_fails (below c.before.before.before.before.before.before.before.before.before.before.before.before.before.before.before) c.before.before.before.before.before.before.before.before.before.before.before.before.before.before.before.holder.ensures (omega (arith, c.before.before.before.before.before.before.before.before.before.before.before.before.before.before.kind.ensures, c.before.before.before.before.before.before.before.before.before.before.before.before.before.if1.false)) c.next.ensures c.next-else-kind-eq-CONTEXT.ensures c.before.before.before.before.before.before.before.before.before.before.before.row.ensures c.next-else-kind-eq-CONTEXT-2.ensures c.row-g.ensures c.next-else-kind-eq-CONTEXT-3.ensures c.args-else-kind-eq-CONTEXT.ensures c.in-Fail.is
+returns c = up_fails (below c.before.before.before.before.before.before.before.before.before.before.before.before.before) c.holder-h.ensures (omega (arith, c.kind.ensures, c.if-kind-eq-CONTEXT.false)) c.next.ensures c.next-else-kind-eq-CONTEXT.ensures c.row-t.ensures c.next-else-kind-eq-CONTEXT-2.ensures c.row-g.ensures c.next-else-kind-eq-CONTEXT-3.ensures c.args-else-kind-eq-CONTEXT.ensures c.in-Fail.is
 
 enum_known_w : tie.Need-enum_known-w invariant_loop decreases_loop
 enum_known_w c = search rules
 
 returns_2 : tie.Need-returns-in-Need invariant_loop decreases_loop
-returns_2 c = up_needs (below c.before.before.before.before.before.before.before.before.before.before.before.before.before.before.before) c.before.before.before.before.before.before.before.before.before.before.before.before.before.before.before.before.holder.ensures (omega (arith, c.before.before.before.before.before.before.before.before.before.before.before.before.before.before.before.kind.ensures, c.before.before.before.before.before.before.before.before.before.before.before.before.before.before.if1.false)) c.next.ensures c.next-else-kind-eq-CONTEXT.ensures c.before.before.before.before.before.before.before.before.before.before.before.before.row.ensures c.next-else-kind-eq-CONTEXT-2.ensures c.row-g.ensures c.next-else-kind-eq-CONTEXT-3.ensures c.args-else-kind-eq-CONTEXT.ensures c.in-Need.is
+returns_2 c = up_needs (below c.before.before.before.before.before.before.before.before.before.before.before.before.before) c.holder-h.ensures (omega (arith, c.kind.ensures, c.if-kind-eq-CONTEXT.false)) c.next.ensures c.next-else-kind-eq-CONTEXT.ensures c.row-t.ensures c.next-else-kind-eq-CONTEXT-2.ensures c.row-g.ensures c.next-else-kind-eq-CONTEXT-3.ensures c.args-else-kind-eq-CONTEXT.ensures c.in-Need.is
 
 enum_known_k : tie.Need-enum_known-k invariant_loop decreases_loop
 enum_known_k c = search rules
 
 loop_less_2 : tie.Need-loop-q-smaller invariant_loop decreases_loop
-loop_less_2 c = omega (arith, (up_holding (below c.before.before.before.before.before.before.before.before.before.before.before.before.before.before.before)).lower, c.before.before.before.before.before.before.before.before.before.before.before.before.before.before.before.before.holder.ensures)
+loop_less_2 c = omega (arith, (up_holding (below c.before.before.before.before.before.before.before.before.before.before.before.before.before)).lower, c.holder-h.ensures)
 
 loop_again_2 : tie.Need-loop-q-preserved invariant_loop decreases_loop
-loop_again_2 c = up_goes (below c.before.before.before.before.before.before.before.before.before.before.before.before.before.before.before) c.before.before.before.before.before.before.before.before.before.before.before.before.before.before.before.before.holder.ensures (omega (arith, c.before.before.before.before.before.before.before.before.before.before.before.before.before.before.before.kind.ensures, c.before.before.before.before.before.before.before.before.before.before.before.before.before.before.if1.false)) c.next.ensures c.next-else-kind-eq-CONTEXT.ensures c.before.before.before.before.before.before.before.before.before.before.before.before.row.ensures c.next-else-kind-eq-CONTEXT-2.ensures c.row-g.ensures c.next-else-kind-eq-CONTEXT-3.ensures c.args-else-kind-eq-CONTEXT.ensures c.in-Ok.is
+loop_again_2 c = up_goes (below c.before.before.before.before.before.before.before.before.before.before.before.before.before) c.holder-h.ensures (omega (arith, c.kind.ensures, c.if-kind-eq-CONTEXT.false)) c.next.ensures c.next-else-kind-eq-CONTEXT.ensures c.row-t.ensures c.next-else-kind-eq-CONTEXT-2.ensures c.row-g.ensures c.next-else-kind-eq-CONTEXT-3.ensures c.args-else-kind-eq-CONTEXT.ensures c.in-Ok.is
 
 returns_3 : tie.Need-returns invariant_loop decreases_loop
 returns_3 c = up_ends c.loop-q.invariant c.loop-q-test.false

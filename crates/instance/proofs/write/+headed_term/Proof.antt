@@ -45,11 +45,11 @@ term_at t = and 6 term-kinds.ps (is 6 term-kinds.ps μ-term t) term.Pre
 abbrev term_below : ℕ → In 6 term-kinds.ps
 term_below t = and 6 term-kinds.ps (falls 6 term-kinds.ps ◌<◌ μ-term t) term.Pre
 
-abbrev headed_inv_loop : headed-lts.invariant_loop
+abbrev headed_inv_loop : headed-lts.invariant-loop-p
 headed_inv_loop label size pattern «record» row to out-label₀ out-size₀ last p₀ end₀ out_label out_size p end =
     Writing label size pattern (names_of pattern) (sizes_of pattern) «record» out-label₀ out-size₀ (row + 1) last (to + 1) out_label out_size p end
 
-abbrev headed-μ-loop : headed-lts.decreases_loop
+abbrev headed-μ-loop : headed-lts.decreases-loop-p
 headed-μ-loop label size pattern «record» row to out-label₀ out-size₀ last p₀ end₀ out_label out_size p end = last - p
 
 -- what the callees of `headed` ask and give
@@ -89,163 +89,163 @@ term_claims t = (
 )
 
 -- the term has a head, and its arguments end before the row that was computed
-at_head : (t : ℕ) (c : headed-lts.After-next (headed_claims t) (headed_at t) headed.Post headed_inv_loop headed-μ-loop) →
-    let a = c.before.before.before.before.before.before.before.args in
-    AtHead a.label.now a.size.now a.pattern.now (names_of a.pattern.now) (sizes_of a.pattern.now) a.«record».now a.out_label.now a.out_size.now a.row a.to c.next.result
-at_head t c = record { asked = c.before.before.before.before.before.before.before.requires.1; next = c.next.ensures }
+at_head : (t : ℕ) (c : headed-lts.After-next-last (headed_claims t) (headed_at t) headed.Post headed_inv_loop headed-μ-loop) →
+    let a = c.args in
+    AtHead a.label.now a.size.now a.pattern.now (names_of a.pattern.now) (sizes_of a.pattern.now) a.«record».now a.out_label.now a.out_size.now a.row a.to c.next-last.result
+at_head t c = record { asked = c.requires.1; next = c.next-last.ensures }
 
 -- an argument's row
-argument_row : (t : ℕ) (c : headed-lts.In-loop (headed_claims t) (headed_at t) headed.Post headed_inv_loop headed-μ-loop) →
-    let a = c.before.before.before.before.before.before.before.before.before.args in
-    let l = c.before.loop in
-    (l.p < c.before.before.next.result) × (l.p < length a.pattern.now) × (l.p < length (names_of a.pattern.now)) × (l.p < length (sizes_of a.pattern.now))
-argument_row t c = list_row c.before.loop.invariant.left.some.4 c.loop-test.true
+argument_row : (t : ℕ) (c : headed-lts.In-loop-p (headed_claims t) (headed_at t) headed.Post headed_inv_loop headed-μ-loop) →
+    let a = c.args in
+    let l = c.loop-p in
+    (l.p < c.next-last.result) × (l.p < length a.pattern.now) × (l.p < length (names_of a.pattern.now)) × (l.p < length (sizes_of a.pattern.now))
+argument_row t c = list_row c.loop-p.invariant.left.some.4 c.loop-p-test.true
 
 -- the argument is a sequence variable
-at_sequence : (t : ℕ) (c : headed-lts.After-name (headed_claims t) (headed_at t) headed.Post headed_inv_loop headed-μ-loop) →
-    let a = c.before.before.before.before.before.before.before.before.before.before.before.before.args in
-    let l = c.before.before.before.before.loop in
-    AtSequence a.label.now a.size.now a.pattern.now (names_of a.pattern.now) (sizes_of a.pattern.now) a.«record».now l.out_label l.out_size l.p c.before.before.before.before.before.next.result l.end c.name.result
-at_sequence t c = record { pre = c.before.before.before.before.loop.invariant.left; more = c.before.before.before.loop-test.true; kind = sym c.before.before.kind.ensures ∙ c.before.if1.true; name = c.name.ensures.0 }
+at_sequence : (t : ℕ) (c : headed-lts.After-name-variable (headed_claims t) (headed_at t) headed.Post headed_inv_loop headed-μ-loop) →
+    let a = c.args in
+    let l = c.loop-p in
+    AtSequence a.label.now a.size.now a.pattern.now (names_of a.pattern.now) (sizes_of a.pattern.now) a.«record».now l.out_label l.out_size l.p c.next-last.result l.end c.name-variable.result
+at_sequence t c = record { pre = c.loop-p.invariant.left; more = c.loop-p-test.true; kind = sym c.kind.ensures ∙ c.if-kind-eq-SEQUENCE.true; name = c.name-variable.ensures.0 }
 
 -- the argument is a term
-at_term : (t : ℕ) (c : headed-lts.Else1 (headed_claims t) (headed_at t) headed.Post headed_inv_loop headed-μ-loop) →
-    let a = c.before.before.before.before.before.before.before.before.before.before.before.args in
-    let l = c.before.before.before.loop in
-    AtTerm a.label.now a.size.now a.pattern.now (names_of a.pattern.now) (sizes_of a.pattern.now) a.«record».now l.out_label l.out_size l.p c.before.before.before.before.next.result l.end
-at_term t c = record { pre = c.before.before.before.loop.invariant.left; more = c.before.before.loop-test.true; kind = λ e. c.if1.false (c.before.kind.ensures ∙ e) }
+at_term : (t : ℕ) (c : headed-lts.Else-kind-eq-SEQUENCE (headed_claims t) (headed_at t) headed.Post headed_inv_loop headed-μ-loop) →
+    let a = c.args in
+    let l = c.loop-p in
+    AtTerm a.label.now a.size.now a.pattern.now (names_of a.pattern.now) (sizes_of a.pattern.now) a.«record».now l.out_label l.out_size l.p c.next-last.result l.end
+at_term t c = record { pre = c.loop-p.invariant.left; more = c.loop-p-test.true; kind = λ e. c.if-kind-eq-SEQUENCE.false (c.kind.ensures ∙ e) }
 
-headed_next_requires : (t : ℕ) → headed-lts.Need-next-requires (headed_claims t) (headed_at t) headed.Post headed_inv_loop headed-μ-loop
-headed_next_requires t c κs = (term_row c.before.before.before.before.before.before.requires.1.pre.some.4).2
+headed_next_requires : (t : ℕ) → headed-lts.Need-next-last-requires (headed_claims t) (headed_at t) headed.Post headed_inv_loop headed-μ-loop
+headed_next_requires t c κs = (term_row c.requires.1.pre.some.4).2
 
-headed_add_p : (t : ℕ) → headed-lts.Need-overflow-add-p (headed_claims t) (headed_at t) headed.Post headed_inv_loop headed-μ-loop
-headed_add_p t c = omega (arith, c.before.before.before.before.before.before.before.well-formed, (term_row c.before.before.before.before.before.before.before.requires.1.pre.some.4).0)
+headed_add_p : (t : ℕ) → headed-lts.Need-overflow_add-p (headed_claims t) (headed_at t) headed.Post headed_inv_loop headed-μ-loop
+headed_add_p t c = omega (arith, c.well_formed, (term_row c.requires.1.pre.some.4).0)
 
-headed_add_end : (t : ℕ) → headed-lts.Need-overflow-add-end (headed_claims t) (headed_at t) headed.Post headed_inv_loop headed-μ-loop
-headed_add_end t c = omega (arith, c.before.before.before.before.before.before.before.well-formed, c.before.before.before.before.before.before.before.requires.1.pre.some.5.labelled)
+headed_add_end : (t : ℕ) → headed-lts.Need-overflow_add-end (headed_claims t) (headed_at t) headed.Post headed_inv_loop headed-μ-loop
+headed_add_end t c = omega (arith, c.well_formed, c.requires.1.pre.some.5.labelled)
 
-headed_loop_holds : (t : ℕ) → headed-lts.Need-loop-init (headed_claims t) (headed_at t) headed.Post headed_inv_loop headed-μ-loop
+headed_loop_holds : (t : ℕ) → headed-lts.Need-loop-p-init (headed_claims t) (headed_at t) headed.Post headed_inv_loop headed-μ-loop
 headed_loop_holds t c = writing_first (below_pre (at_head t c))
 
 headed_kind_requires : (t : ℕ) → headed-lts.Need-kind-requires (headed_claims t) (headed_at t) headed.Post headed_inv_loop headed-μ-loop
 headed_kind_requires t c κs = (argument_row t c).1
 
-headed_name_requires : (t : ℕ) → headed-lts.Need-name-requires (headed_claims t) (headed_at t) headed.Post headed_inv_loop headed-μ-loop
+headed_name_requires : (t : ℕ) → headed-lts.Need-name-variable-requires (headed_claims t) (headed_at t) headed.Post headed_inv_loop headed-μ-loop
 headed_name_requires t c κs = (argument_row t c.before.before).2
 
-headed_sequence_requires : (t : ℕ) → headed-lts.Need-sequence-requires (headed_claims t) (headed_at t) headed.Post headed_inv_loop headed-μ-loop
+headed_sequence_requires : (t : ℕ) → headed-lts.Need-sequence-end-requires (headed_claims t) (headed_at t) headed.Post headed_inv_loop headed-μ-loop
 headed_sequence_requires t c κs = sequence_pre (at_sequence t c.before.before)
 
-headed_add_p_2 : (t : ℕ) → headed-lts.Need-overflow-add-p-2 (headed_claims t) (headed_at t) headed.Post headed_inv_loop headed-μ-loop
-headed_add_p_2 t c = omega (arith, c.before.before.before.before.before.before.before.before.before.before.before.before.before.before.before.before.before.before.before.well-formed, (argument_row t c.before.before.before.before.before.before.before.before.before.before).1)
+headed_add_p_2 : (t : ℕ) → headed-lts.Need-overflow_add-p-then-kind-eq-SEQUENCE (headed_claims t) (headed_at t) headed.Post headed_inv_loop headed-μ-loop
+headed_add_p_2 t c = omega (arith, c.well_formed, (argument_row t c.before.before.before.before.before.before.before.before.before.before).1)
 
-headed_loop_less : (t : ℕ) → headed-lts.Need-loop-smaller (headed_claims t) (headed_at t) headed.Post headed_inv_loop headed-μ-loop
+headed_loop_less : (t : ℕ) → headed-lts.Need-loop-p-smaller-then-kind-eq-SEQUENCE (headed_claims t) (headed_at t) headed.Post headed_inv_loop headed-μ-loop
 headed_loop_less t c = omega (arith, (argument_row t c.before.before.before.before.before.before.before.before.before.before).0)
 
-headed_loop_again : (t : ℕ) → headed-lts.Need-loop-preserved (headed_claims t) (headed_at t) headed.Post headed_inv_loop headed-μ-loop
+headed_loop_again : (t : ℕ) → headed-lts.Need-loop-p-preserved-then-kind-eq-SEQUENCE (headed_claims t) (headed_at t) headed.Post headed_inv_loop headed-μ-loop
 headed_loop_again t c =
-    let s = c.before.before.before.before.sequence in
+    let s = c.sequence-end in
     let k = s.auto.1.1.1.1.1 in
-    writing_sequence c.before.before.before.before.before.before.before.before.before.before.before.loop.invariant k.0 k.1.0 (at_sequence t c.before.before.before.before.before.before.before) s.ensures
+    writing_sequence c.loop-p.invariant k.0 k.1.0 (at_sequence t c.before.before.before.before.before.before.before) s.ensures
 
-headed_term_requires : (t : ℕ) → headed-lts.Need-term-requires (headed_claims t) (headed_at t) headed.Post headed_inv_loop headed-μ-loop
+headed_term_requires : (t : ℕ) → headed-lts.Need-term-end-requires (headed_claims t) (headed_at t) headed.Post headed_inv_loop headed-μ-loop
 headed_term_requires t c κs =
     let x = at_term t c.before.before in
-    (omega (arith, c.before.before.before.before.before.before.before.before.before.before.before.before.before.requires.0, c.before.before.before.before.before.before.next.ensures, c.before.before.before.before.before.loop.invariant.later, first_falls x), first_pre x)
+    (omega (arith, c.requires.0, c.next-last.ensures, c.loop-p.invariant.later, first_falls x), first_pre x)
 
-headed_next_requires_2 : (t : ℕ) → headed-lts.Need-next-requires-2 (headed_claims t) (headed_at t) headed.Post headed_inv_loop headed-μ-loop
+headed_next_requires_2 : (t : ℕ) → headed-lts.Need-next-p-requires (headed_claims t) (headed_at t) headed.Post headed_inv_loop headed-μ-loop
 headed_next_requires_2 t c κs = (argument_row t c.before.before.before.before.before.before.before.before.before).3
 
-headed_loop_less_2 : (t : ℕ) → headed-lts.Need-loop-smaller-2 (headed_claims t) (headed_at t) headed.Post headed_inv_loop headed-μ-loop
-headed_loop_less_2 t c = omega (arith, c.next2.ensures, first_falls (at_term t c.before.before.before.before.before.before.before.before))
+headed_loop_less_2 : (t : ℕ) → headed-lts.Need-loop-p-smaller (headed_claims t) (headed_at t) headed.Post headed_inv_loop headed-μ-loop
+headed_loop_less_2 t c = omega (arith, c.next-p.ensures, first_falls (at_term t c.before.before.before.before.before.before.before.before))
 
-headed_loop_again_2 : (t : ℕ) → headed-lts.Need-loop-preserved-2 (headed_claims t) (headed_at t) headed.Post headed_inv_loop headed-μ-loop
+headed_loop_again_2 : (t : ℕ) → headed-lts.Need-loop-p-preserved (headed_claims t) (headed_at t) headed.Post headed_inv_loop headed-μ-loop
 headed_loop_again_2 t c =
-    let s = c.before.before.before.before.before.term in
+    let s = c.term-end in
     let k = s.auto.1.1.1.1.1.1 in
-    rw c.next2.ensures (writing_term c.before.before.before.before.before.before.before.before.before.before.before.loop.invariant k.0 k.1.0 (at_term t c.before.before.before.before.before.before.before.before) s.ensures)
+    rw c.next-p.ensures (writing_term c.loop-p.invariant k.0 k.1.0 (at_term t c.before.before.before.before.before.before.before.before) s.ensures)
 
 headed_head_requires : (t : ℕ) → headed-lts.Need-head-requires (headed_claims t) (headed_at t) headed.Post headed_inv_loop headed-μ-loop
 headed_head_requires t c κs =
-    let v = c.before.before.before.loop.invariant in
-    head_pre (at_head t c.before.before.before.before) (writing_done v c.before.before.loop-test.false) v.labelled v.sized
+    let v = c.loop-p.invariant in
+    head_pre (at_head t c.before.before.before.before) (writing_done v c.loop-p-test.false) v.labelled v.sized
 
-headed_same_length : (t : ℕ) → headed-lts.Need-same-length (headed_claims t) (headed_at t) headed.Post headed_inv_loop headed-μ-loop
-headed_same_length t c = c.before.before.before.before.head.auto.1.1.1.1.1.1.0 ∙ c.before.before.before.before.before.before.before.before.loop.invariant.labelled
+headed_same_length : (t : ℕ) → headed-lts.Need-shape_of-out_label (headed_claims t) (headed_at t) headed.Post headed_inv_loop headed-μ-loop
+headed_same_length t c = c.head.auto.1.1.1.1.1.1.0 ∙ c.loop-p.invariant.labelled
 
-headed_same_length_2 : (t : ℕ) → headed-lts.Need-same-length-2 (headed_claims t) (headed_at t) headed.Post headed_inv_loop headed-μ-loop
-headed_same_length_2 t c = c.before.before.before.before.head.auto.1.1.1.1.1.1.1.0 ∙ c.before.before.before.before.before.before.before.before.loop.invariant.sized
+headed_same_length_2 : (t : ℕ) → headed-lts.Need-shape_of-out_size (headed_claims t) (headed_at t) headed.Post headed_inv_loop headed-μ-loop
+headed_same_length_2 t c = c.head.auto.1.1.1.1.1.1.1.0 ∙ c.loop-p.invariant.sized
 
 headed_returns : (t : ℕ) → headed-lts.Need-returns (headed_claims t) (headed_at t) headed.Post headed_inv_loop headed-μ-loop
-headed_returns t c = head_post (at_head t c.before.before.before.before.before.before.before.before.before) (writing_done c.before.before.before.before.before.before.before.before.loop.invariant c.before.before.before.before.before.before.before.loop-test.false) c.before.before.before.before.head.ensures
+headed_returns t c = head_post (at_head t c.before.before.before.before.before.before.before.before.before) (writing_done c.loop-p.invariant c.loop-p-test.false) c.head.ensures
 
 -- the term is a context variable
-at_context : (t : ℕ) (c : term-lts.After-name2 (term_claims t) (term_at t) term.Post) →
-    let a = c.before.before.before.before.before.before.before.before.before.before.args in
-    AtContext a.label.now a.size.now a.pattern.now (names_of a.pattern.now) (sizes_of a.pattern.now) a.«record».now a.out_label.now a.out_size.now a.row a.to c.name2.result
-at_context t c = record { pre = c.before.before.before.before.before.before.before.before.before.before.requires.1; kind = sym c.before.before.before.kind.ensures ∙ c.before.if2.true; name = c.name2.ensures.0 }
+at_context : (t : ℕ) (c : term-lts.After-name-x (term_claims t) (term_at t) term.Post) →
+    let a = c.args in
+    AtContext a.label.now a.size.now a.pattern.now (names_of a.pattern.now) (sizes_of a.pattern.now) a.«record».now a.out_label.now a.out_size.now a.row a.to c.name-x.result
+at_context t c = record { pre = c.requires.1; kind = sym c.kind-k.ensures ∙ c.if-k-eq-CONTEXT.true; name = c.name-x.ensures.0 }
 
-term_kind_requires : (t : ℕ) → term-lts.Need-kind-requires (term_claims t) (term_at t) term.Post
-term_kind_requires t c κs = (term_row c.before.before.before.before.before.before.requires.1.some.4).0
+term_kind_requires : (t : ℕ) → term-lts.Need-kind-k-requires (term_claims t) (term_at t) term.Post
+term_kind_requires t c κs = (term_row c.requires.1.some.4).0
 
-term_name_requires : (t : ℕ) → term-lts.Need-name-requires (term_claims t) (term_at t) term.Post
-term_name_requires t c κs = (term_row c.before.before.before.before.before.before.before.before.requires.1.some.4).1
+term_name_requires : (t : ℕ) → term-lts.Need-name-variable-requires (term_claims t) (term_at t) term.Post
+term_name_requires t c κs = (term_row c.requires.1.some.4).1
 
 term_individual_requires : (t : ℕ) → term-lts.Need-individual-requires (term_claims t) (term_at t) term.Post
-term_individual_requires t c κs = rw c.before.before.name.ensures.0 (individual_pre (sym c.before.before.before.before.kind.ensures ∙ c.before.before.before.if1.true) c.before.before.before.before.before.before.before.before.before.before.before.requires.1)
+term_individual_requires t c κs = rw c.name-variable.ensures.0 (individual_pre (sym c.kind-k.ensures ∙ c.if-k-eq-INDIVIDUAL.true) c.requires.1)
 
-term_same_length : (t : ℕ) → term-lts.Need-same-length (term_claims t) (term_at t) term.Post
-term_same_length t c = c.before.before.before.before.individual.auto.1.1.1.1.1.0
+term_same_length : (t : ℕ) → term-lts.Need-shape_of-out_label-then-k-eq-INDIVIDUAL (term_claims t) (term_at t) term.Post
+term_same_length t c = c.individual.auto.1.1.1.1.1.0
 
-term_same_length_2 : (t : ℕ) → term-lts.Need-same-length-2 (term_claims t) (term_at t) term.Post
-term_same_length_2 t c = c.before.before.before.before.individual.auto.1.1.1.1.1.1.0
+term_same_length_2 : (t : ℕ) → term-lts.Need-shape_of-out_size-then-k-eq-INDIVIDUAL (term_claims t) (term_at t) term.Post
+term_same_length_2 t c = c.individual.auto.1.1.1.1.1.1.0
 
-term_returns : (t : ℕ) → term-lts.Need-returns (term_claims t) (term_at t) term.Post
-term_returns t c = individual_post (sym c.before.before.before.before.before.before.before.before.before.kind.ensures ∙ c.before.before.before.before.before.before.before.before.if1.true) (rw c.before.before.before.before.before.before.before.name.ensures.0 at c.before.before.before.before.individual.ensures)
+term_returns : (t : ℕ) → term-lts.Need-returns-then-k-eq-INDIVIDUAL (term_claims t) (term_at t) term.Post
+term_returns t c = individual_post (sym c.kind-k.ensures ∙ c.if-k-eq-INDIVIDUAL.true) (rw c.name-variable.ensures.0 at c.individual.ensures)
 
-term_name_requires_2 : (t : ℕ) → term-lts.Need-name-requires-2 (term_claims t) (term_at t) term.Post
-term_name_requires_2 t c κs = (term_row c.before.before.before.before.before.before.before.before.before.requires.1.some.4).1
+term_name_requires_2 : (t : ℕ) → term-lts.Need-name-x-requires (term_claims t) (term_at t) term.Post
+term_name_requires_2 t c κs = (term_row c.requires.1.some.4).1
 
-term_filling_requires : (t : ℕ) → term-lts.Need-filling-requires (term_claims t) (term_at t) term.Post
-term_filling_requires t c κs = filling_pre (at_context t c) (omega (arith, c.before.before.before.before.before.before.before.before.before.before.well-formed))
+term_filling_requires : (t : ℕ) → term-lts.Need-filling-first-requires (term_claims t) (term_at t) term.Post
+term_filling_requires t c κs = filling_pre (at_context t c) (omega (arith, c.well_formed))
 
-term_add_p : (t : ℕ) → term-lts.Need-overflow-add-p (term_claims t) (term_at t) term.Post
-term_add_p t c = omega (arith, c.before.before.before.before.before.before.before.before.before.before.before.well-formed, (under_falls (at_context t c.before)).1)
+term_add_p : (t : ℕ) → term-lts.Need-overflow_add-p (term_claims t) (term_at t) term.Post
+term_add_p t c = omega (arith, c.well_formed, (under_falls (at_context t c.before)).1)
 
-term_term_requires : (t : ℕ) → term-lts.Need-term-requires (term_claims t) (term_at t) term.Post
+term_term_requires : (t : ℕ) → term-lts.Need-term-end-requires (term_claims t) (term_at t) term.Post
 term_term_requires t c κs =
     let x = at_context t c.before.before.before in
-    (omega (arith, c.before.before.before.before.before.before.before.before.before.before.before.before.before.requires.0, (under_falls x).0), under_pre x c.before.before.filling.ensures)
+    (omega (arith, c.requires.0, (under_falls x).0), under_pre x c.filling-first.ensures)
 
 term_context_requires : (t : ℕ) → term-lts.Need-context-requires (term_claims t) (term_at t) term.Post
 term_context_requires t c κs =
-    let s = c.before.before.before.before.before.before.term in
+    let s = c.term-end in
     let k = s.auto.1.1.1.1.1.1 in
-    context_pre (at_context t c.before.before.before.before.before.before.before.before.before.before) c.before.before.before.before.before.before.before.before.before.filling.ensures s.ensures k.0 k.1.0
+    context_pre (at_context t c.before.before.before.before.before.before.before.before.before.before) c.filling-first.ensures s.ensures k.0 k.1.0
 
-term_same_length_3 : (t : ℕ) → term-lts.Need-same-length-3 (term_claims t) (term_at t) term.Post
-term_same_length_3 t c = c.before.before.before.before.context.auto.1.1.1.1.1.1.1.0 ∙ c.before.before.before.before.before.before.before.before.before.before.before.term.auto.1.1.1.1.1.1.0
+term_same_length_3 : (t : ℕ) → term-lts.Need-shape_of-out_label-then-k-eq-CONTEXT (term_claims t) (term_at t) term.Post
+term_same_length_3 t c = c.context.auto.1.1.1.1.1.1.1.0 ∙ c.term-end.auto.1.1.1.1.1.1.0
 
-term_same_length_4 : (t : ℕ) → term-lts.Need-same-length-4 (term_claims t) (term_at t) term.Post
-term_same_length_4 t c = c.before.before.before.before.context.auto.1.1.1.1.1.1.1.1.0 ∙ c.before.before.before.before.before.before.before.before.before.before.before.term.auto.1.1.1.1.1.1.1.0
+term_same_length_4 : (t : ℕ) → term-lts.Need-shape_of-out_size-then-k-eq-CONTEXT (term_claims t) (term_at t) term.Post
+term_same_length_4 t c = c.context.auto.1.1.1.1.1.1.1.1.0 ∙ c.term-end.auto.1.1.1.1.1.1.1.0
 
-term_returns_2 : (t : ℕ) → term-lts.Need-returns-2 (term_claims t) (term_at t) term.Post
-term_returns_2 t c = context_post (at_context t c.before.before.before.before.before.before.before.before.before.before.before.before.before.before.before) c.before.before.before.before.before.before.before.before.before.before.before.before.before.before.filling.ensures c.before.before.before.before.before.before.before.before.before.before.before.term.ensures c.before.before.before.before.context.ensures
+term_returns_2 : (t : ℕ) → term-lts.Need-returns-then-k-eq-CONTEXT (term_claims t) (term_at t) term.Post
+term_returns_2 t c = context_post (at_context t c.before.before.before.before.before.before.before.before.before.before.before.before.before.before.before) c.filling-first.ensures c.term-end.ensures c.context.ensures
 
 term_headed_requires : (t : ℕ) → term-lts.Need-headed-requires (term_claims t) (term_at t) term.Post
 term_headed_requires t c κs = (
-  omega (arith, c.before.before.before.before.before.before.before.before.before.before.before.requires.0),
-  record { pre = c.before.before.before.before.before.before.before.before.before.before.before.requires.1; not_individual = λ e. c.before.before.before.if1.false (c.before.before.before.before.kind.ensures ∙ e); not_context = λ e. c.before.before.if2.false (c.before.before.before.before.kind.ensures ∙ e) },
+  omega (arith, c.requires.0),
+  record { pre = c.requires.1; not_individual = λ e. c.if-k-eq-INDIVIDUAL.false (c.kind-k.ensures ∙ e); not_context = λ e. c.if-k-eq-CONTEXT.false (c.kind-k.ensures ∙ e) },
 )
 
-term_same_length_5 : (t : ℕ) → term-lts.Need-same-length-5 (term_claims t) (term_at t) term.Post
-term_same_length_5 t c = c.before.before.before.before.headed.auto.1.1.1.1.1.1.0
+term_same_length_5 : (t : ℕ) → term-lts.Need-shape_of-out_label (term_claims t) (term_at t) term.Post
+term_same_length_5 t c = c.headed.auto.1.1.1.1.1.1.0
 
-term_same_length_6 : (t : ℕ) → term-lts.Need-same-length-6 (term_claims t) (term_at t) term.Post
-term_same_length_6 t c = c.before.before.before.before.headed.auto.1.1.1.1.1.1.1.0
+term_same_length_6 : (t : ℕ) → term-lts.Need-shape_of-out_size (term_claims t) (term_at t) term.Post
+term_same_length_6 t c = c.headed.auto.1.1.1.1.1.1.1.0
 
-term_returns_3 : (t : ℕ) → term-lts.Need-returns-3 (term_claims t) (term_at t) term.Post
-term_returns_3 t c = c.before.before.before.before.headed.ensures
+term_returns_3 : (t : ℕ) → term-lts.Need-returns (term_claims t) (term_at t) term.Post
+term_returns_3 t c = c.headed.ensures
 
 pub +headed-term-spec : {M : Type 1} → statement M
 +headed-term-spec =
