@@ -9,7 +9,7 @@ check_requires : tie.Need-check-checked-requires
 check_requires c κs = search rules
 
 returns : tie.Need-returns-then-not-checked
-returns c = says_no (pattern_bad _ _ _ _ _ _ _ c.check-checked.ensures c.if-not-checked.true)
+returns c = says_no (pattern_bad _ _ _ _ _ _ _ c.check-checked.ensures (not-true _ c.if-not-checked.true))
 
 good_requires : tie.Need-good-requires
 good_requires c κs = search rules
@@ -19,12 +19,12 @@ returns_2 c = says_no (table_bad _ _ _ _ _ _ _ c.good.ensures c.if-not-good.true
 
 given_requires : tie.Need-given-requires
 given_requires c κs =
-    list_asked c.check-checked.ensures c.good.ensures c.if-not-checked.false
+    list_asked c.check-checked.ensures c.good.ensures (not-false _ c.if-not-checked.false)
     c.if-not-good.false
 
 returns_3 : tie.Need-returns
 returns_3 c =
-    list_judged _ _ _ _ _ _ _ c.check-checked.ensures c.good.ensures c.if-not-checked.false
+    list_judged _ _ _ _ _ _ _ c.check-checked.ensures c.good.ensures (not-false _ c.if-not-checked.false)
     c.if-not-good.false c.given.ensures
 
 pub good_spec : {M : Type 1} → statement M

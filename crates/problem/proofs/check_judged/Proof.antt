@@ -21,7 +21,7 @@ refused_requires_2 c κs = search rules
 returns_2 : tie.Need-returns-then-not-checked
 returns_2 c =
     let first = c.before.before.before.before in
-    record { on = λ L S j. no_pattern _ j first.if-not-tree.false c.check-checked.ensures c.if-not-checked.true c.refused-then-not-checked.ensures }
+    record { on = λ L S j. no_pattern _ j first.if-not-tree.false c.check-checked.ensures (not-true _ c.if-not-checked.true) c.refused-then-not-checked.ensures }
 
 good_requires : tie.Need-good-requires
 good_requires c κs = search rules
@@ -34,7 +34,7 @@ returns_3 c =
     let second = c.before.before.before in
     let first = second.before.before.before in
     record {
-      on = λ L S j. no_table _ j first.if-not-tree.false second.check-checked.ensures second.if-not-checked.false c.good.ensures
+      on = λ L S j. no_table _ j first.if-not-tree.false second.check-checked.ensures (not-false _ second.if-not-checked.false) c.good.ensures
           c.if-not-good.true c.refused-then-not-good.ensures;
     }
 
@@ -53,7 +53,7 @@ returns_4 c =
     let second = third.before.before in
     let first = second.before.before.before in
     record {
-      on = λ L S j. no_constraints _ j first.if-not-tree.false second.check-checked.ensures second.if-not-checked.false third.good.ensures
+      on = λ L S j. no_constraints _ j first.if-not-tree.false second.check-checked.ensures (not-false _ second.if-not-checked.false) third.good.ensures
           third.if-not-good.false c.given.ensures c.if-not-given.true c.refused-then-not-given.ensures;
     }
 
@@ -74,7 +74,7 @@ returns_5 c =
     let second = third.before.before in
     let first = second.before.before.before in
     record {
-      on = λ L S j. forgotten _ j first.if-not-tree.false second.check-checked.ensures second.if-not-checked.false third.good.ensures
+      on = λ L S j. forgotten _ j first.if-not-tree.false second.check-checked.ensures (not-false _ second.if-not-checked.false) third.good.ensures
           third.if-not-good.false fourth.given.ensures fourth.if-not-given.false c.all_named.ensures c.if-not-all_named.true c.refused-then-not-all_named.ensures;
     }
 
@@ -85,7 +85,7 @@ returns_6 c =
     let second = third.before.before in
     let first = second.before.before.before in
     record {
-      on = λ L S j. all_good _ j first.if-not-tree.false second.check-checked.ensures second.if-not-checked.false third.good.ensures
+      on = λ L S j. all_good _ j first.if-not-tree.false second.check-checked.ensures (not-false _ second.if-not-checked.false) third.good.ensures
           third.if-not-good.false fourth.given.ensures fourth.if-not-given.false c.all_named.ensures c.if-not-all_named.false refl;
     }
 

@@ -202,7 +202,7 @@ args_returns_7 t c = list_tree_left c.loop-q.invariant c.loop-q-test.false c.if-
 -- the term's row, whose kind and name were read
 row : (t : ℕ) (c : term-lts.After-name-x (term_claims t) (term_at t) term.Post) →
     let a = c.args in
-    AtRow a.label.now a.size.now a.pattern.now a.«record».now a.at.now c.come.new.0 a.p a.t a.n c.kind-k.result c.name-x.result
+    AtRow a.label.now a.size.now a.pattern.now a.«record».now a.at.now c.come.new.at a.p a.t a.n c.kind-k.result c.name-x.result
 row t c = record { pre = c.requires.1; came = c.come.ensures; kind = c.kind-k.ensures; name = c.name-x.ensures }
 
 term_come_requires : (t : ℕ) → term-lts.Need-come-requires (term_claims t) (term_at t) term.Post
@@ -292,8 +292,8 @@ term_returns_6 t c = term_head_fails (row t c.before.before.before.before.before
 term_returns_7 : (t : ℕ) → term-lts.Need-returns-in-Ok-head (term_claims t) (term_at t) term.Post
 term_returns_7 t c = term_inside_is (row t c.before.before.before.before.before.before.before.before.before.before) c.if-k-eq-INDIVIDUAL.false c.if-k-eq-CONTEXT.false c.head.ensures c.in-Ok-head.is c.next.ensures c.next-in-Ok-head.ensures c.args-in-Ok-head.ensures
 
-pub +args-term-spec : {M : Type 1} → statement M
-+args-term-spec =
+pub +args_term_spec : {M : Type 1} → statement M
++args_term_spec =
     close μ-args μ-term
     (λ t.
     args-lts.spec (args_claims t) (args_at t) args.Post args_inv_loop args-μ-loop

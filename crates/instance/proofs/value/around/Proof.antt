@@ -45,7 +45,7 @@ copy_requires_3 : tie.Need-copy-requires-3
 copy_requires_3 c κs =
     let f = around_fits c.requires in
     let p = c.requires in
-    record { read = omega (arith, f.labelled, p.low, p.high); written = omega (arith, f.out_label, c.copy.auto.1.1.1.0) }
+    record { read = omega (arith, f.labelled, p.low, p.high); written = omega (arith, f.out_label, c.copy.auto.out) }
 
 copy_above_requires : tie.Need-copy_above-requires
 copy_above_requires c κs =
@@ -53,7 +53,7 @@ copy_above_requires c κs =
     let p = c.requires in
     record {
       read = omega (arith, f.sized, p.low, p.high);
-      written = omega (arith, f.out_size, c.copy-2.auto.1.1.1.0);
+      written = omega (arith, f.out_size, c.copy-2.auto.out);
       each = λ u i j. rw c.at-taken.ensures.0 (f.each u i j);
     }
 

@@ -145,8 +145,8 @@ headed_loop_less t c = omega (arith, (argument_row t c.before.before.before.befo
 headed_loop_again : (t : ℕ) → headed-lts.Need-loop-p-preserved-then-kind-eq-SEQUENCE (headed_claims t) (headed_at t) headed.Post headed_inv_loop headed-μ-loop
 headed_loop_again t c =
     let s = c.sequence-end in
-    let k = s.auto.1.1.1.1.1 in
-    writing_sequence c.loop-p.invariant k.0 k.1.0 (at_sequence t c.before.before.before.before.before.before.before) s.ensures
+    let k = s.auto in
+    writing_sequence c.loop-p.invariant k.out_label k.out_size (at_sequence t c.before.before.before.before.before.before.before) s.ensures
 
 headed_term_requires : (t : ℕ) → headed-lts.Need-term-end-requires (headed_claims t) (headed_at t) headed.Post headed_inv_loop headed-μ-loop
 headed_term_requires t c κs =
@@ -162,8 +162,8 @@ headed_loop_less_2 t c = omega (arith, c.next-p.ensures, first_falls (at_term t 
 headed_loop_again_2 : (t : ℕ) → headed-lts.Need-loop-p-preserved (headed_claims t) (headed_at t) headed.Post headed_inv_loop headed-μ-loop
 headed_loop_again_2 t c =
     let s = c.term-end in
-    let k = s.auto.1.1.1.1.1.1 in
-    rw c.next-p.ensures (writing_term c.loop-p.invariant k.0 k.1.0 (at_term t c.before.before.before.before.before.before.before.before) s.ensures)
+    let k = s.auto in
+    rw c.next-p.ensures (writing_term c.loop-p.invariant k.out_label k.out_size (at_term t c.before.before.before.before.before.before.before.before) s.ensures)
 
 headed_head_requires : (t : ℕ) → headed-lts.Need-head-requires (headed_claims t) (headed_at t) headed.Post headed_inv_loop headed-μ-loop
 headed_head_requires t c κs =
@@ -171,10 +171,10 @@ headed_head_requires t c κs =
     head_pre (at_head t c.before.before.before.before) (writing_done v c.loop-p-test.false) v.labelled v.sized
 
 headed_same_length : (t : ℕ) → headed-lts.Need-shape_of-out_label (headed_claims t) (headed_at t) headed.Post headed_inv_loop headed-μ-loop
-headed_same_length t c = c.head.auto.1.1.1.1.1.1.0 ∙ c.loop-p.invariant.labelled
+headed_same_length t c = c.head.auto.out_label ∙ c.loop-p.invariant.labelled
 
 headed_same_length_2 : (t : ℕ) → headed-lts.Need-shape_of-out_size (headed_claims t) (headed_at t) headed.Post headed_inv_loop headed-μ-loop
-headed_same_length_2 t c = c.head.auto.1.1.1.1.1.1.1.0 ∙ c.loop-p.invariant.sized
+headed_same_length_2 t c = c.head.auto.out_size ∙ c.loop-p.invariant.sized
 
 headed_returns : (t : ℕ) → headed-lts.Need-returns (headed_claims t) (headed_at t) headed.Post headed_inv_loop headed-μ-loop
 headed_returns t c = head_post (at_head t c.before.before.before.before.before.before.before.before.before) (writing_done c.loop-p.invariant c.loop-p-test.false) c.head.ensures
@@ -195,10 +195,10 @@ term_individual_requires : (t : ℕ) → term-lts.Need-individual-requires (term
 term_individual_requires t c κs = rw c.name-variable.ensures.0 (individual_pre (sym c.kind-k.ensures ∙ c.if-k-eq-INDIVIDUAL.true) c.requires.1)
 
 term_same_length : (t : ℕ) → term-lts.Need-shape_of-out_label-then-k-eq-INDIVIDUAL (term_claims t) (term_at t) term.Post
-term_same_length t c = c.individual.auto.1.1.1.1.1.0
+term_same_length t c = c.individual.auto.out_label
 
 term_same_length_2 : (t : ℕ) → term-lts.Need-shape_of-out_size-then-k-eq-INDIVIDUAL (term_claims t) (term_at t) term.Post
-term_same_length_2 t c = c.individual.auto.1.1.1.1.1.1.0
+term_same_length_2 t c = c.individual.auto.out_size
 
 term_returns : (t : ℕ) → term-lts.Need-returns-then-k-eq-INDIVIDUAL (term_claims t) (term_at t) term.Post
 term_returns t c = individual_post (sym c.kind-k.ensures ∙ c.if-k-eq-INDIVIDUAL.true) (rw c.name-variable.ensures.0 at c.individual.ensures)
@@ -220,14 +220,14 @@ term_term_requires t c κs =
 term_context_requires : (t : ℕ) → term-lts.Need-context-requires (term_claims t) (term_at t) term.Post
 term_context_requires t c κs =
     let s = c.term-end in
-    let k = s.auto.1.1.1.1.1.1 in
-    context_pre (at_context t c.before.before.before.before.before.before.before.before.before.before) c.filling-first.ensures s.ensures k.0 k.1.0
+    let k = s.auto in
+    context_pre (at_context t c.before.before.before.before.before.before.before.before.before.before) c.filling-first.ensures s.ensures k.out_label k.out_size
 
 term_same_length_3 : (t : ℕ) → term-lts.Need-shape_of-out_label-then-k-eq-CONTEXT (term_claims t) (term_at t) term.Post
-term_same_length_3 t c = c.context.auto.1.1.1.1.1.1.1.0 ∙ c.term-end.auto.1.1.1.1.1.1.0
+term_same_length_3 t c = c.context.auto.out_label ∙ c.term-end.auto.out_label
 
 term_same_length_4 : (t : ℕ) → term-lts.Need-shape_of-out_size-then-k-eq-CONTEXT (term_claims t) (term_at t) term.Post
-term_same_length_4 t c = c.context.auto.1.1.1.1.1.1.1.1.0 ∙ c.term-end.auto.1.1.1.1.1.1.1.0
+term_same_length_4 t c = c.context.auto.out_size ∙ c.term-end.auto.out_size
 
 term_returns_2 : (t : ℕ) → term-lts.Need-returns-then-k-eq-CONTEXT (term_claims t) (term_at t) term.Post
 term_returns_2 t c = context_post (at_context t c.before.before.before.before.before.before.before.before.before.before.before.before.before.before.before) c.filling-first.ensures c.term-end.ensures c.context.ensures
@@ -239,16 +239,16 @@ term_headed_requires t c κs = (
 )
 
 term_same_length_5 : (t : ℕ) → term-lts.Need-shape_of-out_label (term_claims t) (term_at t) term.Post
-term_same_length_5 t c = c.headed.auto.1.1.1.1.1.1.0
+term_same_length_5 t c = c.headed.auto.out_label
 
 term_same_length_6 : (t : ℕ) → term-lts.Need-shape_of-out_size (term_claims t) (term_at t) term.Post
-term_same_length_6 t c = c.headed.auto.1.1.1.1.1.1.1.0
+term_same_length_6 t c = c.headed.auto.out_size
 
 term_returns_3 : (t : ℕ) → term-lts.Need-returns (term_claims t) (term_at t) term.Post
 term_returns_3 t c = c.headed.ensures
 
-pub +headed-term-spec : {M : Type 1} → statement M
-+headed-term-spec =
+pub +headed_term_spec : {M : Type 1} → statement M
++headed_term_spec =
     close μ-headed μ-term
     (λ t.
     headed-lts.spec (headed_claims t) (headed_at t) headed.Post headed_inv_loop headed-μ-loop
