@@ -13,7 +13,7 @@ import re
 import sys
 
 W = r"[^\s(){}.;,@\"«»\[\]\\`]+"
-plain = lambda it: re.sub("[-_·]", "", it)
+plain = lambda it: re.sub("[-_·]", "", re.sub("_lem$", "", it)).lower()
 
 
 class Names:
@@ -64,7 +64,8 @@ class Names:
         if place is None:
             return None
         old, new = self.places[place][2]
-        if old and plain(old) == plain(word):
+        # An older Rattle had a field `good` of its own, so that a callee of that name was `good2`.
+        if old and (plain(old) == plain(word) or old in ("good", "fits", "left", "taken", "given", "kept", "pre", "is") and plain(word) == plain(old) + "2"):
             return new
         return None
 
@@ -89,13 +90,14 @@ def blocks(text):
     return ["\n".join(b) for b in out]
 
 
-CHAIN = re.compile(r"(?<![\w.'-])(" + W + r"|\(" + W + r" " + W + r"\))((?:\." + W + r")+)")
+CHAIN = re.compile(r"(?<![\w.'\0-])(" + W.replace("[^", "[^\0") + r"|\(" + W.replace("[^", "[^\0") + r" " + W.replace("[^", "[^\0") + r"\))((?:\." + W.replace("[^", "[^\0") + r")+)")
 
 
 class Turn:
     def __init__(self, names, text, path):
         self.n, self.text, self.path = names, text, path
         self.results = {}
+        self.takes = {}
         self.looks = []
 
     def look(self, what):
@@ -132,8 +134,10 @@ class Turn:
             arm = self.n.arm(q, words[i:])
             if arm and (q == p or q in passed and self.n.places[q][1] is not None and p in passed and passed.index(q) <= passed.index(p) <= passed.index(q) + self.n.arms[q][1] - 1):
                 return arm, None
-        while p is not None and self.n.field(p, word) is None:
-            p = self.n.places[p][1]
+        # Where the older count of steps differs from today's, the nearest place that has the field.
+        has = [k for k, it in enumerate(passed) if self.n.field(it, word) is not None]
+        near = passed.index(p) if p in passed else 0
+        p = passed[min(has, key=lambda k: abs(k - near))] if has else None
         if p is not None:
             # Today a record has the fields of those before it.
             return [self.n.field(p, word)] + words[i + 1 :], None
@@ -164,7 +168,21 @@ class Turn:
             new, _ = self.chain(place, words)
             return head + "." + ".".join(new)
 
-        text = CHAIN.sub(one, text)
+        # An argument of a helper that takes the record of a place: so many steps up.
+        def given(m):
+            place, to = scope.get(m[2]), self.takes.get(m[1])
+            if place is None or to is None:
+                return m[0]
+            n = self.n.steps(place, to)
+            if n is None:
+                self.look(f"no way from {place} to {to}")
+                return m[0]
+            return m[1] + " " + m[2] + "\0" + ".before" * n
+
+        helpers = "|".join(re.escape(it) for it in sorted(self.takes, key=len, reverse=True))
+        if helpers:
+            text = re.sub(r"(?<![\w.'-])(" + helpers + r") (" + W + r")((?:\.before)*)(?![\w.'-])", given, text)
+        text = CHAIN.sub(one, text).replace("\0", "")
         # ((helper c.before).x): an argument in the parentheses with a path
         def two(m):
             place = self.results.get(m[1])
@@ -222,6 +240,9 @@ class Turn:
                     p = self.place_of(r[1])
                     if p:
                         self.results[s[1]] = p
+            q = s and re.match(r"[({](?:" + W + r") : tie\.(" + W + r")|tie\.(" + W + r")[^→]*→", s[2])
+            if q and not (q[1] or q[2]).startswith("Need") and self.place_of(q[1] or q[2]):
+                self.takes[s[1]] = self.place_of(q[1] or q[2])
         out = []
         for b in parts:
             s = re.match(r"((?:(?:abbrev|pub|unfoldable) )*)(" + W + r") : ((?:.|\n)*)", b)
@@ -262,8 +283,71 @@ class Turn:
             out.append(self.typed(b))
         new = "\n".join(out)
         # `.true` of `!x` says today what `.false` of x says.
-        new = re.sub(r"\(not-(?:true|false) \S+ (\S+\.(?:true|false|left|taken))\)", r"\1", new)
+        new = re.sub(r"\(not-(?:true|false) \S+ (\S+\.(?:true|false|left|taken))\)", lambda m: m[0] if "if-not-p." in m[1] else m[1], new)
         return new
+
+
+def cycle(j, key, text, path):
+    """The proof of functions that call each other: a part for each, with names of its own that begin with the function's."""
+    looks = []
+    for k in [k for k in j if k.startswith(key + "-")]:
+        part = k[len(key) + 1 :]
+        n = Names(j[k])
+        turn = Turn(n, text, path)
+        # a need: `part_x t` in the list of the part's `spec`
+        m = re.search(re.escape(part) + r"-lts\.spec((?:.|\n)*?)(?=-lts\.spec|\Z)", text)
+        order = re.findall(r"\(" + part + r"_(\S+) t\)", m[1]) if m else []
+        order = [it for it in order if it not in ("claims", "at")]
+        if len(order) != len(n.needs):
+            looks.append(f"look: {path}: {part} has {len(order)} needs and today {len(n.needs)}: {[a for a, b in n.needs]} beside {order}")
+        needs = {part + "_" + o: (need[1], asked) for o, need, asked in zip(order, n.needs, n.asked)}
+        parts = blocks(text)
+        kind = re.compile(re.escape(part) + r"-lts\.(" + W + ")")
+        for b in parts:
+            s = re.match(r"(" + W + r") : \(t : ℕ\) \((" + W + r") : " + re.escape(part) + r"-lts\.(" + W + r")", b)
+            if s and turn.place_of(s[3]):
+                turn.takes[s[1] + " t"] = turn.place_of(s[3])
+        out = []
+        for b in parts:
+            s = re.match(r"(?:(?:abbrev|pub) )*(" + W + r") : ((?:.|\n)*)", b)
+            if not s or not kind.search(b):
+                out.append(b)
+                continue
+            scope = {}
+            if s[1] in needs and "-lts.Need-" in b:
+                new, asked = needs[s[1]]
+                b = re.sub(r"-lts\.Need-" + W, "-lts.Need-" + new, b, count=1)
+                scope["c"] = asked
+            for q in re.finditer(r"\((" + W + r") : " + re.escape(part) + r"-lts\.(" + W + r")", b):
+                if turn.place_of(q[2]):
+                    scope[q[1]] = turn.place_of(q[2])
+
+            def given(m):
+                place, to = scope.get(m[3]), turn.takes.get(m[1] + " t")
+                if place is None or to is None:
+                    return m[0]
+                up = n.steps(place, to)
+                if up is None:
+                    looks.append(f"look: {path}: no way from {place} to {to}")
+                    return m[0]
+                return m[1] + " t " + m[3] + "\0" + ".before" * up
+
+            b = re.sub(r"(?<![\w.'-])(" + W + r") (t) (" + W + r")((?:\.before)*)(?![\w.'-])", given, b)
+            b = turn.body(b, scope).replace("\0", "")
+
+            def typed(m):
+                for word in ("invariant", "decreases"):
+                    if re.match(word + r"[-_]loop\Z", m[1]):
+                        return f"{part}-lts.{word}-{n.loops[0][0][1]}"
+                at = turn.place_of(m[1]) if not m[1].startswith("Need-") else None
+                return f"{part}-lts." + (n.new_place[at] if at else m[1])
+
+            out.append(kind.sub(typed, b))
+        text = "\n".join(out)
+        looks += turn.looks
+    for l in looks:
+        print(l)
+    return text
 
 
 def main(argv):
@@ -278,6 +362,12 @@ def main(argv):
         for path in sorted(glob.glob(f"crates/{c}/proofs/**/Proof.antt", recursive=True)):
             inner = os.path.relpath(os.path.dirname(path), f"crates/{c}/proofs").replace("/", ".")
             key = f"Rattle-{c}-proofs.{inner}.Lts"
+            if any(k.startswith(key + "-") for k in j):
+                with open(path) as f:
+                    text = f.read()
+                with open(path, "w") as f:
+                    f.write(cycle(j, key, text, path))
+                continue
             if key not in j:
                 print(f"look: {path}: no names under {key}")
                 continue

@@ -124,7 +124,7 @@ add_i : tie.Need-overflow_add-i invariant_loop decreases_loop
 add_i c = omega (arith, row_in c.before.before.before.before.before.before.before.before.before)
 
 put_requires : tie.Need-put-requires invariant_loop decreases_loop
-put_requires c κs = let k = row_in c.before.before.before.before.before.before.before.before.before in (omega (arith, k, c.if-i-eq63.false), omega (arith, c.child-u.ensures.low, context_hole c.requires.path.some.1, c.requires.small), simp length-set c.loop-root.invariant.places.long)
+put_requires c κs = let k = row_in c.before.before.before.before.before.before.before.before.before.before in (omega (arith, k, c.if-i-eq63.false), omega (arith, c.child-u.ensures.low, context_hole c.requires.path.some.1, c.requires.small), simp length-set c.loop-root.invariant.places.long)
 
 loop_less : tie.Need-loop-root-smaller invariant_loop decreases_loop
 loop_less c = rw c.put.ensures (standing_falls c.loop-root.invariant c.child-u.result c.step-state.result.next c.step-state.result.end c.if-i-eq63.false c.child-u.ensures)

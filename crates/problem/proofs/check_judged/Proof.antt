@@ -42,7 +42,7 @@ given_requires : tie.Need-given-requires
 given_requires c κs =
     let third = c.before.before in
     let second = third.before.before in
-    list_asked second.check-checked.ensures third.good.ensures second.if-not-checked.false third.if-not-good.false
+    list_asked second.check-checked.ensures third.good.ensures (not-false _ second.if-not-checked.false) third.if-not-good.false
 
 refused_requires_4 : tie.Need-refused-requires-then-not-given
 refused_requires_4 c κs = search rules
@@ -61,7 +61,7 @@ all_named_requires : tie.Need-all_named-requires
 all_named_requires c κs =
     let third = c.before.before.before.before in
     let second = third.before.before in
-    names_asked second.check-checked.ensures second.if-not-checked.false third.good.ensures
+    names_asked second.check-checked.ensures (not-false _ second.if-not-checked.false) third.good.ensures
     third.if-not-good.false c.given.ensures c.if-not-given.false
 
 refused_requires_5 : tie.Need-refused-requires-then-not-all_named

@@ -104,7 +104,7 @@ ended_requires : tie.Need-ended-requires invariant_loop decreases_loop
 ended_requires c κs = search rules
 
 same_length : tie.Need-shape_of-out-then-depth-eq0 invariant_loop decreases_loop
-same_length c = kept c.before.before.before.before
+same_length c = kept c.before.before.before
 
 returns : tie.Need-returns-then-depth-eq0 invariant_loop decreases_loop
 returns c = rw (c.ended.ensures.0, c.ended.ensures.1, c.ended.ensures.2) (going_end (going_back c.loop-depth.invariant.0 c.back-depth.ensures) c.if-depth-eq0.true)
@@ -113,7 +113,7 @@ ended_requires_2 : tie.Need-ended-requires-then-tries-budget invariant_loop decr
 ended_requires_2 c κs = search rules
 
 same_length_2 : tie.Need-shape_of-out-then-tries-budget invariant_loop decreases_loop
-same_length_2 c = kept c.before.before.before.before.before
+same_length_2 c = kept c.before.before.before.before
 
 returns_2 : tie.Need-returns-then-tries-budget invariant_loop decreases_loop
 returns_2 c = rw (c.ended-then-tries-budget.ensures.0, c.ended-then-tries-budget.ensures.1, c.ended-then-tries-budget.ensures.2) (going_spent (ready c.before.before) c.if-tries-budget.true)
@@ -155,7 +155,7 @@ loop_less_2 : tie.Need-loop-depth-smaller-in-Need invariant_loop decreases_loop
 loop_less_2 c = omega (arith, (after c.before.before.before).charged)
 
 loop_again_2 : tie.Need-loop-depth-preserved-in-Need invariant_loop decreases_loop
-loop_again_2 c = (entered (ready c.before.before.before.before.before.before.before.before.before.before.before.before) c.requires.0 c.next_try-t.ensures c.attempt.ensures.0 c.in-Need.is c.deeper.ensures, c.attempt.ensures.1, c.deeper.ensures.entered.long ∙ long c.before.before.before.before)
+loop_again_2 c = (entered (ready c.before.before.before.before.before.before.before.before.before.before.before.before) c.requires.0 c.next_try-t.ensures c.attempt.ensures.0 c.in-Need.is c.deeper.ensures, c.attempt.ensures.1, c.deeper.ensures.entered.long ∙ long c.before.before.before)
 
 enum_told_2 : tie.Need-enum_told-in-Ok invariant_loop decreases_loop
 enum_told_2 c = search rules
@@ -164,7 +164,7 @@ ended_requires_3 : tie.Need-ended-requires-then-count-room invariant_loop decrea
 ended_requires_3 c κs = search rules
 
 same_length_3 : tie.Need-shape_of-out-then-count-room invariant_loop decreases_loop
-same_length_3 c = kept c.before.before.before.before.before.before.before.before.before.before.before.before.before.before.before.before
+same_length_3 c = kept c.before.before.before.before.before.before.before.before.before.before.before.before.before.before
 
 returns_3 : tie.Need-returns-then-count-room invariant_loop decreases_loop
 returns_3 c = rw (c.ended-then-count-room.ensures.0, c.ended-then-count-room.ensures.1, c.ended-then-count-room.ensures.2) (tried_full (after c.before.before.before) c.in-Ok.is c.if-count-room.true)
@@ -173,7 +173,7 @@ mul_put : tie.Need-overflow_mul-count invariant_loop decreases_loop
 mul_put c = omega (arith, room_left c.before, kept c.before.before.before.before.before.before.before.before.before.before.before.before.before.before, c.well_formed)
 
 put_requires : tie.Need-put-requires invariant_loop decreases_loop
-put_requires c κs = let r = room_left c.before.before in (r.0, (after c.before.before.before).long, r.1)
+put_requires c κs = let r = room_left c.before in (r.0, (after c.before.before.before).long, r.1)
 
 add_count : tie.Need-overflow_add-count invariant_loop decreases_loop
 add_count c = omega (arith, tried_counted (after c.before.before.before.before.before.before) c.requires.0, c.if-count-room.false, c.requires.3)
