@@ -18,10 +18,6 @@ invariant_loop label size pattern tables list record₀ at₀ levels₀ memory�
 abbrev decreases_loop : tie.decreases-loop-o
 decreases_loop label size pattern tables list record₀ at₀ levels₀ memory₀ path₀ depth₀ o₀ «record» at levels memory path depth o = 256 - depth
 
--- from a turn's head to the function's start
-abbrev begun : tie.At-loop-o invariant_loop decreases_loop → tie.Start invariant_loop decreases_loop
-begun h = h.before.before.before.before.before.before.before
-
 begin_requires : tie.Need-begin-o-requires invariant_loop decreases_loop
 begin_requires c κs = reach_begins c.requires
 
@@ -39,8 +35,7 @@ enum_told_2 c = search rules
 
 equal_requires : tie.Need-equal-requires invariant_loop decreases_loop
 equal_requires c κs =
-    let h = c.before.before in
-    (h.loop.invariant.0.record_long, reach_short h.loop.invariant.0 (begun h).requires.some.5)
+    (c.loop-o.invariant.0.record_long, reach_short c.loop-o.invariant.0 c.requires.some.5)
 
 returns_2 : tie.Need-returns-then-equal invariant_loop decreases_loop
 returns_2 c = reach_found c.loop-o.invariant.0 c.in-Ok.is c.equal.ensures c.if-equal.true
@@ -53,46 +48,39 @@ enum_known_o c = search rules
 
 choose_requires : tie.Need-choose-requires invariant_loop decreases_loop
 choose_requires c κs =
-    let h = c.before.before.before in
-    reach_chooses h.loop.invariant.0 c.in-Need.is (begun h).requires.some.5
+    reach_chooses c.loop-o.invariant.0 c.in-Need.is c.requires.some.5
 
 enum_told_3 : tie.Need-enum_told-in-Beyond invariant_loop decreases_loop
 enum_told_3 c = search rules
 
 returns_4 : tie.Need-returns-in-Beyond invariant_loop decreases_loop
 returns_4 c =
-    let h = c.before.before.before.before.before in
-    reach_beyond h.loop.invariant.0 c.in-Need.is c.choose.ensures c.in-Beyond.is
+    reach_beyond c.loop-o.invariant.0 c.in-Need.is c.choose.ensures c.in-Beyond.is
 
 enum_known_t : tie.Need-enum_known-t invariant_loop decreases_loop
 enum_known_t c = search rules
 
 attempt_requires : tie.Need-attempt-o-requires invariant_loop decreases_loop
 attempt_requires c κs =
-    let h = c.before.before.before.before.before.before.before.before.before in
-    let k = c.before.before.before.before.before in (
-      reach_tries h.loop.invariant.0 k.in-Need.is (rw k.in-Value.is at k.choose.ensures) (begun h).requires.some.5,
-      h.loop.invariant.1,
+    (
+      reach_tries c.loop-o.invariant.0 c.in-Need.is (rw c.in-Value.is at c.choose.ensures) c.requires.some.5,
+      c.loop-o.invariant.1,
     )
 
 add_depth : tie.Need-overflow_add-depth invariant_loop decreases_loop
 add_depth c =
-    let h = c.before.before.before.before.before.before.before.before.before.before in
-    omega (arith, reach_deep h.loop.invariant.0 c.in-Need.is (begun h).requires.some.5)
+    omega (arith, reach_deep c.loop-o.invariant.0 c.in-Need.is c.requires.some.5)
 
 loop_less : tie.Need-loop-o-smaller invariant_loop decreases_loop
 loop_less c =
-    let h = c.before.before.before.before.before.before.before.before.before.before in
-    omega (arith, reach_deep h.loop.invariant.0 c.in-Need.is (begun h).requires.some.5)
+    omega (arith, reach_deep c.loop-o.invariant.0 c.in-Need.is c.requires.some.5)
 
 loop_again : tie.Need-loop-o-preserved invariant_loop decreases_loop
 loop_again c =
-    let h = c.before.before.before.before.before.before.before.before.before.before in
-    let k = c.before.before.before.before.before.before in
-    let o = k.in-Need.is in
-    let post = rw k.in-Value.is at k.choose.ensures in
-    let pre = reach_tries h.loop.invariant.0 o post (begun h).requires.some.5 in
-    (reach_again h.loop.invariant.0 o post (try_long pre c.attempt-o.ensures.0 ∙ h.loop.invariant.0.record_long) c.attempt-o.ensures.0, c.attempt-o.ensures.1)
+    let o = c.in-Need.is in
+    let post = rw c.in-Value.is at c.choose.ensures in
+    let pre = reach_tries c.loop-o.invariant.0 o post c.requires.some.5 in
+    (reach_again c.loop-o.invariant.0 o post (try_long pre c.attempt-o.ensures.0 ∙ c.loop-o.invariant.0.record_long) c.attempt-o.ensures.0, c.attempt-o.ensures.1)
 
 pub reach_spec : {M : Type 1} → statement M
 reach_spec =

@@ -60,10 +60,10 @@ ready c = going_ready c.loop-depth.invariant.0 c.back-depth.ensures c.if-depth-e
 
 -- a turn whose last level has gone on to its next value: from there to the test of the depth, and to the turn's head
 abbrev tested : tie.After-next_try-t invariant_loop decreases_loop → tie.Else-depth-eq0 invariant_loop decreases_loop
-tested c = c.before.before.before.before
+tested c = c.before.before.before
 
 abbrev head : tie.After-next_try-t invariant_loop decreases_loop → tie.At-loop-depth invariant_loop decreases_loop
-head c = (tested c).before.before.before
+head c = (tested c).before.before
 
 -- a turn that has tried it
 abbrev passed : tie.After-attempt invariant_loop decreases_loop → tie.After-next_try-t invariant_loop decreases_loop
@@ -71,28 +71,28 @@ passed c = c.before.before.before.before.before.before
 
 -- the levels behind the try
 abbrev moved : tie.After-attempt invariant_loop decreases_loop → List ℕ
-moved c = (passed c).next-try.new.1.1.1.1.0
+moved c = (passed c).next_try-t.new.levels
 
 after : (c : tie.After-attempt invariant_loop decreases_loop) →
     let k = passed c in
     let h = head k in
     let w = moved c in
     let t = k.next_try-t.result in
-    Tried (input (begun h)) h.loop-depth.out c.attempt.new.1.1.1.1.0 c.attempt.new.1.1.1.1.1.0 (places w) (variables w) (starts w) (rows w) (nexts w) (lefts w)
-    (tested k).before.back.result h.loop-depth.count (h.loop-depth.tries + t.failed + 1) t.u t.left c.attempt.result
+    Tried (input (begun h)) h.loop-depth.out c.attempt.new.«record» c.attempt.new.at (places w) (variables w) (starts w) (rows w) (nexts w) (lefts w)
+    (tested k).back-depth.result h.loop-depth.count (h.loop-depth.tries + t.failed + 1) t.u t.left c.attempt.result
 after c =
     let k = passed c in
-    tried (ready (tested k)) (begun (head k)).pre.0 k.next_try-t.ensures c.attempt.ensures.0
+    tried (ready (tested k)) (begun (head k)).requires.0 k.next_try-t.ensures c.attempt.ensures.0
 
 long : (c : tie.After-attempt invariant_loop decreases_loop) → length (moved c) ≡ 1536
-long c = (passed c).next-try.ensures.moved.long ∙ (head (passed c)).loop.inv.2
+long c = (passed c).next_try-t.ensures.moved.long ∙ (head (passed c)).loop-depth.invariant.2
 
 -- the walk is done, and there is room for the record
 room_left : (c : tie.Else-count-room invariant_loop decreases_loop) →
     let h = head (passed c.before.before) in
     let width = (begun h).args.limits.width in
-    (width ≤ 32) × (h.loop.count * width + width ≤ length h.loop.out)
-room_left c = put_asked (after c.before.before) c.in-Ok.is (begun (head (passed c.before.before))).pre.0 c.if-count-room.false
+    (width ≤ 32) × (h.loop-depth.count * width + width ≤ length h.loop-depth.out)
+room_left c = put_asked (after c.before.before) c.in-Ok.is (begun (head (passed c.before.before))).requires.0 c.if-count-room.false
 
 loop_holds : tie.Need-loop-depth-init invariant_loop decreases_loop
 loop_holds c = (going_start (columns_long c.args.levels.now) c.requires.0, record { sequences = blank _ _ _ _; contexts = paths.blank _ _ _ _ }, c.requires.1)
