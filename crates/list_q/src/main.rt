@@ -3,7 +3,8 @@
 
 ghost use Rattle.std.specs.Prelude.{◌≡◌};
 
-use libc::{STDIN_FILENO, STDOUT_FILENO};
+use std::io;
+use std::io::Read;
 
 fn wide(number: u32) -> usize
     ensures { result ≡ number }
@@ -11,22 +12,21 @@ fn wide(number: u32) -> usize
     number as usize
 }
 
-fn print_number(number: u64, after: &[u8]) {
-    io::print_decimal(STDOUT_FILENO, number);
-    io::write_all(STDOUT_FILENO, after);
+fn print_number(rt: &impl Print, number: u64, after: &str) -> io::Result<()> {
+    print!(rt; "{number}{after}")
 }
 
-fn print_four(first: u64, second: u64, third: u64, fourth: u64) {
-    print_number(first, b" ");
-    print_number(second, b" ");
-    print_number(third, b" ");
-    print_number(fourth, b"\n");
+fn print_four(rt: &impl Print, first: u64, second: u64, third: u64, fourth: u64) -> io::Result<()> {
+    print_number(rt, first, " ")?;
+    print_number(rt, second, " ")?;
+    print_number(rt, third, " ")?;
+    print_number(rt, fourth, "\n")
 }
 
-fn print_refusal(code: u32, place: u32) {
-    io::write_all(STDOUT_FILENO, b"refused ");
-    print_number(code as u64, b" ");
-    print_number(place as u64, b"\n");
+fn print_refusal(rt: &impl Print, code: u32, place: u32) -> io::Result<()> {
+    print!(rt; "refused ")?;
+    print_number(rt, code as u64, " ")?;
+    print_number(rt, place as u64, "\n")
 }
 
 fn wider(number: u32) -> u64 {
@@ -34,26 +34,25 @@ fn wider(number: u32) -> u64 {
 }
 
 // Q has two variables, so a record is four numbers. The last of them ends the line.
-fn print_in_record(number: u64, place: usize) {
+fn print_in_record(rt: &impl Print, number: u64, place: usize) -> io::Result<()> {
     if place % 4 == 3 {
-        print_number(number, b"\n");
+        print_number(rt, number, "\n")
     } else {
-        print_number(number, b" ");
+        print_number(rt, number, " ")
     }
 }
 
-fn print_records(out: &[u32], records: usize) {
-    let mut place = 0;
-    while place < out.len() {
+fn print_records(rt: &impl Print, out: &[u32], records: usize) -> io::Result<()> {
+    for place in 0..out.len() {
         if records <= place / 4 {
-            return;
+            return Ok(());
         }
-        print_in_record(wider(out[place]), place);
-        place += 1;
+        print_in_record(rt, wider(out[place]), place)?;
     }
+    Ok(())
 }
 
-fn list_q(label: &[u32], size: &[u32]) {
+fn list_q(rt: &impl Print, label: &[u32], size: &[u32]) -> io::Result<()> {
     let kind = [4u32, 0, 2];
     // f is an element of number 1: label 2.
     let name = [0u32, 2, 1];
@@ -75,61 +74,66 @@ fn list_q(label: &[u32], size: &[u32]) {
         1000,
         &mut out,
     );
-    print_records(&out, listed.records);
+    print_records(rt, &out, listed.records)?;
     print_four(
+        rt,
         listed.code as u64,
         listed.ending as u64,
         listed.records as u64,
         listed.tries as u64,
-    );
+    )
 }
 
 fn answer_in(
+    rt: &impl Print,
     document: &[u8],
     label: &mut [u32],
     size: &mut [u32],
     start: &mut [u32],
     length: &mut [u32],
-) {
+) -> io::Result<()> {
     let read = document::read(b"g\nf\nh\na\nb\n", document, label, size, start, length);
     let code = read.code;
     if code != 0 {
-        print_refusal(code, read.place);
-        return;
+        return print_refusal(rt, code, read.place);
     }
     let rows = wide(read.rows);
-    list_q(&label[0..rows], &size[0..rows]);
+    list_q(rt, &label[0..rows], &size[0..rows])
 }
 
-fn answer(document: &[u8]) {
+fn answer(rt: &impl Print, document: &[u8]) -> io::Result<()> {
     let mut label = [0u32; 2048];
     let mut size = [0u32; 2048];
     let mut start = [0u32; 2048];
     let mut length = [0u32; 2048];
-    answer_in(document, &mut label, &mut size, &mut start, &mut length);
+    answer_in(rt, document, &mut label, &mut size, &mut start, &mut length)
 }
 
 // Reads once and drops what came. Is there more?
-fn skip_some() -> bool {
-    let mut dropped = io::large_buffer();
-    0 < libc::read(STDIN_FILENO, &mut dropped)
+fn skip_some(input: &mut impl Read) -> io::Result<bool> {
+    let mut dropped = [0u8; 65536];
+    Ok(0 < input.read(&mut dropped)?)
 }
 
-// Reads the rest, so that whoever writes it is not cut off. A proved loop has to end, so it counts down from a number
-// that no run uses up.
-fn skip_rest() {
-    let mut turns = u64::MAX;
-    while turns > 0 && skip_some() {
-        turns -= 1;
+// Reads the rest, so that whoever writes it is not cut off. A proved loop has to end, so it counts to a number that no
+// run uses up.
+fn skip_rest(input: &mut impl Read) -> io::Result<()> {
+    for _ in 0..u64::MAX {
+        if !skip_some(input)? {
+            break;
+        }
     }
+    Ok(())
 }
 
-fn main() {
+fn main(rt: HostRuntime) -> io::Result<()> {
+    let mut input = rt.reader();
+    let mut document = Vec::new(rt.alloc());
     // One byte more than a document may have, which is enough to refuse it.
-    let mut document = [0u8; 32769];
-    let bytes = io::read_full(STDIN_FILENO, &mut document);
-    answer(&document[..bytes]);
+    let bytes = input.by_ref().take(32769).read_to_end(&mut document)?;
+    answer(&rt, document.as_slice())?;
     if bytes == 32769 {
-        skip_rest();
+        skip_rest(&mut input)?;
     }
+    Ok(())
 }

@@ -1,7 +1,7 @@
 // Prints the spellings of nine rows, by the dictionary g, f, h, a, b and then by a bad one, which has no names.
 #![tactic(auto)]
 
-use libc::STDOUT_FILENO;
+use std::io;
 
 const DOCUMENT: [u8; 14] = *b"<g>a<query/>  ";
 
@@ -14,28 +14,26 @@ const START: [u32; 7] = [1, 99, 5, 9, 9, 4294967295, 3];
 
 const LENGTH: [u32; 6] = [1, 1, 5, 5, 6, 4294967295];
 
-fn print_row(dictionary: &[u8], row: usize) {
+fn print_row(rt: &impl Print, dictionary: &[u8], row: usize) -> io::Result<()> {
     let document = DOCUMENT;
     let label = LABEL;
     let start = START;
     let length = LENGTH;
-    io::write_all(STDOUT_FILENO, b"[");
-    io::write_all(
-        STDOUT_FILENO,
-        dictionary::spelling::spelling(dictionary, &document, &label, &start, &length, row),
-    );
-    io::write_all(STDOUT_FILENO, b"]\n");
+    rt.write_all(b"[")?;
+    rt.write_all(dictionary::spelling::spelling(
+        dictionary, &document, &label, &start, &length, row,
+    ))?;
+    rt.write_all(b"]\n")
 }
 
-fn print_rows(dictionary: &[u8]) {
-    let mut row = 0;
-    while row < 9 {
-        print_row(dictionary, row);
-        row += 1;
+fn print_rows(rt: &impl Print, dictionary: &[u8]) -> io::Result<()> {
+    for row in 0..9 {
+        print_row(rt, dictionary, row)?;
     }
+    Ok(())
 }
 
-fn main() {
-    print_rows(b"g\nf\nh\na\nb\n");
-    print_rows(b"g\ng\n");
+fn main(rt: HostRuntime) -> io::Result<()> {
+    print_rows(&rt, b"g\nf\nh\na\nb\n")?;
+    print_rows(&rt, b"g\ng\n")
 }
