@@ -1,72 +1,68 @@
 // One function for each word: it hands the line's lists to the check or the test of that name, and prints the answer.
-use libc::STDOUT_FILENO;
 use lines::lists::part;
+use std::io;
 
-pub fn unreadable() {
-    io::write_all(STDOUT_FILENO, b": cannot be read\n");
+pub fn unreadable(rt: &impl Print) -> io::Result<()> {
+    println!(rt; ": cannot be read")
 }
 
-fn checked(good: bool) {
+fn checked(rt: &impl Print, good: bool) -> io::Result<()> {
     if good {
-        io::write_all(STDOUT_FILENO, b": good\n");
+        println!(rt; ": good")
     } else {
-        io::write_all(STDOUT_FILENO, b": bad\n");
+        println!(rt; ": bad")
     }
 }
 
-fn refused(problem: u32) {
-    io::write_all(STDOUT_FILENO, b": refused ");
-    io::print_decimal(STDOUT_FILENO, problem as u64);
-    io::write_all(STDOUT_FILENO, b"\n");
+fn refused(rt: &impl Print, problem: u32) -> io::Result<()> {
+    println!(rt; ": refused {problem}")
 }
 
-fn tested(answer: test::Tested) {
+fn tested(rt: &impl Print, answer: test::Tested) -> io::Result<()> {
     match answer {
-        test::Tested::Refused(problem) => refused(problem),
-        test::Tested::Yes => {
-            io::write_all(STDOUT_FILENO, b": yes\n");
-        }
-        test::Tested::No => {
-            io::write_all(STDOUT_FILENO, b": no\n");
-        }
+        test::Tested::Refused(problem) => refused(rt, problem),
+        test::Tested::Yes => println!(rt; ": yes"),
+        test::Tested::No => println!(rt; ": no"),
     }
 }
 
-fn tree(numbers: &[u32], ends: &[usize]) {
+fn tree(rt: &impl Print, numbers: &[u32], ends: &[usize]) -> io::Result<()> {
     if ends.len() != 2 {
-        return unreadable();
+        return unreadable(rt);
     }
-    checked(tree::good(part(numbers, ends, 0), part(numbers, ends, 1)))
+    let good = tree::good(part(numbers, ends, 0), part(numbers, ends, 1));
+    checked(rt, good)
 }
 
-fn pattern(numbers: &[u32], ends: &[usize]) {
+fn pattern(rt: &impl Print, numbers: &[u32], ends: &[usize]) -> io::Result<()> {
     if ends.len() != 3 {
-        return unreadable();
+        return unreadable(rt);
     }
     let found = pattern::check(
         part(numbers, ends, 0),
         part(numbers, ends, 1),
         part(numbers, ends, 2),
     );
-    checked(found.good)
+    checked(rt, found.good)
 }
 
-fn expression(numbers: &[u32], ends: &[usize]) {
+fn expression(rt: &impl Print, numbers: &[u32], ends: &[usize]) -> io::Result<()> {
     if ends.len() != 3 {
-        return unreadable();
+        return unreadable(rt);
     }
-    checked(expression::good(
+    let good = expression::good(
         part(numbers, ends, 0),
         part(numbers, ends, 1),
         part(numbers, ends, 2),
-    ))
+    );
+    checked(rt, good)
 }
 
-fn constraint(numbers: &[u32], ends: &[usize]) {
+fn constraint(rt: &impl Print, numbers: &[u32], ends: &[usize]) -> io::Result<()> {
     if ends.len() != 7 {
-        return unreadable();
+        return unreadable(rt);
     }
-    checked(constraint::good(
+    let good = constraint::good(
         part(numbers, ends, 0),
         part(numbers, ends, 1),
         part(numbers, ends, 2),
@@ -74,28 +70,30 @@ fn constraint(numbers: &[u32], ends: &[usize]) {
         part(numbers, ends, 4),
         part(numbers, ends, 5),
         part(numbers, ends, 6),
-    ))
+    );
+    checked(rt, good)
 }
 
-fn record(numbers: &[u32], ends: &[usize]) {
+fn record(rt: &impl Print, numbers: &[u32], ends: &[usize]) -> io::Result<()> {
     if ends.len() != 6 {
-        return unreadable();
+        return unreadable(rt);
     }
-    checked(record::good(
+    let good = record::good(
         part(numbers, ends, 0),
         part(numbers, ends, 1),
         part(numbers, ends, 2),
         part(numbers, ends, 3),
         part(numbers, ends, 4),
         part(numbers, ends, 5),
-    ))
+    );
+    checked(rt, good)
 }
 
-fn test(numbers: &[u32], ends: &[usize]) {
+fn test(rt: &impl Print, numbers: &[u32], ends: &[usize]) -> io::Result<()> {
     if ends.len() != 10 {
-        return unreadable();
+        return unreadable(rt);
     }
-    tested(test::test(
+    let answer = test::test(
         part(numbers, ends, 0),
         part(numbers, ends, 1),
         part(numbers, ends, 2),
@@ -106,22 +104,23 @@ fn test(numbers: &[u32], ends: &[usize]) {
         part(numbers, ends, 7),
         part(numbers, ends, 8),
         part(numbers, ends, 9),
-    ))
+    );
+    tested(rt, answer)
 }
 
 // Prints the answer to a line with this word and these lists. The arms are in the order of the words.
-pub fn answer(word: &[u8], numbers: &[u32], ends: &[usize]) {
+pub fn answer(rt: &impl Print, word: &[u8], numbers: &[u32], ends: &[usize]) -> io::Result<()> {
     match lines::fields::place(
         b"tree pattern expression constraint record test",
         b' ',
         word,
     ) {
-        0 => tree(numbers, ends),
-        1 => pattern(numbers, ends),
-        2 => expression(numbers, ends),
-        3 => constraint(numbers, ends),
-        4 => record(numbers, ends),
-        5 => test(numbers, ends),
-        _ => unreadable(),
+        0 => tree(rt, numbers, ends),
+        1 => pattern(rt, numbers, ends),
+        2 => expression(rt, numbers, ends),
+        3 => constraint(rt, numbers, ends),
+        4 => record(rt, numbers, ends),
+        5 => test(rt, numbers, ends),
+        _ => unreadable(rt),
     }
 }

@@ -3,47 +3,55 @@
 
 mod answers;
 
-use libc::{STDIN_FILENO, STDOUT_FILENO};
+use std::io;
+use std::io::Read;
 
 // The lists are read into numbers and ends.
-fn answer_in(word: &[u8], lists: &[u8], numbers: &mut [u32], ends: &mut [usize]) {
+fn answer_in(
+    rt: &impl Print,
+    word: &[u8],
+    lists: &[u8],
+    numbers: &mut [u32],
+    ends: &mut [usize],
+) -> io::Result<()> {
     let count = lines::read_lists(lists, numbers, ends);
-    answers::answer(word, numbers, &ends[0..count]);
+    answers::answer(rt, word, numbers, &ends[0..count])
 }
 
-fn answer(word: &[u8], lists: &[u8]) {
+fn answer(rt: &impl Print, word: &[u8], lists: &[u8]) -> io::Result<()> {
     let mut numbers = [0u32; 8192];
     let mut ends = [0usize; 12];
-    answer_in(word, lists, &mut numbers, &mut ends);
+    answer_in(rt, word, lists, &mut numbers, &mut ends)
 }
 
-fn answer_line(line: &[u8]) {
+fn answer_line(rt: &impl Print, line: &[u8]) -> io::Result<()> {
     if lines::fields::count(line, b'|') != 3 {
-        io::write_all(STDOUT_FILENO, line);
-        answers::unreadable();
-        return;
+        rt.write_all(line)?;
+        return answers::unreadable(rt);
     }
-    io::write_all(STDOUT_FILENO, lines::section(line, 1));
-    answer(lines::section(line, 0), lines::section(line, 2));
+    rt.write_all(lines::section(line, 1))?;
+    answer(rt, lines::section(line, 0), lines::section(line, 2))
 }
 
-fn answer_lines(text: &[u8]) {
+fn answer_lines(rt: &impl Print, text: &[u8]) -> io::Result<()> {
     let mut start = 0;
     while start < text.len() {
         let end = lines::fields::find(text, start, b'\n');
-        answer_line(&text[start..end]);
+        answer_line(rt, &text[start..end])?;
         if text.len() <= end {
-            return;
+            return Ok(());
         }
         start = end + 1;
     }
+    Ok(())
 }
 
-fn main() {
-    let mut text = io::large_buffer();
-    let bytes = io::read_full(STDIN_FILENO, &mut text);
-    answer_lines(&text[..bytes]);
+fn main(rt: HostRuntime) -> io::Result<()> {
+    let mut text = Vec::new(rt.alloc());
+    let bytes = rt.reader().take(65536).read_to_end(&mut text)?;
+    answer_lines(&rt, text.as_slice())?;
     if bytes == 65536 {
-        io::write_all(STDOUT_FILENO, b"the input is too long\n");
+        println!(rt; "the input is too long")?;
     }
+    Ok(())
 }

@@ -1,42 +1,40 @@
 // Numbers and lists as a line prints them.
-use libc::STDOUT_FILENO;
+use std::io;
 
 pub fn wider(number: u32) -> u64 {
     number as u64
 }
 
-pub fn text(bytes: &[u8]) {
-    io::write_all(STDOUT_FILENO, bytes);
+pub fn text(rt: &impl Print, bytes: &[u8]) -> io::Result<()> {
+    rt.write_all(bytes)
 }
 
-pub fn unreadable() {
-    text(b" cannot be read");
+pub fn unreadable(rt: &impl Print) -> io::Result<()> {
+    text(rt, b" cannot be read")
 }
 
-pub fn number(value: u64) {
-    text(b" ");
-    io::print_decimal(STDOUT_FILENO, value);
+pub fn number(rt: &impl Print, value: u64) -> io::Result<()> {
+    print!(rt; " {value}")
 }
 
 // The numbers in brackets, with a space in front of each but the first.
-pub fn list(numbers: &[u32]) {
-    text(b" [");
-    let mut i = 0;
-    while i < numbers.len() {
+pub fn list(rt: &impl Print, numbers: &[u32]) -> io::Result<()> {
+    text(rt, b" [")?;
+    for i in 0..numbers.len() {
         if 0 < i {
-            text(b" ");
+            text(rt, b" ")?;
         }
-        io::print_decimal(STDOUT_FILENO, wider(numbers[i]));
-        i += 1;
+        let value = numbers[i];
+        print!(rt; "{value}")?;
     }
-    text(b"]");
+    text(rt, b"]")
 }
 
 // The list's first numbers, or all of them where it has fewer.
-pub fn beginning(numbers: &[u32], many: usize) {
+pub fn beginning(rt: &impl Print, numbers: &[u32], many: usize) -> io::Result<()> {
     if many <= numbers.len() {
-        list(&numbers[0..many]);
+        list(rt, &numbers[0..many])
     } else {
-        list(numbers);
+        list(rt, numbers)
     }
 }

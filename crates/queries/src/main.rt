@@ -10,7 +10,8 @@
 mod listings;
 mod trees;
 
-use libc::{STDIN_FILENO, STDOUT_FILENO};
+use std::io;
+use std::io::Read;
 
 fn is_remark(line: &[u8]) -> bool {
     if line.len() == 0 {
@@ -19,46 +20,49 @@ fn is_remark(line: &[u8]) -> bool {
     line[0] == b'#'
 }
 
-fn answer(word: &[u8], line: &[u8]) {
+fn answer(rt: &impl Print, word: &[u8], line: &[u8]) -> io::Result<()> {
     match lines::fields::place(b"rows document instance", b' ', word) {
-        0 => trees::rows(lines::section(line, 2), lines::section(line, 3)),
+        0 => trees::rows(rt, lines::section(line, 2), lines::section(line, 3)),
         1 => trees::document(
+            rt,
             lines::section(line, 2),
             lines::section(line, 3),
             lines::section(line, 4),
         ),
-        2 => trees::instance(lines::section(line, 2), lines::section(line, 3)),
-        _ => makings::printing::unreadable(),
+        2 => trees::instance(rt, lines::section(line, 2), lines::section(line, 3)),
+        _ => makings::printing::unreadable(rt),
     }
 }
 
-fn answer_line(line: &[u8]) {
+fn answer_line(rt: &impl Print, line: &[u8]) -> io::Result<()> {
     if is_remark(line) {
-        return;
+        return Ok(());
     }
-    io::write_all(STDOUT_FILENO, lines::section(line, 1));
-    io::write_all(STDOUT_FILENO, b":");
-    answer(lines::section(line, 0), line);
-    io::write_all(STDOUT_FILENO, b"\n");
+    rt.write_all(lines::section(line, 1))?;
+    print!(rt; ":")?;
+    answer(rt, lines::section(line, 0), line)?;
+    println!(rt)
 }
 
-fn answer_lines(text: &[u8]) {
+fn answer_lines(rt: &impl Print, text: &[u8]) -> io::Result<()> {
     let mut start = 0;
     while start < text.len() {
         let end = lines::fields::find(text, start, b'\n');
-        answer_line(&text[start..end]);
+        answer_line(rt, &text[start..end])?;
         if text.len() <= end {
-            return;
+            return Ok(());
         }
         start = end + 1;
     }
+    Ok(())
 }
 
-fn main() {
-    let mut text = io::large_buffer();
-    let bytes = io::read_full(STDIN_FILENO, &mut text);
-    answer_lines(&text[..bytes]);
+fn main(rt: HostRuntime) -> io::Result<()> {
+    let mut text = Vec::new(rt.alloc());
+    let bytes = rt.reader().take(65536).read_to_end(&mut text)?;
+    answer_lines(&rt, text.as_slice())?;
     if bytes == 65536 {
-        io::write_all(STDOUT_FILENO, b"the input is too long\n");
+        println!(rt; "the input is too long")?;
     }
+    Ok(())
 }

@@ -5,6 +5,7 @@ use crate::listings;
 use lines::lists::part;
 use makings::parts::least;
 use makings::printing;
+use std::io;
 
 fn name_byte(byte: u8) -> u8 {
     if byte == b' ' {
@@ -32,13 +33,14 @@ fn write_names(names: &[u8], dictionary: &mut [u8]) -> usize
     i + 1
 }
 
-fn print_refusal(code: u32, place: u32) {
-    printing::text(b" refused");
-    printing::number(code as u64);
-    printing::number(place as u64);
+fn print_refusal(rt: &impl Print, code: u32, place: u32) -> io::Result<()> {
+    printing::text(rt, b" refused")?;
+    printing::number(rt, code as u64)?;
+    printing::number(rt, place as u64)
 }
 
 fn document_in(
+    rt: &impl Print,
     problem: &[u8],
     dictionary: &[u8],
     bytes: &[u8],
@@ -46,24 +48,29 @@ fn document_in(
     size: &mut [u32],
     start: &mut [u32],
     length: &mut [u32],
-) {
+) -> io::Result<()> {
     let read = document::read(dictionary, bytes, label, size, start, length);
     let code = read.code;
     if code != 0 {
-        print_refusal(code, read.place);
-        return;
+        return print_refusal(rt, code, read.place);
     }
     let labels = least(read.rows, label);
     let sizes = least(read.rows, size);
-    listings::list(&label[0..labels], &size[0..sizes], problem);
+    listings::list(rt, &label[0..labels], &size[0..sizes], problem)
 }
 
-fn document_with(problem: &[u8], dictionary: &[u8], bytes: &[u8]) {
+fn document_with(
+    rt: &impl Print,
+    problem: &[u8],
+    dictionary: &[u8],
+    bytes: &[u8],
+) -> io::Result<()> {
     let mut label = [0u32; 2048];
     let mut size = [0u32; 2048];
     let mut start = [0u32; 2048];
     let mut length = [0u32; 2048];
     document_in(
+        rt,
         problem,
         dictionary,
         bytes,
@@ -71,46 +78,62 @@ fn document_with(problem: &[u8], dictionary: &[u8], bytes: &[u8]) {
         &mut size,
         &mut start,
         &mut length,
-    );
+    )
 }
 
-fn document_of(problem: &[u8], names: &[u8], bytes: &[u8], dictionary: &mut [u8]) {
+fn document_of(
+    rt: &impl Print,
+    problem: &[u8],
+    names: &[u8],
+    bytes: &[u8],
+    dictionary: &mut [u8],
+) -> io::Result<()> {
     let end = write_names(names, dictionary);
-    document_with(problem, &dictionary[0..end], bytes);
+    document_with(rt, problem, &dictionary[0..end], bytes)
 }
 
 // A problem on the tree of a document.
-pub fn document(problem: &[u8], names: &[u8], bytes: &[u8]) {
+pub fn document(rt: &impl Print, problem: &[u8], names: &[u8], bytes: &[u8]) -> io::Result<()> {
     let mut dictionary = [0u8; 1024];
-    document_of(problem, names, bytes, &mut dictionary);
+    document_of(rt, problem, names, bytes, &mut dictionary)
 }
 
-fn rows_in(problem: &[u8], tree: &[u8], numbers: &mut [u32], ends: &mut [usize]) {
+fn rows_in(
+    rt: &impl Print,
+    problem: &[u8],
+    tree: &[u8],
+    numbers: &mut [u32],
+    ends: &mut [usize],
+) -> io::Result<()> {
     if lines::read_lists(tree, numbers, ends) != 2 {
-        printing::unreadable();
-        return;
+        return printing::unreadable(rt);
     }
-    listings::list(part(numbers, ends, 0), part(numbers, ends, 1), problem);
+    listings::list(rt, part(numbers, ends, 0), part(numbers, ends, 1), problem)
 }
 
 // A problem on a tree's two lists.
-pub fn rows(problem: &[u8], tree: &[u8]) {
+pub fn rows(rt: &impl Print, problem: &[u8], tree: &[u8]) -> io::Result<()> {
     let mut numbers = [0u32; 4200];
     let mut ends = [0usize; 2];
-    rows_in(problem, tree, &mut numbers, &mut ends);
+    rows_in(rt, problem, tree, &mut numbers, &mut ends)
 }
 
-fn instance_in(lists: &[u8], tree: &[u8], numbers: &mut [u32], ends: &mut [usize]) {
+fn instance_in(
+    rt: &impl Print,
+    lists: &[u8],
+    tree: &[u8],
+    numbers: &mut [u32],
+    ends: &mut [usize],
+) -> io::Result<()> {
     if lines::read_lists(tree, numbers, ends) != 2 {
-        printing::unreadable();
-        return;
+        return printing::unreadable(rt);
     }
-    makings::instance(part(numbers, ends, 0), part(numbers, ends, 1), lists);
+    makings::instance(rt, part(numbers, ends, 0), part(numbers, ends, 1), lists)
 }
 
 // The instance of a record over a tree's two lists.
-pub fn instance(lists: &[u8], tree: &[u8]) {
+pub fn instance(rt: &impl Print, lists: &[u8], tree: &[u8]) -> io::Result<()> {
     let mut numbers = [0u32; 4200];
     let mut ends = [0usize; 2];
-    instance_in(lists, tree, &mut numbers, &mut ends);
+    instance_in(rt, lists, tree, &mut numbers, &mut ends)
 }

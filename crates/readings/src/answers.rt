@@ -1,8 +1,8 @@
 // What the reader answers on one line, and whether it kept to its lists and agrees with the check.
 ghost use Rattle.std.specs.Prelude.{◌<◌, ◌≤◌, length};
 
-use libc::STDOUT_FILENO;
 use lines::lists::{BEFORE, unchanged};
+use std::io;
 
 // Lists of more rows are printed as a sum each.
 const PRINTED: usize = 12;
@@ -43,21 +43,19 @@ fn agrees(code: u32, place: u32, rows: u32, checked: u64) -> bool {
     checked % 4294967296 == wider(place) + wider(rows)
 }
 
-fn print_number(name: &[u8], number: u32) {
-    io::write_all(STDOUT_FILENO, name);
-    io::print_decimal(STDOUT_FILENO, wider(number));
+fn print_number(rt: &impl Print, name: &str, number: u32) -> io::Result<()> {
+    print!(rt; "{name}{number}")
 }
 
-fn print_list(name: &[u8], list: &[u32], rows: usize) {
-    io::write_all(STDOUT_FILENO, name);
-    let mut i = 0;
-    while i < rows {
+fn print_list(rt: &impl Print, name: &str, list: &[u32], rows: usize) -> io::Result<()> {
+    print!(rt; "{name}")?;
+    for i in 0..rows {
         if list.len() <= i {
-            return;
+            return Ok(());
         }
-        print_number(b" ", list[i]);
-        i += 1;
+        print_number(rt, " ", list[i])?;
     }
+    Ok(())
 }
 
 // A number for the whole list, in which each entry counts by its place: 31 times the sum of those before it, and the entry.
@@ -74,13 +72,14 @@ fn sum_of(list: &[u32], rows: usize) -> u64 {
     sum
 }
 
-fn print_sum(name: &[u8], list: &[u32], rows: usize) {
-    io::write_all(STDOUT_FILENO, name);
-    io::print_decimal(STDOUT_FILENO, sum_of(list, rows));
+fn print_sum(rt: &impl Print, name: &str, list: &[u32], rows: usize) -> io::Result<()> {
+    let sum = sum_of(list, rows);
+    print!(rt; "{name}{sum}")
 }
 
 // Prints what the reader gave on the four lists, each lent up to the length that the line says.
 fn answer_in(
+    rt: &impl Print,
     rooms: &[u8],
     dictionary: &[u8],
     document: &[u8],
@@ -88,7 +87,7 @@ fn answer_in(
     size: &mut [u32],
     start: &mut [u32],
     length: &mut [u32],
-) {
+) -> io::Result<()> {
     let labels = room(rooms, 0, label);
     let sizes = room(rooms, 1, size);
     let starts = room(rooms, 2, start);
@@ -102,57 +101,68 @@ fn answer_in(
         &mut length[0..lengths],
     );
     print_answer(
+        rt,
         read.code,
         read.place,
         read.rows,
         document::check(dictionary, document),
-    );
-    print_lists(read.code, wide(read.rows), label, size, start, length);
-    io::write_all(STDOUT_FILENO, b"\n");
+    )?;
+    print_lists(rt, read.code, wide(read.rows), label, size, start, length)?;
+    println!(rt)
 }
 
-fn print_answer(code: u32, place: u32, rows: u32, checked: u64) {
-    print_number(b": code ", code);
-    print_number(b" place ", place);
-    print_number(b" rows ", rows);
+fn print_answer(rt: &impl Print, code: u32, place: u32, rows: u32, checked: u64) -> io::Result<()> {
+    print_number(rt, ": code ", code)?;
+    print_number(rt, " place ", place)?;
+    print_number(rt, " rows ", rows)?;
     if !agrees(code, place, rows, checked) {
-        io::write_all(STDOUT_FILENO, b", check differs");
+        print!(rt; ", check differs")?;
     }
+    Ok(())
 }
 
 // The whole lists are looked at, also what was not lent. In a refusal the rows are 0.
-fn print_lists(code: u32, rows: usize, label: &[u32], size: &[u32], start: &[u32], length: &[u32]) {
+fn print_lists(
+    rt: &impl Print,
+    code: u32,
+    rows: usize,
+    label: &[u32],
+    size: &[u32],
+    start: &[u32],
+    length: &[u32],
+) -> io::Result<()> {
     if code == 0 {
         if rows <= PRINTED {
-            print_list(b", label", label, rows);
-            print_list(b" size", size, rows);
-            print_list(b" start", start, rows);
-            print_list(b" length", length, rows);
+            print_list(rt, ", label", label, rows)?;
+            print_list(rt, " size", size, rows)?;
+            print_list(rt, " start", start, rows)?;
+            print_list(rt, " length", length, rows)?;
         } else {
-            print_sum(b", sums ", label, rows);
-            print_sum(b" ", size, rows);
-            print_sum(b" ", start, rows);
-            print_sum(b" ", length, rows);
+            print_sum(rt, ", sums ", label, rows)?;
+            print_sum(rt, " ", size, rows)?;
+            print_sum(rt, " ", start, rows)?;
+            print_sum(rt, " ", length, rows)?;
         }
     }
     if unchanged(label, rows) {
         if unchanged(size, rows) {
             if unchanged(start, rows) {
                 if unchanged(length, rows) {
-                    return;
+                    return Ok(());
                 }
             }
         }
     }
-    io::write_all(STDOUT_FILENO, b", lists changed");
+    print!(rt; ", lists changed")
 }
 
-pub fn answer(rooms: &[u8], dictionary: &[u8], document: &[u8]) {
+pub fn answer(rt: &impl Print, rooms: &[u8], dictionary: &[u8], document: &[u8]) -> io::Result<()> {
     let mut label = [BEFORE; 2100];
     let mut size = [BEFORE; 2100];
     let mut start = [BEFORE; 2100];
     let mut length = [BEFORE; 2100];
     answer_in(
+        rt,
         rooms,
         dictionary,
         document,
@@ -160,5 +170,5 @@ pub fn answer(rooms: &[u8], dictionary: &[u8], document: &[u8]) {
         &mut size,
         &mut start,
         &mut length,
-    );
+    )
 }

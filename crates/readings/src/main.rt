@@ -5,61 +5,67 @@
 mod answers;
 mod expand;
 
-use libc::{STDIN_FILENO, STDOUT_FILENO};
+use std::io;
+use std::io::Read;
 
-fn unreadable() {
-    io::write_all(STDOUT_FILENO, b": cannot be read\n");
+fn unreadable(rt: &impl Print) -> io::Result<()> {
+    println!(rt; ": cannot be read")
 }
 
-fn answer_in(line: &[u8], dictionary: &mut [u8], document: &mut [u8]) {
+fn answer_in(
+    rt: &impl Print,
+    line: &[u8],
+    dictionary: &mut [u8],
+    document: &mut [u8],
+) -> io::Result<()> {
     let names = expand::expand(lines::section(line, 2), dictionary);
     let bytes = expand::expand(lines::section(line, 3), document);
     if !names.whole {
-        unreadable();
-        return;
+        return unreadable(rt);
     }
     if !bytes.whole {
-        unreadable();
-        return;
+        return unreadable(rt);
     }
     let names_end = names.to;
     let bytes_end = bytes.to;
     answers::answer(
+        rt,
         lines::section(line, 1),
         &dictionary[0..names_end],
         &document[0..bytes_end],
-    );
+    )
 }
 
-fn answer_line(line: &[u8]) {
-    io::write_all(STDOUT_FILENO, lines::section(line, 0));
+fn answer_line(rt: &impl Print, line: &[u8]) -> io::Result<()> {
+    rt.write_all(lines::section(line, 0))?;
     if lines::fields::count(line, b'|') != 4 {
-        unreadable();
-        return;
+        return unreadable(rt);
     }
     // A little more than the largest document that is read.
     let mut dictionary = [0u8; 33000];
     let mut document = [0u8; 33000];
-    answer_in(line, &mut dictionary, &mut document);
+    answer_in(rt, line, &mut dictionary, &mut document)
 }
 
-fn answer_lines(text: &[u8]) {
+fn answer_lines(rt: &impl Print, text: &[u8]) -> io::Result<()> {
     let mut start = 0;
     while start < text.len() {
         let end = lines::fields::find(text, start, b'\n');
-        answer_line(&text[start..end]);
+        answer_line(rt, &text[start..end])?;
         if text.len() <= end {
-            return;
+            return Ok(());
         }
         start = end + 1;
     }
+    Ok(())
 }
 
-fn main() {
-    let mut text = io::large_buffer();
-    let bytes = io::read_full(STDIN_FILENO, &mut text);
-    answer_lines(&text[..bytes]);
+fn main(rt: HostRuntime) -> io::Result<()> {
+    let mut text = Vec::new(rt.alloc());
+    let bytes = rt.reader().take(65536).read_to_end(&mut text)?;
+    answer_lines(&rt, text.as_slice())?;
     if bytes == 65536 {
-        io::write_all(STDOUT_FILENO, b"the input is too long\n");
+        println!(rt; "the input is too long")?;
     }
+    Ok(())
 }
