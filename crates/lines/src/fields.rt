@@ -47,7 +47,7 @@ pub fn place(text: &[u8], separator: u8, wanted: &[u8]) -> usize {
     let fields = count(text, separator);
     let mut i = 0;
     while i < fields {
-        if check::same(field(text, separator, i), wanted) {
+        if field(text, separator, i) == wanted {
             return i;
         }
         i += 1;
