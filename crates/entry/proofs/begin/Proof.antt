@@ -11,7 +11,7 @@ use Rattle.entry.proofs.begin.Tie as tie
 begun : (c : tie.After-begin) →
     let a = c.args in
     Begun a.label.now a.size.now a.pattern.now a.tables.now
-    a.room a.width a.out.now c.begin.new.1.1.1.0 c.begin.new.1.1.1.1.0 c.begin.result
+    a.room a.width a.out.now c.begin.new.«record» c.begin.new.at c.begin.result
 begun c = record { R = replicate 32 0; A = replicate 256 0; long = refl; rows_long = refl; pre = c.requires; walked = c.begin.ensures }
 
 -- src/lib.rt:40:11
