@@ -182,6 +182,7 @@ max_close a l b c r = left (max (max a (l + b)) (l + 1)) ∙ right (max c r)
     right m = omega arith
 
 pub closed_within : (w : List ℕ) (e : ℕ) (o : List Open) (f : Content) (t : Bytes) → Closed w e o f t → e ≤ length w
+closed_within w e [] f t x = elim x [ ]
 closed_within w e (p ∷ o) f t (closed h k) = k.within
 
 -- three bytes or more for each open element
@@ -215,6 +216,7 @@ module _ {w K L : List ℕ} {i kept depth rows deep : ℕ} (k : Scanned w K L i 
   some_open {e} h = go k.o k.depth_is h
     where
       go : (o : List Open) → depth ≡ length o → Closed w e o k.f T → 0 < depth
+      go [] d x = elim x [ ]
       go (p ∷ o) d (closed h q) = omega (arith, d)
 
   -- the names that are kept are places, and one more is in a document
@@ -226,6 +228,7 @@ module _ {w K L : List ℕ} {i kept depth rows deep : ℕ} (k : Scanned w K L i 
   may_close {e} h = go k.o h k.depth_is k.held k.all
     where
       go : (o : List Open) → Closed w e o k.f T → depth ≡ length o → InnermostKept w K L o kept → AllFrom w o → MayClose w K L kept (depth - 1)
+      go [] x d held a = elim x [ ]
       go (p ∷ o) (closed h q) d held (one_more x from all) = record {
         keeping = k.keeping;
         shallow = omega (arith, room_close);
@@ -302,6 +305,7 @@ module _ {w K L : List ℕ} {i kept depth rows deep : ℕ} (k : Scanned w K L i 
       where
         go : (o : List Open) → Closed w e o k.f T → depth ≡ length o → InnermostKept w K L o kept → AllFrom w o → rows ≡ rows_o o + content_rows k.f →
             deep ≡ max (deep_o o) (length o + content_depth k.f) → Scanned w K' L' e kept' (depth - 1) m₁ d₁
+        go [] x d held a r m = elim x [ ]
         go (p ∷ o) (closed h q) d held (one_more x from_x all) r m =
             let z : length o ≡ depth - 1 = omega (arith, d) in
             record {

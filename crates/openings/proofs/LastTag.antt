@@ -11,7 +11,7 @@ use lib.ListN.{length, get_or, take}
 use lib.Seq.{take-suc}
 use borrow.Author.Tests.{eqb-true, ltb-true, ltb-false}
 use Rattle.grammar.specs.Classes.{white, name_start, name_byte, class_number}
-use Rattle.grammar.specs.Grammar.{Bytes, ε, ◌▸◌, ◌⊲◌, Content, nothing, empty_element, element}
+use Rattle.grammar.specs.Grammar.{Bytes, ε, ◌▸◌, ◌⊲◌, Content, nothing, empty_element}
 use Rattle.grammar.specs.Tokens.{Reads, name_token, may_open}
 use Rattle.grammar.specs.Machine.{may_follow, Open, State, dead, in_run, after_less, in_name, in_space, after_slash, in_end_name, in_end_space, level, end_tag_state, tag, tail, step, runs, initial, At}
 use Rattle.grammar.proofs.Theory.{GoodS, Live, by_cond, live_step, runs_append}

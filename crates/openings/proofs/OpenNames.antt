@@ -16,19 +16,19 @@ use Rattle.openings.specs.OpenNames.{TagAt, NameFrom, AllFrom, one_more, Between
 
 -- WHAT IS KEPT BETWEEN
 -- there are no fewer
-between_more : {w K L : List ℕ} {o o' : List Open} {m n : ℕ} → Between w K L o m o' n → m ≤ n
+between_more : {w K L : List ℕ} {o : List Open} {m : ℕ} {o' : List Open} {n : ℕ} → Between w K L o m o' n → m ≤ n
 between_more none_kept = omega arith
 between_more (forgotten b) = between_more b
 between_more (kept x l b) = omega (arith, between_more b)
 
 -- as many more are open as are kept, or more
-between_open : {w K L : List ℕ} {o o' : List Open} {m n : ℕ} → Between w K L o m o' n → length o + n ≤ length o' + m
+between_open : {w K L : List ℕ} {o : List Open} {m : ℕ} {o' : List Open} {n : ℕ} → Between w K L o m o' n → length o + n ≤ length o' + m
 between_open none_kept = omega arith
 between_open (forgotten b) = omega (arith, between_open b)
 between_open (kept x l b) = omega (arith, between_open b)
 
 -- it stays where the places between stay
-between_same : {w K L K' L' : List ℕ} {o o' : List Open} {m n : ℕ} → Between w K L o m o' n →
+between_same : {w K L K' L' : List ℕ} {o : List Open} {m : ℕ} {o' : List Open} {n : ℕ} → Between w K L o m o' n →
     ((k : ℕ) → m ≤ k → k < n → (get_or K' k 0 ≡ get_or K k 0) × (get_or L' k 0 ≡ get_or L k 0)) → Between w K' L' o m o' n
 between_same none_kept s = none_kept
 between_same (forgotten b) s = forgotten (between_same b s)
@@ -38,13 +38,13 @@ between_same {w} {K' = K'} (kept {p} {o' = r} {n} x l b) s =
     kept x' (e.1 ∙ l) (between_same b (λ k u v. s k u (omega arith)))
 
 -- two parts make one
-joined : {w K L : List ℕ} {o o' o'' : List Open} {m n l : ℕ} → Between w K L o m o' n → Between w K L o' n o'' l → Between w K L o m o'' l
+joined : {w K L : List ℕ} {o o' : List Open} {m n : ℕ} {o'' : List Open} {l : ℕ} → Between w K L o m o' n → Between w K L o' n o'' l → Between w K L o m o'' l
 joined a none_kept = a
 joined a (forgotten b) = forgotten (joined a b)
 joined a (kept x l b) = kept x l (joined a b)
 
 -- the levels are those of open elements
-level_low : {w K L : List ℕ} {o o' : List Open} {m n : ℕ} → Between w K L o m o' n → (k : ℕ) → m ≤ k → k < n → get_or L k 0 < length o'
+level_low : {w K L : List ℕ} {o : List Open} {m : ℕ} {o' : List Open} {n : ℕ} → Between w K L o m o' n → (k : ℕ) → m ≤ k → k < n → get_or L k 0 < length o'
 level_low none_kept k u v = absurd (omega arith)
 level_low (forgotten b) k u v = omega (arith, level_low b k u v)
 level_low {L = L} (kept {o' = r} {n = n} x l b) k u v = go (ltb k n) refl (level_low b k u)
@@ -102,7 +102,7 @@ under_one : {w K L : List ℕ} {p : Open} {o : List Open} (n : ℕ) → SomeKept
 under_one n (forgotten b) h = b
 under_one (suc n) (kept x l b) h = absurd (omega (arith, l, h))
 
-under : {w K L K' L' : List ℕ} {r o : List Open} {m l n : ℕ} → Between w K' L' r m o l → SomeKept w K L o n → reaches L n ≤ length r → SomeKept w K L r n
+under : {w K L K' L' : List ℕ} {r : List Open} {m : ℕ} {o : List Open} {l n : ℕ} → Between w K' L' r m o l → SomeKept w K L o n → reaches L n ≤ length r → SomeKept w K L r n
 under none_kept b h = b
 under {n = n} (forgotten a) b h = under a (under_one n b (omega (arith, h, between_open a, between_more a))) h
 under {n = n} (kept x l a) b h = under a (under_one n b (omega (arith, h, between_open a, between_more a))) h
@@ -123,12 +123,12 @@ record NextKept (w K L : List ℕ) (q : List Open) (j : ℕ) (o : List Open) (n 
   past : {K' L' : List ℕ} {t : ℕ} → SomeKept w K' L' q t → SomeKept w K' L' o' t
   rest : Between w K L (p ∷ o') (suc j) o n
 
-none_between : {w K L K' L' : List ℕ} {q o : List Open} {j n t : ℕ} → Between w K L q j o n → n ≡ j → SomeKept w K' L' q t → SomeKept w K' L' o t
+none_between : {w K L K' L' : List ℕ} {q : List Open} {j : ℕ} {o : List Open} {n t : ℕ} → Between w K L q j o n → n ≡ j → SomeKept w K' L' q t → SomeKept w K' L' o t
 none_between none_kept e s = s
 none_between (forgotten b) e s = forgotten (none_between b e s)
 none_between (kept x l b) e s = absurd (omega (arith, e, between_more b))
 
-next_kept : {w K L : List ℕ} {q o : List Open} {j n : ℕ} → Between w K L q j o n → j < n → NextKept w K L q j o n
+next_kept : {w K L : List ℕ} {q : List Open} {j : ℕ} {o : List Open} {n : ℕ} → Between w K L q j o n → j < n → NextKept w K L q j o n
 next_kept none_kept h = absurd (omega arith)
 next_kept (forgotten b) h = let r = next_kept b h in record { p = r.p; o' = r.o'; from = r.from; at_level = r.at_level; past = r.past; rest = forgotten r.rest }
 next_kept {w} {K} {L} {q} {j = j} (kept {p} {o' = o'} {n} x l b) h = go (ltb j n) refl (next_kept b)

@@ -325,12 +325,14 @@ module _ {w S L Z H : List ℕ} {i x depth n : ℕ} (k : Noting w S L Z H i x de
     some_open {r} h = go O k.walked.depth_is h
       where
         go : (o : List Open) → depth ≡ length o → Closed w r o F T → 0 < depth
+        go [] d x = elim x [ ]
         go (p ∷ o) d (closed h q) = omega (arith, d)
 
     pub top_before : {r : ℕ} → Closed w r O F T → x ≤ n + m
     top_before {r} h = go O k.walked.rows_are leaf_held h
       where
         go : (o : List Open) → n ≡ count_o o + content_rows F → Held w S' L' H x o → Closed w r o F T → x ≤ n + m
+        go [] c q x = elim x [ ]
         go (p ∷ o) c q (closed h z) = omega (arith, c, q.0.place)
 
     pub closes : {r y : ℕ} → Closed w r O F T → depth + m ≤ 64 → (y ≡ get_or H (depth - 1) 0) × (y < 65536) →
@@ -341,6 +343,7 @@ module _ {w S L Z H : List ℕ} {i x depth n : ℕ} (k : Noting w S L Z H i x de
         go : (o : List Open) → Closed w r o F T → depth ≡ length o → n ≡ count_o o + content_rows F → max (deep_o o) (length o + content_depth F) ≤ 64 →
             Holds (map start_of (at_tag o F T)) S' → Holds (map length_of (at_tag o F T)) L' → Holds (leaf_sizes (sizes_on (sizes_o o) F) T) Z' → Held w S' L' H x o →
             Noting w S' L' (set Z' x (n + m - x)) H r y (depth - 1) (n + m)
+        go [] x d c s starts lengths sizes held = elim x [ ]
         go (p ∷ o) (closed g q) d c s starts lengths sizes held =
             let size : n + m - x ≡ suc (content_rows F + leaf_rows T) = omega (arith, c, made_is, held.0.place) in
             let last : length o ≡ depth - 1 = omega (arith, d) in

@@ -9,7 +9,7 @@ use Rattle.grammar.specs.Machine.{Open}
 use Rattle.tokens.specs.Tokens.{bytes}
 use Rattle.judge.proofs.Judging.{closed_within}
 use Rattle.rows.specs.Notes.{Notes}
-use Rattle.rows.specs.Turns.{MayTag, refused, deep_open, deep_empty, opens, empty, closes, RunDone, many, last_run, deep_text, to_tag, MayTurn, TurnDone, over, tagged}
+use Rattle.rows.specs.Turns.{MayTag, TagDone, refused, deep_open, deep_empty, opens, empty, closes, RunDone, many, last_run, deep_text, to_tag, MayTurn, TurnDone, over, tagged}
 use Rattle.rows.specs.declared.note.Noted.{Noted}
 use Rattle.rows.specs.declared.note.Ran.TheVariants.{Tag}
 use Rattle.rows.specs.declared.note.Turn.TheVariants.{Ends, Opens, Empty, Closes}
@@ -63,13 +63,16 @@ module _ {w S L Z H : List ℕ} {i x depth n : ℕ} (k : Noting w S L Z H i x de
     pub kept : Noting w S' L' Z' (set H depth x) r y (depth + 1) (y + 1)
 
   pub turn_opens : {S' L' Z' : List ℕ} {y r : ℕ} → TurnDone w S L Z depth n i O F S' L' Z' (Opens y r) → Opened S' L' Z' y r
-  turn_opens (tagged (to_tag few run put less shallow) (opens l h d again)) = record {
-    shallow = omega (arith, d);
-    low = noting.low_top k few run put;
-    few = omega (arith, few, run.few);
-    behind = record { more = omega (arith, l, run.span.passed.from); within = h.here.within };
-    kept = noting.opens k few run put again h d;
-  }
+  turn_opens {r = r} (tagged {a = a} {S' = S₁} {L' = L₁} {Z' = Z₁} (to_tag {m = m} few run put less shallow) done) = go _ done
+    where
+      go : {S' L' Z' : List ℕ} (y : ℕ) → TagDone w S₁ L₁ Z₁ depth (n + m) a O F (bytes w i (a - i)) S' L' Z' (Opens y r) → Opened S' L' Z' y r
+      go y (opens l h d again) = record {
+        shallow = omega (arith, d);
+        low = noting.low_top k few run put;
+        few = omega (arith, few, run.few);
+        behind = record { more = omega (arith, l, run.span.passed.from); within = h.here.within };
+        kept = noting.opens k few run put again h d;
+      }
 
   -- IT IS EMPTY
   pub record Emptied (S' L' Z' : List ℕ) (y r : ℕ) : Type 0 where
@@ -78,11 +81,14 @@ module _ {w S L Z H : List ℕ} {i x depth n : ℕ} (k : Noting w S L Z H i x de
     pub kept : Noting w S' L' Z' H r x depth (y + 1)
 
   pub turn_empties : {S' L' Z' : List ℕ} {y r : ℕ} → TurnDone w S L Z depth n i O F S' L' Z' (Empty y r) → Emptied S' L' Z' y r
-  turn_empties (tagged (to_tag few run put less shallow) (empty l h d again)) = record {
-    few = omega (arith, few, run.few);
-    behind = record { more = omega (arith, l, run.span.passed.from); within = h.here.within };
-    kept = noting.empties k few run put again h d;
-  }
+  turn_empties {r = r} (tagged {a = a} {S' = S₁} {L' = L₁} {Z' = Z₁} (to_tag {m = m} few run put less shallow) done) = go _ done
+    where
+      go : {S' L' Z' : List ℕ} (y : ℕ) → TagDone w S₁ L₁ Z₁ depth (n + m) a O F (bytes w i (a - i)) S' L' Z' (Empty y r) → Emptied S' L' Z' y r
+      go y (empty l h d again) = record {
+        few = omega (arith, few, run.few);
+        behind = record { more = omega (arith, l, run.span.passed.from); within = h.here.within };
+        kept = noting.empties k few run put again h d;
+      }
 
   -- THE INNERMOST ENDS behind y rows
   pub record Shut (S' L' Z' : List ℕ) (y r : ℕ) : Type 0 where
@@ -95,12 +101,15 @@ module _ {w S L Z H : List ℕ} {i x depth n : ℕ} (k : Noting w S L Z H i x de
     pub kept : {z : ℕ} → (z ≡ get_or H (depth - 1) 0) × (z < 65536) → Noting w S' L' (set Z' x (y - x)) H r z (depth - 1) y
 
   pub turn_closes : {S' L' Z' : List ℕ} {y r : ℕ} → TurnDone w S L Z depth n i O F S' L' Z' (Closes y r) → Shut S' L' Z' y r
-  turn_closes (tagged (to_tag few run put less shallow) (closes l h)) = record {
-    some = noting.some_open k few run put h;
-    shallow = noting.few_open k;
-    low = noting.low_top k few run put;
-    before = noting.top_before k few run put h;
-    few = omega (arith, few, run.few);
-    behind = record { more = omega (arith, l, run.span.passed.from); within = closed_within _ _ _ _ _ h };
-    kept = λ is_z. noting.closes k few run put h shallow is_z;
-  }
+  turn_closes {r = r} (tagged {a = a} {S' = S₁} {L' = L₁} {Z' = Z₁} (to_tag {m = m} few run put less shallow) done) = go _ done
+    where
+      go : {S' L' Z' : List ℕ} (y : ℕ) → TagDone w S₁ L₁ Z₁ depth (n + m) a O F (bytes w i (a - i)) S' L' Z' (Closes y r) → Shut S' L' Z' y r
+      go y (closes l h) = record {
+        some = noting.some_open k few run put h;
+        shallow = noting.few_open k;
+        low = noting.low_top k few run put;
+        before = noting.top_before k few run put h;
+        few = omega (arith, few, run.few);
+        behind = record { more = omega (arith, l, run.span.passed.from); within = closed_within _ _ _ _ _ h };
+        kept = λ is_z. noting.closes k few run put h shallow is_z;
+      }

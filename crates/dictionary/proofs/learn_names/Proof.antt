@@ -29,7 +29,7 @@ turn : (c : tie.After-name_end-end invariant_loop decreases_loop) →
 turn c = record { learning = c.loop-start.invariant; here = c.loop-start-test.true; is_end = c.name_end-end.ensures.0; inside = c.name_end-end.ensures.1 }
 
 learnt : (c : tie.After-learn-number invariant_loop decreases_loop) →
-    Numbered c.args.dictionary.now c.args.dictionary.now 0 c.loop-start.index c.learn-number.new.1.0 (take c.loop-start.names (pieces c.args.dictionary.now))
+    Numbered c.args.dictionary.now c.args.dictionary.now 0 c.loop-start.index c.learn-number.new.index (take c.loop-start.names (pieces c.args.dictionary.now))
     (range c.args.dictionary.now c.loop-start.start c.name_end-end.result) c.learn-number.result
 learnt c = c.learn-number.ensures _ (may_learn (turn c.before.before.before.before.before) (omega arith))
 

@@ -1,5 +1,4 @@
 use native.Mathlib.Omega.{arith}
-use borrow.Author.Tests.{not-true, not-false}
 use Rattle.document.proofs.Answers.{few_codes, checks_bad, checks_judged}
 use borrow.Author.Rules.{rules}
 use Rattle.document.proofs.check.Statement.{statement}

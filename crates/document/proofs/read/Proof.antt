@@ -1,7 +1,6 @@
 use Prim.Native.Nat.{ℕ}
 use native.Mathlib.Omega.{arith}
 use lib.ListN.{length-replicate, get_or-replicate}
-use borrow.Author.Tests.{not-true, not-false}
 use Rattle.document.proofs.Answers.{answers_bad, answers_refused, long_verdict, may_read}
 use borrow.Author.Rules.{rules}
 use Rattle.document.proofs.read.Statement.{statement}
@@ -42,7 +41,7 @@ slice_aggregate_read_rows c = search rules
 read_rows_requires : tie.Need-read_rows-requires
 read_rows_requires c κs =
     let g = (short c).before in
-    (_, may_read (learnt g).learn_names-checked.ensures g.if1.left (omega (arith, length-replicate {A = ℕ} 11264 0)) (short c).if-document-gt-MOST_BYTES.false)
+    (_, may_read (learnt g).learn_names-checked.ensures g.if-not-good.false (omega (arith, length-replicate {A = ℕ} 11264 0)) (short c).if-document-gt-MOST_BYTES.false)
 
 same_length : tie.Need-shape_of-label
 same_length c = search rules

@@ -1,7 +1,6 @@
 use mathlib.Core.Path.{refl, sym, subst, ◌∙◌}
 use mathlib.Core.Bool.{true≢false}
 use native.Mathlib.Omega.{arith}
-use borrow.Author.Tests.{not-true, not-false}
 use Rattle.rows.specs.Notes.{Notes}
 use Rattle.rows.specs.declared.note.Noted.{Noted}
 use Rattle.rows.specs.declared.note.Noted.TheVariants.{Rows}
@@ -30,11 +29,11 @@ abbrev copies : tie.After-lengths-in-Rows-2-1 → tie.After-copy_rows
 copies c = c.before.before.before.before.before.before.before.before.before.before
 
 -- WHAT IS KNOWN THERE
-may : (n : tie.After-note) → let s = begun n in MayRead s.args.dictionary.now s.args.document.now s.args.names s.pre.0 s.args.index.now
+may : (n : tie.After-note) → let s = begun n in MayRead s.args.dictionary.now s.args.document.now s.args.names s.requires.0 s.args.index.now
 may n = (begun n).requires.1
 
 abbrev noted : tie.After-note → Noted → Type 0
-noted n = Notes (begun n).args.document.now n.note.new.1.0 n.note.new.1.1.0 n.note.new.1.1.1.0
+noted n = Notes (begun n).args.document.now n.note.new.starts n.note.new.lengths n.note.new.sizes
 
 rows_noted : (c : tie.In-Rows) → noted (notes c) (Rows c.in-Rows.rows)
 rows_noted c = subst (noted (notes c)) c.in-Rows.is (notes c).note.ensures
@@ -71,13 +70,13 @@ returns c =
     let t = c.before.before.before in
     let m = may (notes t) in
     answers_small m.learnt.checked refl (noted_verdict m.short (rows_noted t)) refl
-    (λ h. true≢false (sym (c.before.before.fits2.ensures.1 h) ∙ not-true _ c.if-not-fits.true)) c.refusal.ensures
+    (λ h. true≢false (sym (c.fits.ensures.1 h) ∙ c.if-not-fits.true)) c.refusal.ensures
 
 copy_rows_requires : tie.Need-copy_rows-requires
 copy_rows_requires c κs =
     let e = c.before.before.before.before.before.before in
     let r = rows_noted (rows_told e) in
-    let h = e.before.fits2.ensures.0 e.if-not-fits.false in
+    let h = e.fits.ensures.0 e.if-not-fits.false in
     (r.long, omega (arith, r.few), h.2, h.3, h.1)
 
 label_rows_requires : tie.Need-label_rows-requires
@@ -85,7 +84,7 @@ label_rows_requires c κs =
     let e = fitting (copies c) in
     let t = rows_told e in
     let a = (begun (notes t)).args in
-    may_label_rows a.label.now a.size.now a.start.now a.length.now (may (notes t)) (rows_noted t) (e.before.fits2.ensures.0 e.if1.left)
+    may_label_rows a.label.now a.size.now a.start.now a.length.now (may (notes t)) (rows_noted t) (e.fits.ensures.0 e.if-not-fits.false)
 
 accepted_requires : tie.Need-accepted-requires
 accepted_requires c κs =
@@ -125,7 +124,7 @@ returns_4 c =
     let k = copies l.before in
     let e = fitting k in
     let t = rows_told e in
-    answers_read _ _ _ _ (may (notes t)) (rows_noted t) (e.before.fits2.ensures.0 e.if-not-fits.left) k.copy_rows.ensures l.label_rows.ensures c.accepted.ensures
+    answers_read _ _ _ _ (may (notes t)) (rows_noted t) (e.fits.ensures.0 e.if-not-fits.false) k.copy_rows.ensures l.label_rows.ensures c.accepted.ensures
 
 pub read_rows_spec : {M : Type 1} → statement M
 read_rows_spec =

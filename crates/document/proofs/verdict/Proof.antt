@@ -39,9 +39,7 @@ accepted_requires c κs =
 returns_2 : tie.Need-returns-in-Outside
 returns_2 c =
     let c₂ = c.before.before in
-    let c₄ = c₂.before in
-    let c₈ = c₄.before.before.before.before in
-    outside_verdict c₈.if-document-gt-MOST_BYTES.false (rw c₂.in-Outside.is at c₄.note.ensures) c.outside.ensures
+    outside_verdict c.if-document-gt-MOST_BYTES.false (rw c.in-Outside.is at c₂.note.ensures) c.outside.ensures
 
 returns_3 : tie.Need-returns-in-Beyond
 returns_3 c = search rules
@@ -49,9 +47,7 @@ returns_3 c = search rules
 returns_4 : tie.Need-returns-in-Rows
 returns_4 c =
     let c₂ = c.before.before in
-    let c₄ = c₂.before in
-    let c₈ = c₄.before.before.before.before in
-    accepted_verdict c₈.if-document-gt-MOST_BYTES.false (rw c₂.in-Rows.is at c₄.note.ensures) c.accepted.ensures
+    accepted_verdict c.if-document-gt-MOST_BYTES.false (rw c.in-Rows.is at c₂.note.ensures) c.accepted.ensures
 
 pub verdict_spec : {M : Type 1} → statement M
 verdict_spec =

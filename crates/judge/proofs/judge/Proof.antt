@@ -1,10 +1,11 @@
+use native.Mathlib.Omega.{arith}
 use Rattle.judge.specs.Verdict.{long}
 use borrow.Author.Rules.{rules}
 use Rattle.judge.proofs.judge.Statement.{statement}
 use Rattle.judge.proofs.judge.Tie as tie
 
 returns : tie.Need-returns-then-document-gt-MOST_BYTES
-returns c = long c.if-document-gt-MOST_BYTES.true
+returns c = long (omega arith)
 
 table_requires : tie.Need-table-class-requires
 table_requires c κs = search rules

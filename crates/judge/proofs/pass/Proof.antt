@@ -48,7 +48,7 @@ closing c = c.before
 -- WHAT IS KNOWN THERE
 -- the run ends where
 abbrev end : tie.After-next_tag invariant_loop decreases_loop → ℕ
-end t = (ran (counted t)).run-end.result.end
+end t = (ran (counted t)).run_end-text.result.end
 
 -- the document is short
 short : (h : tie.At-loop-names invariant_loop decreases_loop) → length (begun h).args.document.now ≤ 32768
@@ -59,7 +59,7 @@ abbrev does : tie.After-next_tag invariant_loop decreases_loop → Tag → Type 
 does t =
     let w = (begun (head t)).args.document.now in
     let l = (head t).loop-names in
-    Does w (end t + 1) l.inv.o l.inv.f (bytes w l.i (end t - l.i))
+    Does w (end t + 1) l.invariant.o l.invariant.f (bytes w l.i (end t - l.i))
 
 told : (t : tie.After-next_tag invariant_loop decreases_loop) → does t t.next_tag.result
 told t =
@@ -80,15 +80,15 @@ closed_to : (c : tie.In-Closes invariant_loop decreases_loop) → does (closing 
 closed_to c = subst (does (closing c)) c.in-Closes.is (told (closing c))
 
 -- where a tag opens there are not too many
-room : (c : tie.In-Opens invariant_loop decreases_loop) → (head (opening c)).loop.depth < 10922
-room c = let h = head (opening c) in room_open h.loop.inv (ran (counted (opening c))).run-end.ensures (short h) _ (opened_to c).1
+room : (c : tie.In-Opens invariant_loop decreases_loop) → (head (opening c)).loop-names.depth < 10922
+room c = let h = head (opening c) in room_open h.loop-names.invariant (ran (counted (opening c))).run_end-text.ensures (short h) _ (opened_to c).1
 
-may : (c : tie.In-Opens invariant_loop decreases_loop) → ((head (opening c)).loop.kept ≡ 64 → LowNames (head (opening c)).loop.names) × (end (opening c) + 1 < 65536)
-may c = let h = head (opening c) in may_open_lem h.loop.inv (ran (counted (opening c))).run-end.ensures (short h)
+may : (c : tie.In-Opens invariant_loop decreases_loop) → ((head (opening c)).loop-names.kept ≡ 64 → LowNames (head (opening c)).loop-names.names) × (end (opening c) + 1 < 65536)
+may c = let h = head (opening c) in may_open_lem h.loop-names.invariant (ran (counted (opening c))).run_end-text.ensures (short h)
 
 -- where one closes, one is open
-some : (c : tie.In-Closes invariant_loop decreases_loop) → 0 < (head (closing c)).loop.depth
-some c = let h = head (closing c) in some_open h.loop.inv (ran (counted (closing c))).run-end.ensures (short h) (closed_to c).1
+some : (c : tie.In-Closes invariant_loop decreases_loop) → 0 < (head (closing c)).loop-names.depth
+some c = let h = head (closing c) in some_open h.loop-names.invariant (ran (counted (closing c))).run_end-text.ensures (short h) (closed_to c).1
 
 now_few : (t : tie.After-next_tag invariant_loop decreases_loop) → (counted t).more-seen.result.rows ≤ 65537
 now_few t = let m = counted t in bound_now (head t).loop-names.invariant (ran m).run_end-text.ensures (short (head t)) m.more-seen.ensures
@@ -96,7 +96,7 @@ now_few t = let m = counted t in bound_now (head t).loop-names.invariant (ran m)
 -- the turn ends behind where it began
 less : (t : tie.After-next_tag invariant_loop decreases_loop) {e : ℕ} → end t + 1 < e → e ≤ length (begun (head t)).args.document.now →
     length (begun (head t)).args.document.now - e < length (begun (head t)).args.document.now - (head t).loop-names.i
-less t h k = omega (arith, h, k, (ran (counted t)).run-end.ensures.span.passed.from)
+less t h k = omega (arith, h, k, (ran (counted t)).run_end-text.ensures.span.passed.from)
 
 -- THE NEEDS
 loop_holds : tie.Need-loop-names-init invariant_loop decreases_loop
@@ -126,17 +126,17 @@ returns c =
     let m = b.before in
     let r = ran m in
     let h = r.before in
-    ends h.loop.inv r.run_end-text.ensures (short h) m.more-seen.ensures (λ e. c.if-byte_at-ne60.true (b.byte_at.ensures ∙ e)) c.last.ensures
+    ends h.loop-names.invariant r.run_end-text.ensures (short h) m.more-seen.ensures (λ e. c.if-byte_at-ne60.true (b.byte_at.ensures ∙ e)) c.last.ensures
 
 innermost_requires : tie.Need-innermost-name-requires invariant_loop decreases_loop
-innermost_requires c κs = let k = (ran c.before.before.before).loop-names.inv.keeping in (k.names_long, k.few)
+innermost_requires c κs = let k = (ran c.before.before.before).loop-names.invariant.keeping in (k.names_long, k.few)
 
 next_tag_requires : tie.Need-next_tag-requires invariant_loop decreases_loop
 next_tag_requires c κs =
     let l = c.before.before in
     let r = ran l.before.before in
     let h = r.before in
-    ((begun h).pre.0, there (begun h).args.document.now r.run_end-text.result.end 59 (sym l.byte_at.ensures ∙ l.if-byte_at-ne60.false), c.innermost-name.ensures.0)
+    ((begun h).requires.0, there (begun h).args.document.now r.run_end-text.result.end 59 (sym l.byte_at.ensures ∙ l.if-byte_at-ne60.false), c.innermost-name.ensures.0)
 
 enum_known_place : tie.Need-enum_known-place invariant_loop decreases_loop
 enum_known_place c = search rules
@@ -156,7 +156,7 @@ add_open c = omega (arith, may c.before.before)
 open_requires : tie.Need-open-kept-requires invariant_loop decreases_loop
 open_requires c κs =
     let o = c.before.before in
-    ((head (opening o)).loop.inv.keeping, (may o).0, omega (arith, room o), (may o).1)
+    ((head (opening o)).loop-names.invariant.keeping, (may o).0, omega (arith, room o), (may o).1)
 
 add_depth : tie.Need-overflow_add-depth-in-Opens invariant_loop decreases_loop
 add_depth c = omega (arith, room c.before.before.before)
@@ -172,13 +172,13 @@ loop_again c =
     let o = c.before.before.before.before in
     let m = counted (opening o) in
     let h = head (opening o) in
-    opens h.loop.inv (ran m).run_end-text.ensures (short h) m.more.ensures _ (opened_to o).0 (opened_to o).1 c.more-seen-in-Opens.ensures c.open-kept.ensures
+    opens h.loop-names.invariant (ran m).run_end-text.ensures (short h) m.more-seen.ensures _ (opened_to o).0 (opened_to o).1 c.more-seen-in-Opens.ensures c.open-kept.ensures
 
 enum_known_next_2 : tie.Need-enum_known-next-in-Empty-1 invariant_loop decreases_loop
 enum_known_next_2 c = search rules
 
 add_more_2 : tie.Need-overflow_add-depth-in-Empty invariant_loop decreases_loop
-add_more_2 c = let h = head (emptying c) in omega (arith, room_close h.loop.inv (ran (counted (emptying c))).run-end.ensures (short h))
+add_more_2 c = let h = head (emptying c) in omega (arith, room_close h.loop-names.invariant (ran (counted (emptying c))).run_end-text.ensures (short h))
 
 more_requires_3 : tie.Need-more-seen-requires-in-Empty invariant_loop decreases_loop
 more_requires_3 c κs = (now_few (emptying c), omega arith)
@@ -191,7 +191,7 @@ loop_again_2 c =
     let o = c.before in
     let m = counted (emptying o) in
     let h = head (emptying o) in
-    empties h.loop.inv (ran m).run_end-text.ensures (short h) m.more.ensures _ (emptied_to o).0 (emptied_to o).1 c.more-seen-in-Empty.ensures
+    empties h.loop-names.invariant (ran m).run_end-text.ensures (short h) m.more-seen.ensures _ (emptied_to o).0 (emptied_to o).1 c.more-seen-in-Empty.ensures
 
 enum_known_next_3 : tie.Need-enum_known-next-in-Closes-1 invariant_loop decreases_loop
 enum_known_next_3 c = search rules
@@ -203,7 +203,7 @@ close_requires : tie.Need-close-kept-requires invariant_loop decreases_loop
 close_requires c κs =
     let o = c.before.before in
     let h = head (closing o) in
-    may_close h.loop.inv (ran (counted (closing o))).run-end.ensures (short h) (closed_to o).1
+    may_close h.loop-names.invariant (ran (counted (closing o))).run_end-text.ensures (short h) (closed_to o).1
 
 loop_less_3 : tie.Need-loop-names-smaller invariant_loop decreases_loop
 loop_less_3 c = let o = c.before.before.before in less (closing o) (closed_to o).0 (closed_within _ _ _ _ _ (closed_to o).1)
@@ -213,7 +213,7 @@ loop_again_3 c =
     let o = c.before.before.before in
     let m = counted (closing o) in
     let h = head (closing o) in
-    closes h.loop.inv (ran m).run_end-text.ensures (short h) m.more.ensures _ (closed_to o).0 (closed_to o).1 c.close-kept.ensures
+    closes h.loop-names.invariant (ran m).run_end-text.ensures (short h) m.more-seen.ensures _ (closed_to o).0 (closed_to o).1 c.close-kept.ensures
 
 pub pass_spec : {M : Type 1} → statement M
 pass_spec =

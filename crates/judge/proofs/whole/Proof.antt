@@ -1,3 +1,4 @@
+use native.Mathlib.Omega.{arith}
 use Rattle.judge.specs.Tags.{too_deep, too_many, done}
 use borrow.Author.Rules.{rules}
 use Rattle.judge.proofs.whole.Statement.{statement}
@@ -7,7 +8,7 @@ returns : tie.Need-returns-then-deep-gt-DEEPEST
 returns c = too_deep c.if-deep-gt-DEEPEST.true
 
 returns_2 : tie.Need-returns-then-rows-gt-MOST_ROWS
-returns_2 c = too_many c.if-deep-gt-DEEPEST.false c.if-rows-gt-MOST_ROWS.true
+returns_2 c = too_many c.if-deep-gt-DEEPEST.false (omega arith)
 
 cast_t4 : tie.Need-overflow_cast-result
 cast_t4 c = search rules

@@ -34,11 +34,11 @@ Named t i = let a = t.args in Passed (name_at a.document.now) a.document.now a.f
 one : (c : tie.Else-class_of-lt-IN_NAME invariant_loop decreases_loop) → Named (turn c) ((turn c).loop-i.i + 1)
 one c = passed_more (turn c).loop-i.invariant (omega (arith, (turn c).loop-i-test.true)) (name_yes _ _ c.class_of.ensures (omega (arith, c.if-class_of-lt-IN_NAME.false)))
 
-two : (c : tie.Else-class_of-lt-IN_NAME-2 invariant_loop decreases_loop) → Named (turn (first c)) ((turn (first c)).before.loop.i + 2)
-two c = passed_next (turn (first c)).before.loop.i 1 (one (first c)) (omega (arith, (turn (first c)).loop-test.taken)) (name_yes _ _ c.class_of-in-loop-i.ensures (omega (arith, c.if-class_of-lt-IN_NAME-2.false)))
+two : (c : tie.Else-class_of-lt-IN_NAME-2 invariant_loop decreases_loop) → Named (turn (first c)) ((turn (first c)).loop-i.i + 2)
+two c = passed_next (turn (first c)).loop-i.i 1 (one (first c)) (omega (arith, (turn (first c)).loop-i-test.true)) (name_yes _ _ c.class_of-in-loop-i.ensures (omega (arith, c.if-class_of-lt-IN_NAME-2.false)))
 
-three : (c : tie.Else-class_of-lt-IN_NAME-3 invariant_loop decreases_loop) → Named (turn (first (second c))) ((turn (first (second c))).before.loop.i + 3)
-three c = passed_next (turn (first (second c))).before.loop.i 2 (two (second c)) (omega (arith, (turn (first (second c))).loop-test.taken)) (name_yes _ _ c.class_of-in-loop-i-2.ensures (omega (arith, c.if-class_of-lt-IN_NAME-3.false)))
+three : (c : tie.Else-class_of-lt-IN_NAME-3 invariant_loop decreases_loop) → Named (turn (first (second c))) ((turn (first (second c))).loop-i.i + 3)
+three c = passed_next (turn (first (second c))).loop-i.i 2 (two (second c)) (omega (arith, (turn (first (second c))).loop-i-test.true)) (name_yes _ _ c.class_of-in-loop-i-2.ensures (omega (arith, c.if-class_of-lt-IN_NAME-3.false)))
 
 loop_holds : tie.Need-loop-i-init invariant_loop decreases_loop
 loop_holds c = passed_none _ _ _ c.requires.1
@@ -109,7 +109,7 @@ loop_less c = search rules
 loop_again : tie.Need-loop-i-preserved invariant_loop decreases_loop
 loop_again c =
     let t = turn (first (second (third c))) in
-    passed_next t.before.loop.i 3 (three (third c)) (omega (arith, t.loop-test.taken)) (name_yes _ _ c.class_of-in-loop-i-3.ensures (omega (arith, c.if-class_of-lt-IN_NAME-4.false)))
+    passed_next t.loop-i.i 3 (three (third c)) (omega (arith, t.loop-i-test.true)) (name_yes _ _ c.class_of-in-loop-i-3.ensures (omega (arith, c.if-class_of-lt-IN_NAME-4.false)))
 
 name_end_requires : tie.Need-name_end-requires invariant_loop decreases_loop
 name_end_requires c κs = search rules

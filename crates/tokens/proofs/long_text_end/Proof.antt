@@ -36,7 +36,7 @@ returns : tie.Need-returns-then-byte_at-eq60 invariant_loop decreases_loop
 returns c = stops (passed c.before.before) (less_stops _ _ _ (sym c.byte_at.ensures ∙ c.if-byte_at-eq60.true))
 
 add_least : tie.Need-overflow_add-plain invariant_loop decreases_loop
-add_least c = omega (arith, (passed c.before.before).within, (begun c.before.before).good)
+add_least c = omega (arith, (passed c.before.before).within, (begun c.before.before).well_formed)
 
 least_requires : tie.Need-least-near-requires invariant_loop decreases_loop
 least_requires c κs = search rules

@@ -1,7 +1,6 @@
 use Prim.Native.Nat.{◌-◌}
 use native.Mathlib.Omega.{arith}
 use lib.ListN.{length}
-use borrow.Author.Tests.{not-false}
 use Rattle.tokens.specs.Tokens.{Passed, plain_at}
 use Rattle.tokens.proofs.Spans.{passed_none, passed_block}
 use borrow.Author.Rules.{rules}

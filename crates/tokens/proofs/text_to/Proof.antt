@@ -1,7 +1,6 @@
 use Prim.Native.Nat.{◌-◌, ◌≤◌}
 use mathlib.Core.Path.{sym, ◌∙◌}
 use native.Mathlib.Omega.{arith}
-use borrow.Author.Tests.{not-true, not-false}
 use Rattle.tokens.specs.Tokens.{Passed, is_text_at}
 use Rattle.tokens.proofs.Spans.{passed_more, stops_to, at_limit}
 use borrow.Author.Rules.{rules}
@@ -21,7 +20,7 @@ text_at_requires : tie.Need-text_at-requires invariant_loop decreases_loop
 text_at_requires c κs = (c.requires.0, c.loop-i.invariant.0.from, omega (arith, c.loop-i-test.true, c.requires.3))
 
 returns : tie.Need-returns-then-not-text_at invariant_loop decreases_loop
-returns c = stops_to c.loop-i.invariant.0 c.loop-i.invariant.1 (sym c.text_at.ensures ∙ not-true _ c.if-not-text_at.true)
+returns c = stops_to c.loop-i.invariant.0 c.loop-i.invariant.1 (sym c.text_at.ensures ∙ c.if-not-text_at.true)
 
 add_i : tie.Need-overflow_add-i invariant_loop decreases_loop
 add_i c = search rules
@@ -33,7 +32,7 @@ loop_again : tie.Need-loop-i-preserved invariant_loop decreases_loop
 loop_again c =
     let c₂ = c.before.before in
     let c₃ = c₂.before in
-    (passed_more c₃.loop-i.invariant.0 (omega (arith, c₂.loop-i-test.true, c₃.requires.3)) (sym c.text_at.ensures ∙ not-false _ c.if-not-text_at.false), omega arith)
+    (passed_more c₃.loop-i.invariant.0 (omega (arith, c₂.loop-i-test.true, c₃.requires.3)) (sym c.text_at.ensures ∙ c.if-not-text_at.false), omega arith)
 
 returns_2 : tie.Need-returns invariant_loop decreases_loop
 returns_2 c = at_limit c.loop-i.invariant.0 c.loop-i.invariant.1 c.loop-i-test.false

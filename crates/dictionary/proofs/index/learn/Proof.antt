@@ -23,14 +23,14 @@ returns c = λ known m. numbered_old m (c.seek_name-place.ensures known m) c.if-
 insert_requires : tie.Need-insert-requires
 insert_requires c κs =
     let a = c.args in
-    let low : c.before.before.before.before.bucket-of.result < 2048 = rw c.before.before.before.before.bucket-of.ensures (bucket_below (range a.dictionary.now a.start a.end)) in
+    let low : c.bucket_of-bucket.result < 2048 = rw c.bucket_of-bucket.ensures (bucket_below (range a.dictionary.now a.start a.end)) in
     (omega (arith, c.requires.1.room), omega (arith, c.requires.1.countable), low, omega (arith, c.requires.1), omega (arith, c.requires.1.short))
 
 same_length_2 : tie.Need-shape_of-index
 same_length_2 c = search rules
 
 returns_2 : tie.Need-returns
-returns_2 c = λ known m. numbered_new m (c.seek_name-place.ensures known m) c.if-place-count.false c.before.before.before.before.before.before.before.bucket-of.ensures c.insert.ensures
+returns_2 c = λ known m. numbered_new m (c.seek_name-place.ensures known m) c.if-place-count.false c.bucket_of-bucket.ensures c.insert.ensures
 
 pub learn_spec : {M : Type 1} → statement M
 learn_spec =

@@ -29,7 +29,7 @@ check_requires : tie.Need-check-checked-requires
 check_requires c κs = search rules
 
 name_part_requires : tie.Need-name_part-requires
-name_part_requires c κs = checked_names c.check-checked.ensures (half c.wide-place.result) (omega arith)
+name_part_requires c κs = checked_names c.check-checked.ensures _ (omega arith)
 
 returns_4 : tie.Need-returns-then-place-names
 returns_4 c = name_answer c.if-label-row.false c.if-start-row.false c.if-length-row.false (ap half c.wide-place.ensures.0) c.check-checked.ensures (omega arith) c.name_part.ensures

@@ -50,16 +50,16 @@ done : (c : tie.After-slice_known-in-loop-row-1 invariant_loop decreases_loop) {
     let n = numbers c in
     let a = (begun (head n)).args in
     let l = (head n).loop-row in
-    Numbered a.dictionary.now a.document.now a.names l.index c.before.before.number_of_lem.new.1.1.1.0 (known_after known (take l.row ws))
-    (range a.document.now n.number-from.result (n.number-from.result + n.number.result)) c.before.before.number_of_lem.result
-done c m = c.before.before.number_of_lem.ensures _ (asked (numbers c) m)
+    Numbered a.dictionary.now a.document.now a.names l.index c.number_of-found.new.index (known_after known (take l.row ws))
+    (range a.document.now n.number-from.result (n.number-from.result + n.number.result)) c.number_of-found.result
+done c m = c.number_of-found.ensures _ (asked (numbers c) m)
 
-few : (c : tie.After-slice_known-in-loop-row-1 invariant_loop decreases_loop) → (c.before.before.number_of_lem.result ≤ (head (numbers c)).loop.count) × ((head (numbers c)).loop.count ≤ 3071)
+few : (c : tie.After-slice_known-in-loop-row-1 invariant_loop decreases_loop) → (c.number_of-found.result ≤ (head (numbers c)).loop-row.count) × ((head (numbers c)).loop-row.count ≤ 3071)
 few c =
     let n = numbers c in
-    let m = (begun (head n)).pre.3 in
-    let k = (head n).loop-row.inv _ _ _ m in
-    let here = n.loop-row-test.taken in
+    let m = (begun (head n)).requires.3 in
+    let k = (head n).loop-row.invariant _ _ _ m in
+    let here = n.loop-row-test.true in
     (found_few m k here n.number-from.ensures.0 (end n) (done c m), count_few m k here n.number-from.ensures.0 (end n) (done c m))
 
 -- THE NEEDS
@@ -67,62 +67,62 @@ loop_holds : tie.Need-loop-row-init invariant_loop decreases_loop
 loop_holds c = λ known sorts ws m. labels_begin m
 
 number_requires : tie.Need-number-from-requires invariant_loop decreases_loop
-number_requires c κs = omega (arith, (begun c.before).pre.3.few_rows)
+number_requires c κs = omega (arith, (begun c.before).requires.3.few_rows)
 
 number_requires_2 : tie.Need-number-requires invariant_loop decreases_loop
-number_requires_2 c κs = omega (arith, (begun c.before.before).pre.3.few_rows, c.loop-row-test.true)
+number_requires_2 c κs = omega (arith, (begun c.before.before).requires.3.few_rows, c.loop-row-test.true)
 
 add_to : tie.Need-overflow_add-to invariant_loop decreases_loop
 add_to c =
-    let m = (begun (head c)).pre.3 in
+    let m = (begun (head c)).requires.3 in
     omega (arith, from_short m ((head c).loop-row.invariant _ _ _ m) c.loop-row-test.true c.number-from.ensures.0 (end c), c.number-from.ensures.0, c.number.ensures.0)
 
 number_of_requires : tie.Need-number_of-found-requires invariant_loop decreases_loop
-number_of_requires c κs = (_, asked c.before (begun (head c.before)).pre.3)
+number_of_requires c κs = (_, asked c.before (begun (head c.before)).requires.3)
 
 label_of_requires : tie.Need-label_of-requires invariant_loop decreases_loop
 label_of_requires c κs =
     let n = numbers c in
-    let m = (begun (head n)).pre.3 in
-    let k = (head n).loop-row.inv _ _ _ m in
-    let here = n.loop-row-test.taken in (
+    let m = (begun (head n)).requires.3 in
+    let k = (head n).loop-row.invariant _ _ _ m in
+    let here = n.loop-row-test.true in (
       (_, its_sort m k here n.number-from.ensures.0 (end n)),
       from_inside m k here n.number-from.ensures.0 (end n),
       omega (arith, (few c).0, (few c).1),
     )
 
 mul_label : tie.Need-offset_bounds-label-row invariant_loop decreases_loop
-mul_label c = omega (arith, (begun (head (numbers c.before))).pre.3.few_rows)
+mul_label c = omega (arith, (begun (head (numbers c.before))).requires.3.few_rows)
 
 slice_write_label : tie.Need-bounds-label-row invariant_loop decreases_loop
 slice_write_label c =
     let n = numbers c.before in
-    let m = (begun (head n)).pre.3 in
-    label_room_lem m ((head n).loop-row.inv _ _ _ m) n.loop-row-test.taken n.number-from.ensures.0 (end n) (done c.before m)
+    let m = (begun (head n)).requires.3 in
+    label_room_lem m ((head n).loop-row.invariant _ _ _ m) n.loop-row-test.true n.number-from.ensures.0 (end n) (done c.before m)
 
 known_requires : tie.Need-known-count-requires invariant_loop decreases_loop
 known_requires c κs = omega (arith, (few c.before).1)
 
 add_row : tie.Need-overflow_add-row invariant_loop decreases_loop
-add_row c = omega (arith, (begun (head (numbers c.before.before))).pre.3.few_rows)
+add_row c = omega (arith, (begun (head (numbers c.before.before))).requires.3.few_rows)
 
 loop_less : tie.Need-loop-row-smaller invariant_loop decreases_loop
-loop_less c = omega (arith, (numbers c.before.before).loop-row-test.taken)
+loop_less c = omega (arith, (numbers c.before.before).loop-row-test.true)
 
 loop_again : tie.Need-loop-row-preserved invariant_loop decreases_loop
 loop_again c =
     let n = numbers c.before.before in
     λ known sorts ws m.
-    let k = (head n).loop-row.inv known sorts ws m in
-    let here = n.loop-row-test.taken in
+    let k = (head n).loop-row.invariant known sorts ws m in
+    let here = n.loop-row-test.true in
     labels_next m k here n.number-from.ensures.0 (end n) (done c.before.before m)
     (c.label_of.ensures _ (its_sort m k here n.number-from.ensures.0 (end n))) c.known-count.ensures
 
 same_length : tie.Need-shape_of-index invariant_loop decreases_loop
-same_length c = (c.loop-row.invariant _ _ _ (begun c.before).pre.3).kept
+same_length c = (c.loop-row.invariant _ _ _ (begun c.before).requires.3).kept
 
 same_length_2 : tie.Need-shape_of-label invariant_loop decreases_loop
-same_length_2 c = (c.loop-row.invariant _ _ _ (begun c.before).pre.3).labelled.long
+same_length_2 c = (c.loop-row.invariant _ _ _ (begun c.before).requires.3).labelled.long
 
 returns : tie.Need-returns invariant_loop decreases_loop
 returns c = λ known sorts ws m. labels_end m (c.loop-row.invariant known sorts ws m) c.loop-row-test.false

@@ -62,7 +62,7 @@ add_inside : tie.Need-overflow_add-inside invariant_loop decreases_loop
 add_inside c =
     let h = (ending c).before in
     let s = some h in
-    omega (arith, (h.loop.inv s.0 s.1 s.2).room, (before_end (an_end c s.0 s.1 s.2)).1)
+    omega (arith, (h.loop-less.invariant s.0 s.1 s.2).room, (before_end (an_end c s.0 s.1 s.2)).1)
 
 loop_less : tie.Need-loop-less-smaller-in-End invariant_loop decreases_loop
 loop_less c = let s = some (ending c).before in (before_end (an_end c s.0 s.1 s.2)).1
@@ -83,7 +83,7 @@ enum_known_less_3 : tie.Need-enum_known-less-in-Start-1 invariant_loop decreases
 enum_known_less_3 c = search rules
 
 returns : tie.Need-returns-then-inside-eq0 invariant_loop decreases_loop
-returns c = λ p o now. pass_found ((starting c.before).loop-less.inv p o now) c.if-inside-eq0.true (a_start c.before p o now)
+returns c = λ p o now. pass_found ((starting c.before).loop-less.invariant p o now) c.if-inside-eq0.true (a_start c.before p o now)
 
 sub_inside : tie.Need-overflow_sub-inside invariant_loop decreases_loop
 sub_inside c = search rules
@@ -92,7 +92,7 @@ loop_less_3 : tie.Need-loop-less-smaller invariant_loop decreases_loop
 loop_less_3 c = let s = some (starting c.before).before in before_start (a_start c.before s.0 s.1 s.2)
 
 loop_again_3 : tie.Need-loop-less-preserved invariant_loop decreases_loop
-loop_again_3 c = λ p o now. pass_start ((starting c.before).loop-less.inv p o now) c.if-inside-eq0.false (a_start c.before p o now)
+loop_again_3 c = λ p o now. pass_start ((starting c.before).loop-less.invariant p o now) c.if-inside-eq0.false (a_start c.before p o now)
 
 pub innermost_before_spec : {M : Type 1} → statement M
 innermost_before_spec =

@@ -54,19 +54,19 @@ module _ (c : tie.After-least) where
   top = left + c.least.result
 
   known : reaches begun.args.levels.now left < begun.args.depth
-  known = omega (arith, close_reaches begun.pre, c.before.before.before.before.reach.ensures, c.before.before.before.if1.false)
+  known = omega (arith, close_reaches begun.requires, c.reach-known.ensures, c.if-known-depth.false)
 
   more : left < top
-  more = omega (arith, known, c.before.before.before.before.reach.ensures, c.least.ensures, begun.pre.keeping.few, close_some begun.pre)
+  more = omega (arith, known, c.reach-known.ensures, c.least.ensures, begun.requires.keeping.few, close_some begun.requires)
 
   low : top ≤ 64
-  low = omega (arith, c.least.ensures, begun.pre.keeping.few)
+  low = omega (arith, c.least.ensures, begun.requires.keeping.few)
 
   room : reaches begun.args.levels.now left + top ≤ begun.args.depth + left
-  room = omega (arith, known, c.before.before.before.before.reach.ensures, c.least.ensures)
+  room = omega (arith, known, c.reach-known.ensures, c.least.ensures)
 
-  from_is : c.before.short.result - 1 ≡ get_or begun.args.names.now left 0 - 1
-  from_is = ap (λ (k : ℕ). k - 1) c.before.short.ensures.0
+  from_is : c.short-from.result - 1 ≡ get_or begun.args.names.now left 0 - 1
+  from_is = ap (λ (k : ℕ). k - 1) c.short-from.ensures.0
 
 add_top : tie.Need-overflow_add-top
 add_top c = omega (arith, low c)

@@ -34,10 +34,10 @@ sub_k : tie.Need-overflow_sub-k invariant_loop decreases_loop
 sub_k c = search rules
 
 add_names : tie.Need-overflow_add-names invariant_loop decreases_loop
-add_names c = omega (arith, met c)
+add_names c = omega (arith, met c, c.requires.near)
 
 cast_names : tie.Need-overflow_cast-names invariant_loop decreases_loop
-cast_names c = omega (arith, met c)
+cast_names c = omega (arith, met c, c.requires.near)
 
 mul_names : tie.Need-offset_bounds-names-k invariant_loop decreases_loop
 mul_names c = search rules

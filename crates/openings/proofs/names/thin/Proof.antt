@@ -15,7 +15,7 @@ loop_holds : tie.Need-loop-j-init invariant_loop decreases_loop
 loop_holds c = thin_begins c.requires.0 c.requires.1
 
 stays_requires : tie.Need-stays-stay-requires invariant_loop decreases_loop
-stays_requires c κs = let h = c.before.before.loop in (h.invariant.keeping.names_long, h.invariant.places, c.before.loop-test.true, h.invariant.low)
+stays_requires c κs = let h = c.loop-j in (h.invariant.keeping.names_long, h.invariant.places, c.loop-j-test.true, h.invariant.low)
 
 mul_names : tie.Need-offset_bounds-names-j invariant_loop decreases_loop
 mul_names c = search rules

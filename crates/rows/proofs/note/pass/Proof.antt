@@ -40,23 +40,23 @@ closing c = c.before
 -- WHAT IS KNOWN THERE
 -- the three lists behind the turn
 abbrev starts : tie.After-read_turn invariant_loop decreases_loop → List ℕ
-starts t = t.read_turn.new.1.1.0
+starts t = t.read_turn.new.starts
 
 abbrev lengths : tie.After-read_turn invariant_loop decreases_loop → List ℕ
-lengths t = t.read_turn.new.1.1.1.0
+lengths t = t.read_turn.new.lengths
 
 abbrev sizes : tie.After-read_turn invariant_loop decreases_loop → List ℕ
-sizes t = t.read_turn.new.1.1.1.1.0
+sizes t = t.read_turn.new.sizes
 
 -- what the turn did
 abbrev done : tie.After-read_turn invariant_loop decreases_loop → Turn → Type 0
 done t =
     let l = (head t).loop-answer in
-    TurnDone (begun (head t)).args.document.now l.starts l.lengths l.sizes l.depth l.row l.i l.inv.walked.o l.inv.walked.f
+    TurnDone (begun (head t)).args.document.now l.starts l.lengths l.sizes l.depth l.row l.i l.invariant.walked.o l.invariant.walked.f
     (starts t) (lengths t) (sizes t)
 
 told : (t : tie.After-read_turn invariant_loop decreases_loop) → done t t.read_turn.result
-told t = t.read_turn.ensures _ _ (may_turn (head t).loop-answer.invariant (begun (head t)).pre.1)
+told t = t.read_turn.ensures _ _ (may_turn (head t).loop-answer.invariant (begun (head t)).requires.1)
 
 -- the turn ends behind where it began
 less : (t : tie.After-read_turn invariant_loop decreases_loop) {r : ℕ} → Behind (begun (head t)).args.document.now (head t).loop-answer.i r →
@@ -65,18 +65,18 @@ less t h = omega (arith, h.more, h.within)
 
 opened_to : (c : tie.In-Opens invariant_loop decreases_loop) →
     let t = opening c in
-    Opened (head t).loop-answer.inv (starts t) (lengths t) (sizes t) c.in-Opens.element c.in-Opens.next
-opened_to c = turn_opens (head (opening c)).loop.inv (subst (done (opening c)) c.in-Opens.is (told (opening c)))
+    Opened (head t).loop-answer.invariant (starts t) (lengths t) (sizes t) c.in-Opens.element c.in-Opens.next
+opened_to c = turn_opens (head (opening c)).loop-answer.invariant (subst (done (opening c)) c.in-Opens.is (told (opening c)))
 
 emptied_to : (c : tie.In-Empty invariant_loop decreases_loop) →
     let t = emptying c in
-    Emptied (head t).loop-answer.inv (starts t) (lengths t) (sizes t) c.in-Empty.element c.in-Empty.next
-emptied_to c = turn_empties (head (emptying c)).loop.inv (subst (done (emptying c)) c.in-Empty.is (told (emptying c)))
+    Emptied (head t).loop-answer.invariant (starts t) (lengths t) (sizes t) c.in-Empty.element c.in-Empty.next
+emptied_to c = turn_empties (head (emptying c)).loop-answer.invariant (subst (done (emptying c)) c.in-Empty.is (told (emptying c)))
 
 closed_to : (c : tie.In-Closes invariant_loop decreases_loop) →
     let t = closing c in
-    Shut (head t).loop-answer.inv (starts t) (lengths t) (sizes t) c.in-Closes.behind c.in-Closes.next
-closed_to c = turn_closes (head (closing c)).loop.inv (subst (done (closing c)) c.in-Closes.is (told (closing c)))
+    Shut (head t).loop-answer.invariant (starts t) (lengths t) (sizes t) c.in-Closes.behind c.in-Closes.next
+closed_to c = turn_closes (head (closing c)).loop-answer.invariant (subst (done (closing c)) c.in-Closes.is (told (closing c)))
 
 -- THE NEEDS
 loop_holds : tie.Need-loop-answer-init invariant_loop decreases_loop
@@ -104,7 +104,7 @@ slice_aggregate_push c = search rules
 push_requires : tie.Need-push-requires invariant_loop decreases_loop
 push_requires c κs =
     let o = opened_to c.before in
-    (omega (arith, o.shallow, (head (opening c.before)).loop.inv.room), omega (arith, o.low))
+    (omega (arith, o.shallow, (head (opening c.before)).loop-answer.invariant.room), omega (arith, o.low))
 
 add_depth : tie.Need-overflow_add-depth invariant_loop decreases_loop
 add_depth c = omega (arith, (opened_to c.before.before.before).shallow)
@@ -146,7 +146,7 @@ pop_requires : tie.Need-pop-top-requires invariant_loop decreases_loop
 pop_requires c κs =
     let k = c.before.before.before in
     let o = closed_to k in
-    omega (arith, o.some, o.shallow, (head (closing k)).loop.inv.room)
+    omega (arith, o.some, o.shallow, (head (closing k)).loop-answer.invariant.room)
 
 loop_less_3 : tie.Need-loop-answer-smaller invariant_loop decreases_loop
 loop_less_3 c = let o = c.before.before.before.before in less (closing o) (closed_to o).behind

@@ -34,7 +34,7 @@ returns_2 c =
     let less = sym b.byte_at.ensures ∙ c.if-byte_at-eq60.true in
     subst (λ (n : ℕ). RunDone s.args.document.now s.args.starts.now s.args.lengths.now s.args.sizes.now s.args.depth s.args.row s.args.i s.args.starts.now s.args.lengths.now s.args.sizes.now (Tag n s.args.i))
     (add-zero s.args.row)
-    (to_tag b.if-row-gt-MOST_ROWS.false (empty_run s.args.depth s.args.i s.pre.2 less) (passed_over refl) less (omega (arith, s.pre.3)))
+    (to_tag b.if-row-gt-MOST_ROWS.false (empty_run s.args.depth s.args.i s.requires.2 less) (passed_over refl) less (omega (arith, s.requires.3)))
 
 run_requires : tie.Need-run-text-requires
 run_requires c κs = search rules
@@ -46,10 +46,10 @@ put_requires : tie.Need-put-requires
 put_requires c κs =
     let r = c.before.before.before in
     let s = begun (few r) in
-    (omega (arith, (few r).if-row-gt-MOST_ROWS.false), omega (arith, s.pre.1, s.pre.2), omega (arith, r.run-text.ensures.span.passed.within, s.pre.1))
+    (omega (arith, (few r).if-row-gt-MOST_ROWS.false), omega (arith, s.requires.1, s.requires.2), omega (arith, r.run-text.ensures.span.passed.within, s.requires.1))
 
 add_row : tie.Need-overflow_add-row
-add_row c = omega (arith, (few (ran c)).if1.false, (ran c).run-text.ensures.few)
+add_row c = omega (arith, (few (ran c)).if-row-gt-MOST_ROWS.false, (ran c).run-text.ensures.few)
 
 byte_at_requires_2 : tie.Need-byte_at-requires-2
 byte_at_requires_2 c κs = search rules
@@ -61,22 +61,16 @@ returns_3 : tie.Need-returns-then-byte_at-ne60
 returns_3 c =
     let b = c.before.before in
     let r = ran b.before in
-    last_run (few r).if-row-gt-MOST_ROWS.left r.run-text.ensures (noted b.put.ensures) (λ e. c.if-byte_at-ne60.true (b.byte_at-2.ensures ∙ e)) c.last.ensures
+    last_run (few r).if-row-gt-MOST_ROWS.false r.run-text.ensures (noted b.put.ensures) (λ e. c.if-byte_at-ne60.true (b.byte_at-2.ensures ∙ e)) c.last.ensures
 
 add_if4 : tie.Need-overflow_add-depth
 add_if4 c = let r = ran c.before.before in omega (arith, (begun (few r)).requires.3, r.run-text.ensures.few)
-
-returns_4 : tie.Need-returns-then-depth-leaves-gt-DEEPEST
-returns_4 c =
-    let b = c.before.before in
-    let r = ran b.before in
-    deep_text (few r).if-row-gt-MOST_ROWS.left r.run-text.ensures (noted b.put.ensures) (sym b.byte_at-2.ensures ∙ c.if-byte_at-ne60.false) c.if-depth-leaves-gt-DEEPEST.true
 
 returns_5 : tie.Need-returns
 returns_5 c =
     let b = c.before.before in
     let r = ran b.before in
-    to_tag (few r).if-row-gt-MOST_ROWS.left r.run-text.ensures (noted b.put.ensures) (sym b.byte_at-2.ensures ∙ c.if-byte_at-ne60.false) c.if-depth-leaves-gt-DEEPEST.false
+    to_tag (few r).if-row-gt-MOST_ROWS.false r.run-text.ensures (noted b.put.ensures) (sym b.byte_at-2.ensures ∙ c.if-byte_at-ne60.false) (omega arith)
 
 pub read_run_spec : {M : Type 1} → statement M
 read_run_spec =
@@ -93,5 +87,5 @@ read_run_spec =
     last_requires
     returns_3
     add_if4
-    returns_4
+    (λ c. deep_text c.if-row-gt-MOST_ROWS.false c.run-text.ensures (noted c.put.ensures) (sym c.byte_at-2.ensures ∙ c.if-byte_at-ne60.false) (omega arith))
     returns_5)

@@ -15,7 +15,7 @@ use Rattle.rows.proofs.note.read_tag.Tie as tie
 
 -- THE PLACES: back from the tag to the function's start, and from the arms to the tag
 abbrev begun : tie.After-next_tag → tie.Start
-begun t = t.before.before.before.before.before.before
+begun t = t.before.before.before.before
 
 abbrev opening : tie.In-Opens → tie.After-next_tag
 opening c = c.before
@@ -34,7 +34,7 @@ told : (t : tie.After-next_tag) {o : List Open} {f : Content} {u : Bytes} → Ma
 told t {o} {f} {u} h =
     let a = (begun t).args in
     t.next_tag.ensures o f u
-    (subst (λ n. Tagging a.document.now n a.depth a.row a.at o f u) (sym t.before.before.before.number.ensures.0) h.tagging)
+    (subst (λ n. Tagging a.document.now n a.depth a.row a.at o f u) (sym t.number-name.ensures.0) h.tagging)
 
 opened_to : (c : tie.In-Opens) {o : List Open} {f : Content} {u : Bytes} → May (begun (opening c)) o f u →
     does (opening c) o f u (Opens c.in-Opens.end c.in-Opens.next)
@@ -53,13 +53,11 @@ number_requires_2 c κs = c.requires.1.3.low
 
 next_tag_requires : tie.Need-next_tag-requires
 next_tag_requires c κs =
-    let n = c.before.before in
-    let s = n.before.before.before in
-    let h = s.requires.1.3 in (
-      s.requires.0,
-      there s.args.document.now s.args.at 59 h.tagging.less,
-      n.number.ensures.1,
-      λ d. rw (n.number.ensures.0, c.number-length.ensures.0) (h.named d),
+    let h = c.requires.1.3 in (
+      c.requires.0,
+      there c.args.document.now c.args.at 59 h.tagging.less,
+      c.number-name.ensures.1,
+      λ d. rw (c.number-name.ensures.0, c.number-length.ensures.0) (h.named d),
     )
 
 enum_known_place : tie.Need-enum_known-place

@@ -21,8 +21,8 @@ tagging c = c.before
 abbrev done : tie.After-read_run → Ran → Type 0
 done r =
     let a = (begun r).args in
-    let l = r.read_run.new.1.1 in
-    RunDone a.document.now a.starts.now a.lengths.now a.sizes.now a.depth a.row a.i l.0 l.1.0 l.1.1.0
+    let l = r.read_run.new in
+    RunDone a.document.now a.starts.now a.lengths.now a.sizes.now a.depth a.row a.i l.starts l.lengths l.sizes
 
 to_tag : (c : tie.In-Tag) → done (tagging c) (Tag c.in-Tag.behind c.in-Tag.at)
 to_tag c = subst (done (tagging c)) c.in-Tag.is (tagging c).read_run.ensures
