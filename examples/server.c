@@ -1,7 +1,7 @@
 /* The shortest honest use of Khargovsun by a server: a request is a document on standard input, the answer plain text with all matches of a
  * fixed query, three to a page. On x86-64, with the kit and any C compiler:
- *     rt staticlib site
- *     cc -I include examples/server.c target/staticlib/libsite.a -o server
+ *     bin/archive
+ *     cc -I include examples/server.c crates/site/out/libsite.a -o server
  *     printf '<g><f>a</f><f/>a</g>' | ./server */
 #include <stdio.h>
 #include "khargovsun.h"

@@ -1,4 +1,4 @@
-/* Khargovsun for C and C++: link the archive of the crate `site` (`rt staticlib site`), or see tests/c/run.
+/* Khargovsun for C and C++: link the archive of the crate `site`, crates/site/out/libsite.a (`bin/archive`), or see tests/c/run.
  *
  * First the numbers by name; then the eight functions that the archive has, in which every list is a pointer and then its number of
  * entries; and last structs and functions over the eight that take a tree, a pattern or a problem as one thing, so that two lists cannot
@@ -9,7 +9,7 @@
  * Every function is re-entrant: nothing is allocated, nothing is kept between calls, and the archive has no data that can be written. Threads
  * and signal handlers may call at the same time, as long as none writes a list that another call reads or writes.
  *
- * Stack, the most that was measured, in bytes (bench/stack/README.md: painted, on the deepest inputs; -O3, the larger of x86-64 and Arm): check
+ * Stack, the most that was measured, in bytes (bench/stack/README.md: with the older kit, painted, on the deepest inputs; -O3, the larger of x86-64 and Arm): check
  * 19,360; read 35,920; list 60,888; list_after 72,264; panel 65,560; test 39,688; instance 30,696; spelling 10,456. Give a thread 128 kB, or one
  * that only checks and reads documents 64 kB.
  *
@@ -209,7 +209,7 @@ typedef struct {
  * no code: a row beyond any of the three lists or, where the document is to answer, a range outside the document gives the document's part
  * of start 0 and length 0. A bad dictionary counts as one without names.
  *
- * Each call checks the whole dictionary, since nothing is kept: the time is linear in it. Measured in one run (Arm, -O3), names of 16 bytes
+ * Each call checks the whole dictionary, since nothing is kept: the time is linear in it. Measured in one run (the older kit, Arm, -O3), names of 16 bytes
  * with their byte 10: 0.1 microseconds with 5 of them, 11 to 19 with 1,024 (the most names and bytes that there may be). For rows as
  * khargovsun_read wrote them no call is needed: whichever side answers, the bytes are those of the document from start[row] on, length[row] of
  * them (proved: `looked-up` in crates/promises/specs/Answers.antt). */
