@@ -11,16 +11,6 @@ use borrow.Author.Rules.{rules}
 use Rattle.lister.proofs.list_after.Statement.{statement}
 use Rattle.lister.proofs.list_after.Tie as tie
 
--- from the search to the packed pattern, from this to the expressions' tables, and from these to the test of the record's length
-abbrev packed : tie.After-resume → tie.After-pack
-packed r = r.before.before.before.before.before.before
-
-abbrev tabled : tie.After-pack → tie.After-tables_of
-tabled k = k.before.before
-
-abbrev measured : tie.After-tables_of → tie.Else-record-width
-measured t = t.before.before
-
 check_requires : tie.Need-check-p-requires
 check_requires c κs = search rules
 
@@ -38,41 +28,32 @@ refused_requires_2 c κs = search rules
 
 returns_2 : tie.Need-returns-then-record-width
 returns_2 c =
-    let z = c.before.before in
-    rw c.refused-then-record-width.ensures (page_wrong_length _ z.check-p.ensures _ _ _ z.if-code-ne0.false c.if-record-width.true)
+    rw c.refused-then-record-width.ensures (page_wrong_length _ c.check-p.ensures _ _ _ c.if-code-ne0.false c.if-record-width.true)
 
 tables_of_requires : tie.Need-tables_of-requires
 tables_of_requires c κs =
-    let z = c.before.before in
-    (length-replicate {A = ℕ} 320 0, tables_asked _ z.check-p.ensures 0 [] z.if-code-ne0.false)
+    (length-replicate {A = ℕ} 320 0, tables_asked _ c.check-p.ensures 0 [] c.if-code-ne0.false)
 
 slice_aggregate_pack : tie.Need-slice_bounds-pack-end
 slice_aggregate_pack c = search rules
 
 pack_requires : tie.Need-pack-requires
 pack_requires c κs =
-    let z = (measured c.before).before in
-    pack_asked (the z.before.check.ensures z.if1.left).poses.rest.pattern refl
+    pack_asked (the c.check-p.ensures c.if-code-ne0.false).poses.rest.pattern refl
 
 room_for_requires : tie.Need-room_for-room-requires
 room_for_requires c κs = search rules
 
 resume_requires : tie.Need-resume-requires
 resume_requires c κs =
-    let w = c.before.before.before in
-    let k = w.before.before in
-    let t = tabled k in
-    let e = measured t in
-    let z = e.before in
-    resume_asked _ z.before.check.ensures _ 0 _ z.if1.left e.if-record-width.left t.tables_of.ensures k.pack.ensures refl w.room_for-room.ensures
+    resume_asked _ c.check-p.ensures _ 0 _ c.if-code-ne0.false c.if-record-width.false c.tables_of.ensures c.pack.ensures refl c.room_for-room.ensures
 
 enum_told : tie.Need-enum_told-1
 enum_told c = search rules
 
 no_page_requires : tie.Need-no_page-requires
 no_page_requires c κs =
-    let z = (measured (tabled (packed c.before.before.before.before.before))).before in
-    record_asked _ z.before.check.ensures [] 0 [] z.if1.left
+    record_asked _ c.check-p.ensures [] 0 [] c.if-code-ne0.false
 
 enum_known_found : tie.Need-enum_known-found
 enum_known_found c = search rules
@@ -85,27 +66,17 @@ same_length c = search rules
 
 returns_3 : tie.Need-returns-in-NoMatcher
 returns_3 c =
-    let r = c.before.before.before.before.before.before in
-    let k = packed r in
-    let t = tabled k in
-    let e = measured t in
-    let z = e.before in
-    page_none _ z.before.check.ensures _ _ _ z.if1.left e.if-record-width.left t.tables_of.ensures k.pack.ensures refl r.room_for-room.ensures
-    r.resume.ensures c.in-NoMatcher.is c.no_page.ensures
+    page_none _ c.check-p.ensures _ _ _ c.if-code-ne0.false c.if-record-width.false c.tables_of.ensures c.pack.ensures refl c.room_for-room.ensures
+    c.resume.ensures c.in-NoMatcher.is c.no_page.ensures
 
 same_length_2 : tie.Need-shape_of-out-in-Page
 same_length_2 c = search rules
 
 returns_4 : tie.Need-returns-in-Page
 returns_4 c =
-    let r = c.before.before.before.before in
-    let k = packed r in
-    let t = tabled k in
-    let e = measured t in
-    let z = e.before in
     rw c.accepted.ensures
-    (page_done _ z.before.check.ensures _ _ _ z.if1.left e.if-record-width.left t.tables_of.ensures k.pack.ensures refl r.room_for-room.ensures
-    r.resume.ensures c.in-Page.is)
+    (page_done _ c.check-p.ensures _ _ _ c.if-code-ne0.false c.if-record-width.false c.tables_of.ensures c.pack.ensures refl c.room_for-room.ensures
+    c.resume.ensures c.in-Page.is)
 
 pub list_after_spec : {M : Type 1} → statement M
 list_after_spec =

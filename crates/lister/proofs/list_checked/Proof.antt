@@ -10,13 +10,6 @@ use borrow.Author.Rules.{rules}
 use Rattle.lister.proofs.list_checked.Statement.{statement}
 use Rattle.lister.proofs.list_checked.Tie as tie
 
--- from the packed pattern to the expressions' tables, and from these to the start
-abbrev tabled : tie.After-pack → tie.After-tables_of
-tabled k = k.before.before
-
-abbrev start : tie.After-tables_of → tie.Start
-start t = t.before.before.before.before.before.before.before.before.before.before.before.before
-
 tables_of_requires : tie.Need-tables_of-requires
 tables_of_requires c κs =
     let p = c.requires in
@@ -27,12 +20,12 @@ slice_aggregate_pack c = search rules
 
 pack_requires : tie.Need-pack-requires
 pack_requires c κs =
-    let p = (start c.before).requires in
+    let p = c.requires in
     pack_asked (the p.answered p.accepted).poses.rest.pattern refl
 
 add_width : tie.Need-overflow_add-width
 add_width c =
-    let p = (start (tabled c.before)).requires in
+    let p = c.requires in
     omega (arith, p.many, few_variables _ p.answered 0 [] p.accepted)
 
 room_for_requires : tie.Need-room_for-room-requires
@@ -40,11 +33,8 @@ room_for_requires c κs = search rules
 
 begin_requires : tie.Need-begin-requires
 begin_requires c κs =
-    let w = c.before.before.before in
-    let k = w.before.before in
-    let t = tabled k in
-    let p = (start t).pre in
-    begin_asked _ p.answered 0 _ p.accepted t.tables_of.ensures k.pack.ensures (ap (λ (n : ℕ). n + n) p.many) w.room_for-room.ensures
+    let p = c.requires in
+    begin_asked _ p.answered 0 _ p.accepted c.tables_of.ensures c.pack.ensures (ap (λ (n : ℕ). n + n) p.many) c.room_for-room.ensures
 
 accepted_requires : tie.Need-accepted-requires
 accepted_requires c κs = search rules
@@ -54,12 +44,9 @@ same_length c = search rules
 
 returns : tie.Need-returns
 returns c =
-    let w = c.before.before.before.before.before.before.before in
-    let k = w.before.before in
-    let t = tabled k in
-    let p = (start t).pre in
+    let p = c.requires in
     rw c.accepted.ensures
-    (list_done _ p.answered _ _ p.accepted t.tables_of.ensures k.pack.ensures (ap (λ (n : ℕ). n + n) p.many) w.room_for-room.ensures c.begin.ensures)
+    (list_done _ p.answered _ _ p.accepted c.tables_of.ensures c.pack.ensures (ap (λ (n : ℕ). n + n) p.many) c.room_for-room.ensures c.begin.ensures)
 
 pub list_checked_spec : {M : Type 1} → statement M
 list_checked_spec =

@@ -4,10 +4,6 @@ use borrow.Author.Rules.{rules}
 use Rattle.lister.proofs.list_judged.Statement.{statement}
 use Rattle.lister.proofs.list_judged.Tie as tie
 
--- the judgement of the tree is right
-abbrev start : tie.After-check_judged-p → tie.Start
-start k = k.before.before.before.before.before.before.before.before.before.before.before
-
 check_judged_requires : tie.Need-check_judged-p-requires
 check_judged_requires c κs = search rules
 
@@ -15,10 +11,10 @@ refused_requires : tie.Need-refused-requires
 refused_requires c κs = search rules
 
 returns : tie.Need-returns-then-code-ne0
-returns c = rw c.refused.ensures (list_refused _ (c.check_judged-p.ensures.on _ _ (start c.before.before).requires) _ _ c.if-code-ne0.true)
+returns c = rw c.refused.ensures (list_refused _ (c.check_judged-p.ensures.on _ _ c.requires) _ _ c.if-code-ne0.true)
 
 list_checked_requires : tie.Need-list_checked-requires
-list_checked_requires c κs = record { checked = c.check_judged-p.result; answered = c.check_judged-p.ensures.on _ _ (start c.before.before).requires; accepted = c.if-code-ne0.false; many = refl }
+list_checked_requires c κs = record { checked = c.check_judged-p.result; answered = c.check_judged-p.ensures.on _ _ c.requires; accepted = c.if-code-ne0.false; many = refl }
 
 same_length : tie.Need-shape_of-out
 same_length c = search rules
