@@ -48,7 +48,7 @@ module _ (c : tie.Joined-tables-at invariant_loop decreases_loop) where
       × (c.if-tables-at.end ≡ add_end (λ p. eqb (name_of tables p) label) (ends_of tables) (count_trailing_zeros 64 c.loop-left.left) c.loop-left.end)
   added =
       elim c.if-tables-at.branch [
-        then-tables-at w ↦ rw (eq-eqb _ _ w.if-tables-at.true) (w.set-is, w.end-is)
+        | then-tables-at w ↦ rw (eq-eqb _ _ w.if-tables-at.true) (w.set-is, w.end-is)
         | else-tables-at w ↦ rw (ne_eqb _ _ w.if-tables-at.false) (w.set-is, w.end-is)
       ]
 

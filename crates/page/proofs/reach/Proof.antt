@@ -61,11 +61,10 @@ enum_known_t : tie.Need-enum_known-t invariant_loop decreases_loop
 enum_known_t c = search rules
 
 attempt_requires : tie.Need-attempt-o-requires invariant_loop decreases_loop
-attempt_requires c κs =
-    (
-      reach_tries c.loop-o.invariant.0 c.in-Need.is (rw c.in-Value.is at c.choose.ensures) c.requires.some.5,
-      c.loop-o.invariant.1,
-    )
+attempt_requires c κs = (
+  reach_tries c.loop-o.invariant.0 c.in-Need.is (rw c.in-Value.is at c.choose.ensures) c.requires.some.5,
+  c.loop-o.invariant.1,
+)
 
 add_depth : tie.Need-overflow_add-depth invariant_loop decreases_loop
 add_depth c =
