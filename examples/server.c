@@ -20,7 +20,7 @@ static uint8_t input[KHARGOVSUN_MAX_DOCUMENT_BYTES + 1]; /* one byte more than i
 static uint32_t label[ROWS], size[ROWS], start[ROWS], length[ROWS];
 
 /* In rows that were read a row is spelt by the document from its start on, as many bytes as its length, also where the dictionary has
- * the name: proved, `looked-up` in crates/promises/specs/Answers.antt. So no call, and no check of the dictionary, is needed for it. */
+ * the name: proved, `looked_up` in crates/promises/specs/Answers.antt. So no call, and no check of the dictionary, is needed for it. */
 static void spell(uint32_t row) {
     printf(" %.*s", (int)length[row], (const char *)input + start[row]);
 }

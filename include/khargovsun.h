@@ -212,7 +212,7 @@ typedef struct {
  * Each call checks the whole dictionary, since nothing is kept: the time is linear in it. Measured in one run (the older kit, Arm, -O3), names of 16 bytes
  * with their byte 10: 0.1 microseconds with 5 of them, 11 to 19 with 1,024 (the most names and bytes that there may be). For rows as
  * khargovsun_read wrote them no call is needed: whichever side answers, the bytes are those of the document from start[row] on, length[row] of
- * them (proved: `looked-up` in crates/promises/specs/Answers.antt). */
+ * them (proved: `looked_up` in crates/promises/specs/Answers.antt). */
 khargovsun_part khargovsun_spelling(const uint8_t *dictionary, size_t dictionary_length, const uint8_t *document, size_t document_length,
                                     const uint32_t *label, size_t label_length, const uint32_t *start, size_t start_length,
                                     const uint32_t *length, size_t length_length, size_t row);
