@@ -1,0 +1,14 @@
+use Prim.Native.Nat.{◌≤◌, ◌-◌}
+use native.Mathlib.Omega.{arith}
+use borrow.Author.Count.{below_more, below_none}
+use Rattle.tree.specs.Places.{SameRows}
+use Rattle.meaning.proofs.Answers.{says_yes, says_no}
+use Rattle.tree.proofs.same.Given as goal
+
+abbrev pub invariant-loop-i : goal.invariant-loop-i
+invariant-loop-i l = (l.i ≤ l.k) × SameRows l.label l.size l.a l.t l.i
+
+
+abbrev pub decreases-loop-i : goal.decreases-loop-i
+decreases-loop-i l = l.k - l.i
+
