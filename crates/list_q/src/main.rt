@@ -12,21 +12,22 @@ fn wide(number: u32) -> usize
     number as usize
 }
 
-fn print_number(rt: &impl Print, number: u64, after: &str) -> io::Result<()> {
-    print!(rt; "{number}{after}")
+fn print_number(rt: &impl Print, number: u64, after: &[u8]) -> io::Result<()> {
+    print!(rt; "{number}")?;
+    rt.write_all(after)
 }
 
 fn print_four(rt: &impl Print, first: u64, second: u64, third: u64, fourth: u64) -> io::Result<()> {
-    print_number(rt, first, " ")?;
-    print_number(rt, second, " ")?;
-    print_number(rt, third, " ")?;
-    print_number(rt, fourth, "\n")
+    print_number(rt, first, b" ")?;
+    print_number(rt, second, b" ")?;
+    print_number(rt, third, b" ")?;
+    print_number(rt, fourth, b"\n")
 }
 
 fn print_refusal(rt: &impl Print, code: u32, place: u32) -> io::Result<()> {
     print!(rt; "refused ")?;
-    print_number(rt, code as u64, " ")?;
-    print_number(rt, place as u64, "\n")
+    print_number(rt, code as u64, b" ")?;
+    print_number(rt, place as u64, b"\n")
 }
 
 fn wider(number: u32) -> u64 {
@@ -36,9 +37,9 @@ fn wider(number: u32) -> u64 {
 // Q has two variables, so a record is four numbers. The last of them ends the line.
 fn print_in_record(rt: &impl Print, number: u64, place: usize) -> io::Result<()> {
     if place % 4 == 3 {
-        print_number(rt, number, "\n")
+        print_number(rt, number, b"\n")
     } else {
-        print_number(rt, number, " ")
+        print_number(rt, number, b" ")
     }
 }
 

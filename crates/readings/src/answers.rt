@@ -43,17 +43,18 @@ fn agrees(code: u32, place: u32, rows: u32, checked: u64) -> bool {
     checked % 4294967296 == wider(place) + wider(rows)
 }
 
-fn print_number(rt: &impl Print, name: &str, number: u32) -> io::Result<()> {
-    print!(rt; "{name}{number}")
+fn print_number(rt: &impl Print, name: &[u8], number: u32) -> io::Result<()> {
+    rt.write_all(name)?;
+    print!(rt; "{number}")
 }
 
-fn print_list(rt: &impl Print, name: &str, list: &[u32], rows: usize) -> io::Result<()> {
-    print!(rt; "{name}")?;
+fn print_list(rt: &impl Print, name: &[u8], list: &[u32], rows: usize) -> io::Result<()> {
+    rt.write_all(name)?;
     for i in 0..rows {
         if list.len() <= i {
             return Ok(());
         }
-        print_number(rt, " ", list[i])?;
+        print_number(rt, b" ", list[i])?;
     }
     Ok(())
 }
@@ -72,9 +73,10 @@ fn sum_of(list: &[u32], rows: usize) -> u64 {
     sum
 }
 
-fn print_sum(rt: &impl Print, name: &str, list: &[u32], rows: usize) -> io::Result<()> {
+fn print_sum(rt: &impl Print, name: &[u8], list: &[u32], rows: usize) -> io::Result<()> {
+    rt.write_all(name)?;
     let sum = sum_of(list, rows);
-    print!(rt; "{name}{sum}")
+    print!(rt; "{sum}")
 }
 
 // Prints what the reader gave on the four lists, each lent up to the length that the line says.
@@ -112,9 +114,9 @@ fn answer_in(
 }
 
 fn print_answer(rt: &impl Print, code: u32, place: u32, rows: u32, checked: u64) -> io::Result<()> {
-    print_number(rt, ": code ", code)?;
-    print_number(rt, " place ", place)?;
-    print_number(rt, " rows ", rows)?;
+    print_number(rt, b": code ", code)?;
+    print_number(rt, b" place ", place)?;
+    print_number(rt, b" rows ", rows)?;
     if !agrees(code, place, rows, checked) {
         print!(rt; ", check differs")?;
     }
@@ -133,15 +135,15 @@ fn print_lists(
 ) -> io::Result<()> {
     if code == 0 {
         if rows <= PRINTED {
-            print_list(rt, ", label", label, rows)?;
-            print_list(rt, " size", size, rows)?;
-            print_list(rt, " start", start, rows)?;
-            print_list(rt, " length", length, rows)?;
+            print_list(rt, b", label", label, rows)?;
+            print_list(rt, b" size", size, rows)?;
+            print_list(rt, b" start", start, rows)?;
+            print_list(rt, b" length", length, rows)?;
         } else {
-            print_sum(rt, ", sums ", label, rows)?;
-            print_sum(rt, " ", size, rows)?;
-            print_sum(rt, " ", start, rows)?;
-            print_sum(rt, " ", length, rows)?;
+            print_sum(rt, b", sums ", label, rows)?;
+            print_sum(rt, b" ", size, rows)?;
+            print_sum(rt, b" ", start, rows)?;
+            print_sum(rt, b" ", length, rows)?;
         }
     }
     if unchanged(label, rows) {
