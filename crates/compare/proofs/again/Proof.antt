@@ -1,3 +1,4 @@
+use borrow.Author.Rules.{rules}
 use native.Mathlib.Omega.{arith}
 use Rattle.compare.proofs.Sequences.{Compared, compared_first, compared_all, compared_end, compared_rows, compared_alike_pre, compared_differs, compared_more}
 use Rattle.compare.proofs.again.Statement.{statement}
@@ -31,10 +32,7 @@ loop_less : tie.Need-loop-remaining-smaller invariant_loop decreases_loop
 loop_less c = omega (arith, c.loop-remaining-test.true)
 
 loop_again : tie.Need-loop-remaining-preserved invariant_loop decreases_loop
-loop_again c = compared_more c.loop-remaining.invariant c.loop-remaining-test.true c.if-there-e.false c.next-behind.ensures c.next-after.ensures c.alike.ensures c.if-alike.true
-
-returns_2 : tie.Need-returns-else-alike invariant_loop decreases_loop
-returns_2 c = compared_differs c.loop-remaining.invariant c.loop-remaining-test.true c.if-there-e.false c.next-behind.ensures c.next-after.ensures c.alike.ensures c.if-alike.false
+loop_again c = compared_more c.loop-remaining.invariant c.loop-remaining-test.true c.if-there-e.false c.next-behind.ensures c.next-after.ensures c.alike.ensures (search rules)
 
 returns_3 : tie.Need-returns invariant_loop decreases_loop
 returns_3 c = compared_all c.loop-remaining.invariant c.loop-remaining-test.false
@@ -53,5 +51,5 @@ again_spec =
     sub_remaining
     loop_less
     loop_again
-    returns_2
+    (λ c. compared_differs c.loop-remaining.invariant c.loop-remaining-test.true c.if-there-e.false c.next-behind.ensures c.next-after.ensures c.alike.ensures (search rules))
     returns_3)

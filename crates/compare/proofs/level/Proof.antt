@@ -43,14 +43,8 @@ next_requires_4 c κs = (level_places c.next-e.ensures c.left.ensures c.in-At.is
 alike_requires : tie.Need-alike-requires
 alike_requires c κs = level_alike_pre c.next-e.ensures c.left.ensures c.in-At.is c.if-v-e.false c.next-right.ensures c.next-end.ensures c.next-there.ensures c.requires
 
-returns_2 : tie.Need-returns-then-alike
-returns_2 c = level_at c.next-e.ensures c.left.ensures c.in-At.is c.if-v-e.false c.next-right.ensures c.next-end.ensures c.next-there.ensures c.alike.ensures c.requires.label c.if-alike.true
-
 returns_3 : tie.Need-returns-in-Fail
 returns_3 c = level_differ c.next-e.ensures c.left.ensures c.in-Fail.is
-
-returns_4 : tie.Need-returns-else-alike
-returns_4 c = level_right c.next-e.ensures c.left.ensures c.in-At.is c.if-v-e.false c.next-right.ensures c.next-end.ensures c.next-there.ensures c.alike.ensures c.if-alike.false
 
 pub level_spec : {M : Type 1} → statement M
 level_spec =
@@ -69,6 +63,6 @@ level_spec =
     next_requires_3
     next_requires_4
     alike_requires
-    returns_2
+    (λ c. level_at c.next-e.ensures c.left.ensures c.in-At.is c.if-v-e.false c.next-right.ensures c.next-end.ensures c.next-there.ensures c.alike.ensures c.requires.label (search rules))
     returns_3
-    returns_4)
+    (λ c. level_right c.next-e.ensures c.left.ensures c.in-At.is c.if-v-e.false c.next-right.ensures c.next-end.ensures c.next-there.ensures c.alike.ensures (search rules)))

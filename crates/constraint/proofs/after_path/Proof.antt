@@ -26,12 +26,6 @@ begin_requires c κs = c.requires.low
 loop_holds : tie.Need-loop-down-init invariant_loop decreases_loop
 loop_holds c = no_label _ _ _ _ _ c.begin-state.ensures
 
-mul_step : tie.Need-offset_bounds-label-down invariant_loop decreases_loop
-mul_step c = omega (arith, row_in c)
-
-shared_slice_read_step : tie.Need-bounds-label-down invariant_loop decreases_loop
-shared_slice_read_step c = omega (arith, row_in c.before)
-
 step_requires : tie.Need-step-state-requires invariant_loop decreases_loop
 step_requires c κs = search rules
 
@@ -63,8 +57,8 @@ after_path_spec =
     decreases_loop
     begin_requires
     loop_holds
-    mul_step
-    shared_slice_read_step
+    (λ c. omega (arith, row_in c))
+    (λ c. omega (arith, row_in c.before))
     step_requires
     child_requires
     loop_less

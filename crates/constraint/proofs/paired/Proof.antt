@@ -11,12 +11,6 @@ returns c = λ es k p q. without_expression es k _ _ c.if-first-eq0.true
 returns_2 : tie.Need-returns-then-flag-gt1
 returns_2 c = λ es k p q. says_no (flag_above es k _ _ (omega (arith, c.if-flag-gt1.true)))
 
-returns_3 : tie.Need-returns-then-kind-eq-INDIVIDUAL
-returns_3 c = λ es k p q. says_no (kind_without es k _ _ c.if-first-eq0.false (may_not k (λ e. omega (arith, q, c.if-kind-eq-INDIVIDUAL.true)) (λ e. omega (arith, q, c.if-kind-eq-INDIVIDUAL.true))))
-
-returns_4 : tie.Need-returns-then-kind-eq-FUNCTION
-returns_4 c = λ es k p q. says_no (kind_without es k _ _ c.if-first-eq0.false (may_not k (λ e. omega (arith, q, c.if-kind-eq-FUNCTION.true)) (λ e. omega (arith, q, c.if-kind-eq-FUNCTION.true))))
-
 sub_starts : tie.Need-overflow_sub-above
 sub_starts c = search rules
 
@@ -27,9 +21,9 @@ returns_5 : tie.Need-returns
 returns_5 c = λ es k p q.
     let at = c.before in
     with_expression es k _ _ at.if-first-eq0.false (omega (arith, at.if-flag-gt1.false))
-    (may k (λ e. omega (arith, q, at.if-kind-eq-INDIVIDUAL.false)) (λ e. omega (arith, q, at.if-kind-eq-FUNCTION.false)))
+    (may k (λ e. omega (arith, q)) (λ e. omega (arith, q)))
     (c.starts.ensures es p)
 
 pub paired_spec : {M : Type 1} → statement M
 paired_spec =
-    tie.close (tie.spec returns returns_2 returns_3 returns_4 sub_starts starts_requires returns_5)
+    tie.close (tie.spec returns returns_2 (λ c. λ es k p q. says_no (kind_without es k _ _ c.if-first-eq0.false (may_not k (λ e. omega (arith, q)) (λ e. omega (arith, q))))) (λ c. λ es k p q. says_no (kind_without es k _ _ c.if-first-eq0.false (may_not k (λ e. omega (arith, q)) (λ e. omega (arith, q))))) sub_starts starts_requires returns_5)

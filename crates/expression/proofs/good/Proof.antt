@@ -18,9 +18,6 @@ invariant_loop kind name size n i₀ i = (i ≤ n) × (n ≡ length kind) × (n 
 abbrev decreases_loop : tie.decreases-loop-i
 decreases_loop kind name size n i₀ i = n - i
 
-returns : tie.Need-returns-then-n-gt64 invariant_loop decreases_loop
-returns c = says_no (λ o. omega (arith, o.1.most, c.if-n-gt64.true))
-
 returns_2 : tie.Need-returns-then-name-n invariant_loop decreases_loop
 returns_2 c = says_no (λ o. c.if-name-n.true (name_length o.1))
 
@@ -93,7 +90,7 @@ good_spec =
     (tie.spec
     invariant_loop
     decreases_loop
-    returns
+    (λ c. says_no (λ o. omega (arith, o.1.most)))
     returns_2
     returns_3
     loop_holds

@@ -102,7 +102,7 @@ shl_left c = (low c.before.before.before).lt
 
 -- src/lib.rt:316:16
 sub_left : tie.Need-overflow_sub-left invariant_loop decreases_loop
-sub_left c = rw (low c.before.before.before).bit (low c.before.before.before).le
+sub_left c = omega (arith, (low c.before.before.before).bit, (low c.before.before.before).le)
 
 -- src/lib.rt:309:5
 loop_less : tie.Need-loop-left-smaller invariant_loop decreases_loop

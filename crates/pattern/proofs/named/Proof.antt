@@ -23,12 +23,6 @@ returns_3 c = same_kind c.if-kind-eq-SYMBOL.false c.if-name-variables.true c.if-
 returns_4 : tie.Need-returns-then-name-variables
 returns_4 c = other_kind c.if-kind-eq-SYMBOL.false c.if-name-variables.true c.if-kinds-name.false
 
-returns_5 : tie.Need-returns-then-variables-lt16
-returns_5 c = next c.if-kind-eq-SYMBOL.false c.if-name-variables-2.true c.if-variables-lt16.true
-
-returns_6 : tie.Need-returns-else-variables-lt16
-returns_6 c = too_many c.if-kind-eq-SYMBOL.false c.if-name-variables-2.true c.if-variables-lt16.false
-
 returns_7 : tie.Need-returns-else-name-variables-2
 returns_7 c = left_out c.if-kind-eq-SYMBOL.false (omega (arith, c.if-name-variables-2.false))
 
@@ -42,6 +36,6 @@ named_spec =
     element_copy_out_if4
     returns_3
     returns_4
-    returns_5
-    returns_6
+    (λ c. next c.if-kind-eq-SYMBOL.false c.if-name-variables-2.true (omega arith))
+    (λ c. too_many c.if-kind-eq-SYMBOL.false c.if-name-variables-2.true (omega arith))
     returns_7)

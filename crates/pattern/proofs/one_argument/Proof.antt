@@ -17,9 +17,6 @@ mul_if2 c = search rules
 shared_slice_read_if2 : tie.Need-bounds-kind-first
 shared_slice_read_if2 c = search rules
 
-returns_2 : tie.Need-returns-then-kind-first-eq-SEQUENCE
-returns_2 c = let a = c.args in one_sequence a.kind.now a.size.now a.row c.if-kind-first-eq-SEQUENCE.true
-
 mul_if3 : tie.Need-offset_bounds-size-row
 mul_if3 c = search rules
 
@@ -47,7 +44,7 @@ shared_slice_read_result_2 c = search rules
 returns_4 : tie.Need-returns
 returns_4 c =
     let a = c.args in
-    one_judged a.kind.now a.size.now a.row c.if-kind-first-eq-SEQUENCE.false c.if-size-row-lt2.false
+    one_judged a.kind.now a.size.now a.row (search rules) c.if-size-row-lt2.false
 
 pub one_argument_spec : {M : Type 1} → statement M
 one_argument_spec =
@@ -57,7 +54,7 @@ one_argument_spec =
     returns
     mul_if2
     shared_slice_read_if2
-    returns_2
+    (λ c. let a = c.args in one_sequence a.kind.now a.size.now a.row (search rules))
     mul_if3
     shared_slice_read_if3
     returns_3

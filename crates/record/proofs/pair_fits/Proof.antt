@@ -12,14 +12,11 @@ returns c = pair_sequence c.if-kind-eq-SEQUENCE.true c.sequence_fits.ensures
 context_fits_requires : tie.Need-context_fits-requires
 context_fits_requires c κs = search rules
 
-returns_2 : tie.Need-returns-then-kind-eq-CONTEXT
-returns_2 c = pair_context c.if-kind-eq-CONTEXT.true c.context_fits.ensures
-
 row_fits_requires : tie.Need-row_fits-requires
 row_fits_requires c κs = search rules
 
 returns_3 : tie.Need-returns
-returns_3 c = pair_row c.if-kind-eq-SEQUENCE.false c.if-kind-eq-CONTEXT.false c.row_fits.ensures
+returns_3 c = pair_row c.if-kind-eq-SEQUENCE.false (search rules) c.row_fits.ensures
 
 pub pair_fits_spec : {M : Type 1} → statement M
 pair_fits_spec =
@@ -28,6 +25,6 @@ pair_fits_spec =
     sequence_fits_requires
     returns
     context_fits_requires
-    returns_2
+    (λ c. pair_context (search rules) c.context_fits.ensures)
     row_fits_requires
     returns_3)

@@ -47,14 +47,11 @@ array_read_if1 c = omega (arith, c.loop-row.invariant.low)
 returns : tie.Need-returns-then-ends-depth invariant_loop decreases_loop
 returns c = says_no (beyond_end c.loop-row.invariant c.requires c.loop-row-test.true c.wide.ensures refl c.next-after.ensures (omega (arith, c.if-ends-depth.true, c.next-after.ensures)))
 
-returns_2 : tie.Need-returns-then-depth-eq64 invariant_loop decreases_loop
-returns_2 c = says_no (too_deep c.loop-row.invariant c.requires c.loop-row-test.true c.wide.ensures refl c.next-after.ensures (omega (arith, c.if-depth-eq64.true)))
-
 mul_ends : tie.Need-offset_bounds-ends-depth-in-loop-row invariant_loop decreases_loop
 mul_ends c = omega (arith, c.loop-row.invariant.low)
 
 array_write_ends_2 : tie.Need-bounds-ends-depth-in-loop-row invariant_loop decreases_loop
-array_write_ends_2 c = omega (arith, c.loop-row.invariant.low, c.if-depth-eq64.false)
+array_write_ends_2 c = omega (arith, c.loop-row.invariant.low)
 
 add_opened : tie.Need-overflow_add-opened invariant_loop decreases_loop
 add_opened c = omega (arith, c.loop-row.invariant.low)
@@ -66,7 +63,7 @@ loop_less : tie.Need-loop-row-smaller invariant_loop decreases_loop
 loop_less c = omega arith
 
 loop_again : tie.Need-loop-row-preserved invariant_loop decreases_loop
-loop_again c = seen_open c.loop-row.invariant c.requires c.loop-row-test.true c.wide.ensures refl c.next-after.ensures (omega (arith, c.if-ends-depth.false)) (omega (arith, c.if-depth-eq64.false, c.loop-row.invariant.low))
+loop_again c = seen_open c.loop-row.invariant c.requires c.loop-row-test.true c.wide.ensures refl c.next-after.ensures (omega (arith, c.if-ends-depth.false)) (omega (arith, c.loop-row.invariant.low))
 
 returns_3 : tie.Need-returns invariant_loop decreases_loop
 returns_3 c = says_yes (all_closed c.loop-row.invariant (omega (arith, c.loop-row-test.false)))
@@ -88,7 +85,7 @@ nested_spec =
     mul_if1
     array_read_if1
     returns
-    returns_2
+    (λ c. says_no (too_deep c.loop-row.invariant c.requires c.loop-row-test.true c.wide.ensures refl c.next-after.ensures (omega arith)))
     mul_ends
     array_write_ends_2
     add_opened

@@ -10,9 +10,6 @@ use Rattle.tree.proofs.shape.Tie as tie
 returns : tie.Need-returns-then-rows-eq0
 returns c = says_no (λ s. no_rows c.if-rows-eq0.true s.0)
 
-returns_2 : tie.Need-returns-then-rows-gt2048
-returns_2 c = says_no (λ s. omega (arith, c.if-rows-gt2048.true, s.1))
-
 at_requires : tie.Need-at-requires
 at_requires c κs = search rules
 
@@ -20,7 +17,7 @@ returns_3 : tie.Need-returns-then-at-rows
 returns_3 c = says_no (λ s. c.if-at-rows.true (c.at.ensures.0 ∙ (root_forth s.0).0))
 
 ending_requires : tie.Need-ending-requires
-ending_requires c κs = zeros_tell 2049 refl (omega (arith, c.if-rows-gt2048.false))
+ending_requires c κs = zeros_tell 2049 refl (omega arith)
 
 nested_requires : tie.Need-nested-requires
 nested_requires c κs =
@@ -32,7 +29,7 @@ nested_requires c κs =
     }
 
 returns_4 : tie.Need-returns-then-ending
-returns_4 c = (λ e. (c.nested.ensures.0 e, omega (arith, c.if-rows-gt2048.false)), λ s. c.nested.ensures.1 s.0)
+returns_4 c = (λ e. (c.nested.ensures.0 e, omega arith), λ s. c.nested.ensures.1 s.0)
 
 returns_5 : tie.Need-returns
 returns_5 c = says_no (λ s. said_no c.ending.ensures.within c.if-ending.false (shape_within s.0))
@@ -40,4 +37,4 @@ returns_5 c = says_no (λ s. said_no c.ending.ensures.within c.if-ending.false (
 pub shape_spec : {M : Type 1} → statement M
 shape_spec =
     tie.close
-    (tie.spec returns returns_2 at_requires returns_3 ending_requires nested_requires returns_4 returns_5)
+    (tie.spec returns (λ c. says_no (λ s. omega (arith, s.1))) at_requires returns_3 ending_requires nested_requires returns_4 returns_5)
