@@ -106,7 +106,7 @@ sub_left c = omega (arith, (low c.before.before.before).bit, (low c.before.befor
 
 -- src/lib.rt:309:5
 loop_less : tie.Need-loop-left-smaller invariant_loop decreases_loop
-loop_less c = rw (low c.before.before.before).bit (omega (arith, (low c.before.before.before).fewer))
+loop_less c = grind (arith, (low c.before.before.before).bit, (low c.before.before.before).fewer)
 
 -- src/lib.rt:309:5
 loop_again : tie.Need-loop-left-preserved invariant_loop decreases_loop
