@@ -61,7 +61,7 @@ pub extern "C" fn khargovsun_list(
       constraint = constraint.now;
     }) budget out.old result.code result.ending result.records result.tries out.new }
 {
-    answer::of_lister(lister::list(
+    let listed = lister::list(
         label,
         size,
         kind,
@@ -73,7 +73,8 @@ pub extern "C" fn khargovsun_list(
         constraint,
         budget,
         out,
-    ))
+    );
+    answer::of_lister(listed)
 }
 
 #[unsafe(no_mangle)]
@@ -103,7 +104,7 @@ pub extern "C" fn khargovsun_list_after(
       constraint = constraint.now;
     }) «record».now budget page.old result.code result.ending result.records result.tries page.new }
 {
-    answer::of_lister(lister::list_after(
+    let later = lister::list_after(
         label,
         size,
         kind,
@@ -116,7 +117,8 @@ pub extern "C" fn khargovsun_list_after(
         record,
         budget,
         page,
-    ))
+    );
+    answer::of_lister(later)
 }
 
 #[unsafe(no_mangle)]
@@ -214,6 +216,7 @@ pub extern "C" fn khargovsun_test(
     ))
 }
 
+#[tactic(auto, using(answer::proofs::Counts::rows_fit))]
 #[unsafe(no_mangle)]
 pub extern "C" fn khargovsun_instance(
     label: &[u32],

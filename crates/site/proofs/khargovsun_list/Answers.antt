@@ -5,7 +5,7 @@ use borrow.Author.Rules.{rules}
 use Rattle.site.proofs.khargovsun_list.Goals as goal
 
 pub of_lister-requires : goal.of_lister-requires
-of_lister-requires c = records_fit (omega arith) c.list.ensures
+of_lister-requires c = records_fit (omega arith) c.list-listed.ensures
 
 pub returns : goal.returns
-returns c = list_whole c.list.ensures c.of_lister.ensures
+returns c = list_whole c.list-listed.ensures c.of_lister.ensures

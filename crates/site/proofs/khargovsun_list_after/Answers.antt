@@ -5,7 +5,7 @@ use borrow.Author.Rules.{rules}
 use Rattle.site.proofs.khargovsun_list_after.Goals as goal
 
 pub of_lister-requires : goal.of_lister-requires
-of_lister-requires c = page_records_fit (omega arith) c.list_after.ensures
+of_lister-requires c = page_records_fit (omega arith) c.list_after-later.ensures
 
 pub returns : goal.returns
-returns c = list_after_whole c.list_after.ensures c.of_lister.ensures
+returns c = list_after_whole c.list_after-later.ensures c.of_lister.ensures
