@@ -25,8 +25,6 @@ invariant-loop-i l =
       share = l.share;
     }) l.tree l.initial.out l.initial.answer l.i l.from l.out l.answer
 
-
 abbrev pub decreases-loop-i : goal.decreases-loop-i
 decreases-loop-i l =
     length l.share - l.i
-
