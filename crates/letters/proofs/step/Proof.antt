@@ -11,12 +11,9 @@ use mathlib.Core.List.{List}
 use borrow.Author.Tests.{eq-eqb, ne_eqb}
 use native.Mathlib.Omega.{arith}
 use Prim.Native.Nat.{ℕ, ◌≤◌, ◌<◌, ◌^◌}
-use mathlib.Core.Logic.{⊎_elim}
 use mathlib.Core.Path.{◌≡◌, refl, sym, ◌∙◌}
 use Rattle.letters.proofs.step.Statement.{statement}
 use Rattle.letters.proofs.step.Tie as tie
-use Rattle.letters.proofs.step.Reads as reads
-use Rattle.letters.proofs.step.Lts as lts
 use Rattle.letters.proofs.step.Lts.{then-tables-at, else-tables-at}
 
 abbrev invariant_loop : tie.invariant-loop-left

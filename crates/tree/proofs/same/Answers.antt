@@ -1,7 +1,5 @@
-use Prim.Native.Nat.{◌≤◌, ◌-◌}
 use native.Mathlib.Omega.{arith}
 use borrow.Author.Count.{below_more, below_none}
-use Rattle.tree.specs.Places.{SameRows}
 use Rattle.meaning.proofs.Answers.{says_yes, says_no}
 use Rattle.tree.proofs.same.Goals as goal
 
