@@ -1,5 +1,5 @@
 -- The contracts settle the exports' answers and the lent lists afterwards. For the check, the reader and the spelling lookup, whose
--- contracts are those of the functions below word for word, that is `one-check`, `one_answer` and `part-unique` there.
+-- contracts are those of the functions below word for word, that is `one_check`, `one_answer` and `part_unique` there.
 use Prim.Native.Nat.{ℕ}
 use mathlib.Core.Path.{◌≡◌, ap, ◌∙◌, sym}
 use mathlib.Core.List.{List}
