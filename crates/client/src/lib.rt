@@ -12,6 +12,9 @@ pub enum Answer {
     Open,
 }
 
+// how many records a problem without a matcher has
+const NONE: usize = 0;
+
 // Room for one record is all that the question needs.
 pub fn solvable(
     label: &[u32],
@@ -58,7 +61,7 @@ pub fn solvable(
     if code != 0 {
         return Answer::Refused(code);
     }
-    if listed.records != 0 {
+    if listed.records != NONE {
         return Answer::Yes;
     }
     if listed.ending == 2 {

@@ -13,6 +13,9 @@ use meaning::codes::{NO_ROOM, PATTERN, RECORD, TOO_LARGE, TREE};
 use packed::pack;
 use write::term;
 
+// the most rows that an instance may have
+const MOST: usize = 2048;
+
 // What the instance maker answers: a code, or the rows that it has written.
 #[derive(Drop)]
 pub enum Made {
@@ -45,7 +48,7 @@ pub fn instance(
         return Made::Refused(RECORD);
     }
     let rows = rows_of(size, kind, name, record);
-    if 2048 < rows {
+    if MOST < rows {
         return Made::Refused(TOO_LARGE);
     }
     if out_label.len() < rows {

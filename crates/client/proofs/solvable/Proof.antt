@@ -26,14 +26,14 @@ list_requires c κs = search rules
 returns : tie.Need-returns-then-code-ne0
 returns c = search rules
 
-returns_2 : tie.Need-returns-then-listed-ne0
-returns_2 c = is_yes c.list-listed.ensures c.if-code-ne0.false c.if-listed-ne0.true
+returns_2 : tie.Need-returns-then-listed-ne-NONE
+returns_2 c = is_yes c.list-listed.ensures c.if-code-ne0.false c.if-listed-ne-NONE.true
 
 returns_3 : tie.Need-returns-then-listed-eq2
-returns_3 c = is_open c.list-listed.ensures c.if-code-ne0.false c.if-listed-ne0.false c.if-listed-eq2.true
+returns_3 c = is_open c.list-listed.ensures c.if-code-ne0.false c.if-listed-ne-NONE.false c.if-listed-eq2.true
 
 returns_4 : tie.Need-returns
-returns_4 c = is_no c.list-listed.ensures c.if-code-ne0.false c.check-checked.ensures (simp length-take (omega (arith, few_variables c.check-checked.ensures))) c.if-listed-ne0.false c.if-listed-eq2.false
+returns_4 c = is_no c.list-listed.ensures c.if-code-ne0.false c.check-checked.ensures (simp length-take (omega (arith, few_variables c.check-checked.ensures))) c.if-listed-ne-NONE.false c.if-listed-eq2.false
 
 pub solvable_spec : {M : Type 1} → statement M
 solvable_spec =

@@ -44,22 +44,22 @@ returns_3 c =
 rows_of_requires : tie.Need-rows_of-rows-requires
 rows_of_requires c κs = rows_pre (found c).1
 
-returns_4 : tie.Need-returns-then-rows-gt2048
+returns_4 : tie.Need-returns-then-rows-gt-MOST
 returns_4 c =
     let f = found c.before.before in
-    refused_rows _ _ _ f.1 (omega (arith, c.if-rows-gt2048.true, rows_is f.1 c.rows_of-rows.ensures))
+    refused_rows _ _ _ f.1 (omega (arith, c.if-rows-gt-MOST.true, rows_is f.1 c.rows_of-rows.ensures))
 
 returns_5 : tie.Need-returns-then-out_label-rows
 returns_5 c =
     let f = found c.before.before.before in
     let z = rows_is f.1 c.rows_of-rows.ensures in
-    refused_room _ _ _ f.1 (omega (arith, c.if-rows-gt2048.false)) (inl (omega (arith, c.if-out_label-rows.true)))
+    refused_room _ _ _ f.1 (omega (arith, c.if-rows-gt-MOST.false)) (inl (omega (arith, c.if-out_label-rows.true)))
 
 returns_6 : tie.Need-returns-then-out_size-rows
 returns_6 c =
     let f = found c.before.before.before.before in
     let z = rows_is f.1 c.rows_of-rows.ensures in
-    refused_room _ _ _ f.1 (omega (arith, c.if-rows-gt2048.false)) (inr (omega (arith, c.if-out_size-rows.true)))
+    refused_room _ _ _ f.1 (omega (arith, c.if-rows-gt-MOST.false)) (inr (omega (arith, c.if-out_size-rows.true)))
 
 slice_aggregate_pack : tie.Need-slice_bounds-pack-end
 slice_aggregate_pack c = search rules
@@ -74,7 +74,7 @@ term_requires : tie.Need-term-requires
 term_requires c κs =
     let f = found c.before.before.before.before.before.before.before.before.before.before in
     let z = rows_is f.1 c.rows_of-rows.ensures in
-    term_whole f.1 c.pack.ensures (omega (arith, c.if-rows-gt2048.false)) (omega (arith, c.if-out_label-rows.false)) (omega (arith, c.if-out_size-rows.false))
+    term_whole f.1 c.pack.ensures (omega (arith, c.if-rows-gt-MOST.false)) (omega (arith, c.if-out_label-rows.false)) (omega (arith, c.if-out_size-rows.false))
 
 same_length : tie.Need-shape_of-out_label
 same_length c = search rules
@@ -86,7 +86,7 @@ returns_7 : tie.Need-returns
 returns_7 c =
     let f = found c.before.before.before.before.before.before.before.before.before.before.before.before.before.before.before in
     let z = rows_is f.1 c.rows_of-rows.ensures in
-    made_whole _ _ _ f.1 (omega (arith, c.if-rows-gt2048.false)) (omega (arith, c.if-out_label-rows.false)) (omega (arith, c.if-out_size-rows.false)) z (written_whole f.1 c.pack.ensures c.term.ensures)
+    made_whole _ _ _ f.1 (omega (arith, c.if-rows-gt-MOST.false)) (omega (arith, c.if-out_label-rows.false)) (omega (arith, c.if-out_size-rows.false)) z (written_whole f.1 c.pack.ensures c.term.ensures)
 
 pub instance_spec : {M : Type 1} → statement M
 instance_spec =

@@ -173,7 +173,7 @@ mul_put : tie.Need-overflow_mul-count invariant_loop decreases_loop
 mul_put c = omega (arith, room_left c.before, kept c.before.before.before.before.before.before.before.before.before.before.before.before.before.before, c.well_formed)
 
 put_requires : tie.Need-put-requires invariant_loop decreases_loop
-put_requires c κs = let r = room_left c.before in (r.0, (after c.before.before.before).long, r.1)
+put_requires c κs = let r = room_left c.before in (r.0, (after c.before.before.before).long, omega (arith, r.1))
 
 add_count : tie.Need-overflow_add-count invariant_loop decreases_loop
 add_count c = omega (arith, tried_counted (after c.before.before.before.before.before.before) c.requires.0, c.if-count-room.false, c.requires.3)
