@@ -12,7 +12,7 @@ pub enum Answer {
     Open,
 }
 
-// how many records a problem without a matcher has
+// How many records a problem without a matcher has.
 const NONE: usize = 0;
 
 // Room for one record is all that the question needs.

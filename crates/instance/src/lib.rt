@@ -13,7 +13,7 @@ use meaning::codes::{NO_ROOM, PATTERN, RECORD, TOO_LARGE, TREE};
 use packed::pack;
 use write::term;
 
-// the most rows that an instance may have
+// The most rows that an instance may have.
 const MOST: usize = 2048;
 
 // What the instance maker answers: a code, or the rows that it has written.
