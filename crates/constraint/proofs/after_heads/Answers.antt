@@ -1,0 +1,6 @@
+use Rattle.constraint.proofs.Readings.{from_first}
+use borrow.Author.Rules.{rules}
+use Rattle.constraint.proofs.after_heads.Goals as goal
+
+pub returns : goal.returns
+returns c = from_first c.begin-state.ensures c.read_on.ensures

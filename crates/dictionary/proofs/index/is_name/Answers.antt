@@ -1,0 +1,18 @@
+use native.Mathlib.Omega.{arith}
+use Rattle.dictionary.proofs.Ranges.{says_range}
+use Rattle.dictionary.proofs.Entries.{entry_ordered, entry_differs, learnt_inside, learnt_says}
+use borrow.Author.Rules.{rules}
+use Rattle.dictionary.proofs.index.is_name.Goals as goal
+
+pub overflow_sub-to : goal.overflow_sub-to
+overflow_sub-to c = entry_ordered c.requires.0.1 c.args.place c.requires.1 c.number-at.ensures c.number-to.ensures
+
+pub returns-then-to-at : goal.returns-then-to-at
+returns-then-to-at c = λ known m. entry_differs m c.args.place c.requires.1 c.number-at.ensures c.number-to.ensures c.if-to-at.true
+
+pub same_bytes-requires : goal.same_bytes-requires
+same_bytes-requires c = (learnt_inside c.requires.0.1 c.args.place c.requires.1 c.number-at.ensures c.number-to.ensures (omega arith) c.if-to-at.false, omega (arith, c.requires.0.1.ordered, c.requires.0.1.inside))
+
+pub returns : goal.returns
+returns c = λ known m. learnt_says m c.args.place c.requires.1 c.number-c.ensures c.number-c.ensures (omega arith) c.if-to-c.false c.same_bytes.result
+    (says_range (learnt_inside m c.args.place c.requires.1 c.number-c.ensures c.number-c.ensures (omega arith) c.if-to-c.false) m.inside c.same_bytes.ensures)

@@ -1,0 +1,6 @@
+use Rattle.levels.proofs.Columns.{moved}
+use borrow.Author.Rules.{rules}
+use Rattle.levels.proofs.advance.Goals as goal
+
+pub returns : goal.returns
+returns c = moved _ _ _ _ _ c.requires

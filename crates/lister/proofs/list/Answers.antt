@@ -1,0 +1,13 @@
+use mathlib.Core.Path.{refl}
+use Rattle.lister.proofs.Whole.{list_refused}
+use borrow.Author.Rules.{rules}
+use Rattle.lister.proofs.list.Goals as goal
+
+pub returns-then-code-ne0 : goal.returns-then-code-ne0
+returns-then-code-ne0 c = rw c.refused.ensures (list_refused _ c.check-p.ensures _ _ c.if-code-ne0.true)
+
+pub list_checked-requires : goal.list_checked-requires
+list_checked-requires c = record { checked = c.check-p.result; answered = c.check-p.ensures; accepted = c.if-code-ne0.false; many = refl }
+
+pub returns : goal.returns
+returns c = c.list_checked.ensures
