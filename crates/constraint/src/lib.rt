@@ -15,8 +15,10 @@ ghost use Rattle.constraint.specs.Pair.{Pair, GivenPre, NamedPre};
 ghost use Rattle.constraint.specs.Named.{AllNamed};
 ghost use Rattle.constraint.specs.Reading.{HeadsPre, MorePre, ReadTo, ReadOn, PathPre, After, ObeysPre, ObeysPost, ForbiddenPost};
 
+use expression::Table;
 use meaning::kinds::{FUNCTION, INDIVIDUAL, SEQUENCE};
 use meaning::wide;
+use pattern::Pattern;
 
 // Whether a variable of this kind may have these two numbers.
 fn paired(kind: u32, size: &[u32], first: u32, flag: u32) -> bool
@@ -59,26 +61,17 @@ pub fn given(variables: usize, kinds: &[u32; 16], size: &[u32], constraint: &[u3
 }
 
 // Code 14, and those before it: whether the constraint list is good, for the pattern and the expression table.
-pub fn good(
-    kind: &[u32],
-    name: &[u32],
-    size: &[u32],
-    expression_kind: &[u32],
-    expression_name: &[u32],
-    expression_size: &[u32],
-    constraint: &[u32],
-) -> bool
-    ensures { Says result (GoodConstraintList kind.now name.now size.now expression_kind.now expression_name.now expression_size.now constraint.now) }
+pub fn good(pattern: &Pattern, table: &Table, constraint: &[u32]) -> bool
+    ensures { Says result (GoodConstraintList pattern.now.kind.now pattern.now.name.now pattern.now.size.now table.now.kind.now table.now.name.now table.now.size.now constraint.now) }
 {
-    let checked = pattern::check(kind, name, size);
+    let checked = pattern::check(pattern);
     if !checked.good {
         return false;
     }
-    if !expression::good(expression_kind, expression_name, expression_size) {
+    if !expression::good(table) {
         return false;
     }
-    let kinds = checked.kinds;
-    given(checked.variables, &kinds, expression_size, constraint)
+    given(checked.variables, &checked.kinds, table.size, constraint)
 }
 
 // Code 19, where the list is good: whether a variable names each whole expression of the table. A mark for each number that

@@ -12,6 +12,14 @@ pub mod kinds;
 use kinds::{REPETITION, SYMBOL};
 use meaning::wide;
 
+// An expression table as it is lent: the kind, the name and the size of each row, whole expressions one after another in preorder.
+#[derive(Clone, Copy)]
+pub struct Table<'a> {
+    pub kind: &'a [u32],
+    pub name: &'a [u32],
+    pub size: &'a [u32],
+}
+
 // Whether a row of this kind may have this name.
 fn named(kind: u32, name: u32) -> bool
     ensures { Says result (NameFits kind name) }
@@ -53,28 +61,26 @@ fn sized(kind: &[u32], size: &[u32], row: usize) -> bool
 }
 
 // Code 13: whether the three lists are whole expressions one after another, within the limits.
-pub fn good(kind: &[u32], name: &[u32], size: &[u32]) -> bool
-    ensures { Says result ((es : List Expression) × GoodTable kind.now name.now size.now es) }
+pub fn good(table: &Table) -> bool
+    ensures { Says result ((es : List Expression) × GoodTable table.now.kind.now table.now.name.now table.now.size.now es) }
 {
-    let n = kind.len();
+    let n = table.kind.len();
     if 64 < n {
         return false;
     }
-    if name.len() != n {
+    if table.name.len() != n {
         return false;
     }
-    if size.len() != n {
+    if table.size.len() != n {
         return false;
     }
-    let mut i = 0;
-    while i < n {
-        if !named(kind[i], name[i]) {
+    for i in 0..n {
+        if !named(table.kind[i], table.name[i]) {
             return false;
         }
-        if !sized(kind, size, i) {
+        if !sized(table.kind, table.size, i) {
             return false;
         }
-        i += 1;
     }
     true
 }

@@ -15,7 +15,7 @@ use Rattle.expression.specs.Expression.{Expression, symbol, empty, concatenation
 use Rattle.expression.specs.Rows.{GoodTable, StartsAt}
 use Rattle.expression.specs.Columns.{rows}
 use Rattle.expression.proofs.Placed.{Placed, placed_size}
-use Rattle.expression.proofs.Table.{name_length}
+use Rattle.expression.proofs.Tables.{name_length}
 use Rattle.expression.proofs.Places.{place_total, start_placed, start_within}
 use Rattle.letters.specs.Accepts.{Accepts, flag_at}
 use Rattle.letters.specs.State.{RowReads, StateOf, TablesOf}

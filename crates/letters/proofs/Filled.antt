@@ -16,7 +16,7 @@ use Rattle.expression.proofs.Small.{SymbolsFit, AllFit, small_all}
 use Rattle.expression.specs.Rule.{number_at, left_of, right_of}
 use Rattle.expression.proofs.Ways.{two_ways, three_ways}
 use Rattle.expression.proofs.Placed.{rows_positive, total, Placed, Laid, placed_size}
-use Rattle.expression.proofs.Table.{placed_fits, kind_length, good_laid}
+use Rattle.expression.proofs.Tables.{placed_fits, kind_length, good_laid}
 use Rattle.letters.specs.Accepts.{flag_at}
 use Rattle.letters.specs.Following.{PartsAre, followed, over_set, over_end, loop_set, loop_end, Filled, AllFilled, ContsOf}
 

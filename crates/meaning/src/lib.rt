@@ -7,6 +7,9 @@ ghost use Rattle.std.specs.Prelude.{◌≡◌, ◌<◌};
 pub mod codes;
 pub mod endings;
 pub mod kinds;
+mod refusal;
+
+pub use refusal::Refusal;
 
 // A number of 32 bits as a place in a list.
 pub fn wide(x: u32) -> usize

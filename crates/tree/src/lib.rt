@@ -8,6 +8,13 @@ ghost use Rattle.tree.specs.Endings.{Told, EndingPost, NestedPre};
 ghost use Rattle.tree.specs.Places.{SameRows};
 ghost use Rattle.tree.specs.Helpers.{SamePre, CountPre, CountPost, PastPre, PastPost, ChildPre, ChildPost, ListPre, ListPost};
 
+// A tree as it is lent: the label and the size of each row, in preorder.
+#[derive(Clone, Copy)]
+pub struct Tree<'a> {
+    pub label: &'a [u32],
+    pub size: &'a [u32],
+}
+
 // The number at i.
 pub fn at(s: &[u32], i: usize) -> usize
     requires { i < length s.now }
@@ -117,16 +124,13 @@ pub fn below(s: &[u32], limit: u32) -> bool
 }
 
 // The tree check.
-pub fn good(label: &[u32], size: &[u32]) -> bool
-    ensures { Says result (GoodRows label.now size.now) }
+pub fn good(tree: &Tree) -> bool
+    ensures { Says result (GoodRows tree.now.label.now tree.now.size.now) }
 {
-    if label.len() != size.len() {
+    if tree.label.len() != tree.size.len() {
         return false;
     }
-    if below(label, 65536) {
-        return shape(size);
-    }
-    false
+    below(tree.label, 65536) && shape(tree.size)
 }
 
 // Whether k rows from a on are those from t on.

@@ -1,5 +1,5 @@
 use Rattle.meaning.proofs.Answers.{says_equal, says_less}
-use Rattle.expression.proofs.Table.{name_zero, zero_name}
+use Rattle.expression.proofs.Tables.{name_zero, zero_name}
 use Rattle.expression.proofs.named.Goals as goal
 
 -- `expression::named` meets its contract.

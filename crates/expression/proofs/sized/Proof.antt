@@ -4,7 +4,7 @@ use mathlib.Core.Path.{sym, ◌∙◌}
 use native.Mathlib.Omega.{arith}
 use lib.ListN.{length, get_or}
 use Rattle.meaning.proofs.Answers.{says_no, says_equal}
-use Rattle.expression.proofs.Table.{leaf_fits, leaf_size, repetition_fits, two_fit, two_sizes, inner_left}
+use Rattle.expression.proofs.Tables.{leaf_fits, leaf_size, repetition_fits, two_fit, two_sizes, inner_left}
 use borrow.Author.Rules.{rules}
 use Rattle.expression.proofs.sized.Statement.{statement}
 use Rattle.expression.proofs.sized.Tie as tie

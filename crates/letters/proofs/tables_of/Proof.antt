@@ -3,7 +3,7 @@ use Prim.Native.Nat.{◌≤◌}
 use mathlib.Core.Path.{◌≡◌}
 use native.Mathlib.Omega.{arith}
 use lib.ListN.{length}
-use Rattle.expression.proofs.Table.{name_length, size_length, good_rows}
+use Rattle.expression.proofs.Tables.{name_length, size_length, good_rows}
 use Rattle.letters.specs.Following.{Shape}
 use Rattle.letters.proofs.Decide.{tables_are}
 use Rattle.letters.proofs.tables_of.Statement.{statement}

@@ -1,6 +1,5 @@
 use native.Mathlib.Omega.{arith}
 use Rattle.pattern.specs.Scan.{small_symbol, large_symbol, same_kind, other_kind, next, too_many, left_out}
-use borrow.Author.Rules.{rules}
 use Rattle.pattern.proofs.named.Goals as goal
 
 -- `named` meets its contract: each return is one case of Named.

@@ -1,6 +1,5 @@
 use Rattle.meaning.specs.Pattern.{a_context}
 use Rattle.pattern.proofs.Rules.{any_size, size_one, says_of, no_kind}
-use borrow.Author.Rules.{rules}
 use Rattle.pattern.proofs.sized.Goals as goal
 
 pub returns-in-0 : goal.returns-in-0
