@@ -8,6 +8,8 @@ ghost use Rattle.record.specs.Pairs.{RowsPre, FitsPost, PairPost, RecordPre, Rec
 ghost use Rattle.record.specs.Copied.{Copied};
 
 use meaning::kinds::{CONTEXT, SEQUENCE};
+use pattern::Pattern;
+use tree::Tree;
 
 // An individual or a function variable: its row is in the tree, and the second number is 0.
 fn row_fits(size: &[u32], a: usize, b: usize) -> bool
@@ -97,24 +99,16 @@ pub fn equal(found: &[u32; 32], list: &[u32]) -> bool
     true
 }
 
-// Code 15: whether the record is good, for the tree and the pattern of these lists.
-pub fn good(
-    label: &[u32],
-    size: &[u32],
-    kind: &[u32],
-    name: &[u32],
-    pattern_size: &[u32],
-    record: &[u32],
-) -> bool
-    ensures { Says result (GoodRecordList label.now size.now kind.now name.now pattern_size.now «record».now) }
+// Code 15: whether the record is good, for the tree and the pattern.
+pub fn good(tree: &Tree, pattern: &Pattern, record: &[u32]) -> bool
+    ensures { Says result (GoodRecordList tree.now.label.now tree.now.size.now pattern.now.kind.now pattern.now.name.now pattern.now.size.now «record».now) }
 {
-    if !tree::good(label, size) {
+    if !tree::good(tree) {
         return false;
     }
-    let p = pattern::check(kind, name, pattern_size);
-    if !p.good {
+    let checked = pattern::check(pattern);
+    if !checked.good {
         return false;
     }
-    let kinds = p.kinds;
-    fits(size, &kinds, p.variables, record)
+    fits(tree.size, &checked.kinds, checked.variables, record)
 }
