@@ -1,11 +1,6 @@
-use Prim.Native.Nat.{◌-◌}
-use native.Mathlib.Omega.{arith}
-use borrow.Author.Tests.{not-true, not-false}
-use Rattle.test.proofs.Obeying.{Obeying, obeying_none, list_long, judge_asked, obeying_not, obeying_more, obeying_all}
+use Rattle.problem.specs.Problem.{lists}
+use Rattle.test.proofs.Obeying.{Obeying}
 use Rattle.test.proofs.all_obey.Given as goal
 
 abbrev pub invariant-loop-x : goal.invariant-loop-x
-invariant-loop-x l = Obeying l.label l.size l.tables l.constraint l.kinds l.variables l.«record» l.x
-
-abbrev pub decreases-loop-x : goal.decreases-loop-x
-decreases-loop-x l = l.variables - l.x
+invariant-loop-x l = Obeying (lists l.problem) l.tables l.variables l.«record» l.x

@@ -1,7 +1,6 @@
 use mathlib.Core.Path.{refl}
 use Rattle.walk.proofs.Packs.{pack_asked}
 use Rattle.test.proofs.Refound.{list_short, follow_asked, placed_lost, placed_found}
-use borrow.Author.Rules.{rules}
 use Rattle.test.proofs.placed.Goals as goal
 
 pub pack-requires : goal.pack-requires
@@ -16,5 +15,5 @@ equal-requires c = (c.follow.ensures.long, list_short c.requires)
 pub returns-then-follow : goal.returns-then-follow
 returns-then-follow c = placed_found c.pack.ensures.0 c.follow.ensures c.if-follow.true c.equal.ensures
 
-pub returns : goal.returns
-returns c = placed_lost c.pack.ensures.0 c.follow.ensures c.if-follow.false
+pub returns-else-follow : goal.returns-else-follow
+returns-else-follow c = rw c.if-follow.false (placed_lost c.pack.ensures.0 c.follow.ensures c.if-follow.false)
