@@ -37,7 +37,7 @@ looks_up = record {
 
 -- a yes is no refusal
 accepted : (r : Result Bool Refusal) → yes_of r ≡ true → code_of r ≡ 0
-accepted (Ok yes) h = refl
+accepted (Ok b) h = refl
 accepted (Err e) h = absurd (true≢false (sym h))
 
 module _ {l : Lists} {list : List ℕ} {r : Result Bool Refusal} {T : Term} {P : Pattern} {Q : List Kind} {es : List Expression} {cs : List Constraint} (s : TestSettled l list r) (p : Poses l T P Q es cs) where

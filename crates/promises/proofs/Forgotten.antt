@@ -6,7 +6,9 @@ use mathlib.Core.Logic.{inl, inr}
 use mathlib.Core.List.{List, [], ◌∷◌}
 use lib.ListN.{length, get_or}
 use native.Mathlib.Omega.{arith}
+use Rattle.std.specs.Prelude.{Bool, Result}
 use Rattle.meaning.specs.Calls.{accept}
+use Rattle.meaning.specs.declared.refusal.Refusal.{Refusal}
 use Rattle.meaning.specs.Pattern.{Kind}
 use Rattle.meaning.proofs.Lists.{each_at}
 use Rattle.expression.specs.Expression.{Expression, symbol}

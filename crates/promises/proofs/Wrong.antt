@@ -10,7 +10,7 @@ use native.Mathlib.Omega.{arith}
 use native.Mathlib.Decide.{ℕ_discrete, dec_le, dec_lt}
 use lib.ListN.{length, drop, get_or}
 use Rattle.meaning.specs.Calls.{Filled}
-use Rattle.std.specs.Prelude.{Bool, Result, Ok, Err}
+use Rattle.std.specs.Prelude.{Bool, Result as Answer, Ok, Err}
 use Rattle.meaning.specs.declared.refusal.Refusal.{Refusal}
 use Rattle.meaning.specs.Forest.{Term, rows, terms, hole_row}
 use Rattle.meaning.specs.Pattern.{Pattern, symbol, nil, Kind, a_sequence, a_context}
@@ -127,15 +127,15 @@ module _ (D : Demands) where
   read_two x e = (D.answers.reader.tree x e no_bytes is_two).label_is
 
   -- and the test says yes to a on a
-  pub yes_to_ground : (r : Result Bool Refusal) → TestSettled ground [] r → r ≡ Ok true
+  pub yes_to_ground : (r : Answer Bool Refusal) → TestSettled ground [] r → r ≡ Ok true
   unfolding apply firsts_t
   yes_to_ground r s = go r ((D.answers.test ground [] r letter_a (symbol 7 nil) [] [] [] s is_ground).1 is_record)
     where
       is_record : IsRecord (Allowed []) [] (symbol 7 nil) letter_a []
       is_record = record { matcher = []; solves = record { right = refl; equal = refl; allowed = λ x v e. absurd (omega (arith, look_old [] x v e)) }; its = refl }
 
-      go : (r : Result Bool Refusal) → yes_of r ≡ true → r ≡ Ok true
-      go (Ok yes) e = ap Ok e
+      go : (r : Answer Bool Refusal) → yes_of r ≡ true → r ≡ Ok true
+      go (Ok b) e = ap Ok e
       go (Err c) e = absurd (true≢false (sym e))
 
   -- a page does not give its own record
