@@ -1,20 +1,31 @@
 -- The promises settle the answers of the list and of a page, and the lent list afterwards.
 use Prim.Native.Nat.{ℕ}
-use mathlib.Core.Path.{◌≡◌, ◌∙◌, sym}
+use mathlib.Core.Path.{◌≡◌, ap, ◌∙◌, sym}
 use mathlib.Core.Logic.{inl, inr}
 use mathlib.Core.List.{List}
 use native.Mathlib.Omega.{arith}
 use native.Mathlib.Decide.{ℕ_discrete}
+use Rattle.std.specs.Prelude.{Result, Ok, Err}
 use Rattle.meaning.specs.Calls.{accept}
+use Rattle.meaning.specs.declared.refusal.Refusal.{Refusal}
 use Rattle.meaning.specs.Record.{IsRecord}
 use Rattle.constraint.specs.Obeys.{Allowed}
+use Rattle.meaning.proofs.Refusals.{code_some, one_refusal}
 use Rattle.meaning.proofs.OneCode.{one_refuse, one_accept}
 use Rattle.problem.specs.Problem.{Lists}
 use Rattle.problem.proofs.Posed.{Posed, posed, posed_then, one_codes}
+use Rattle.search.specs.declared.Found.{Found}
 use Rattle.catalogue.proofs.Facts.{one_shown, one_answer}
 use Rattle.catalogue.proofs.Pages.{one_page}
-use Rattle.lister.specs.Listed.{Listed, Settled}
+use Rattle.lister.specs.Listed.{Listed, told, Settled}
 use Rattle.lister.specs.Page.{RecordCodes, PageCodes, PageSettled}
+
+-- no two answers have the same numbers
+pub one_told : (r s : Result Found Refusal) → told r ≡ told s → r ≡ s
+one_told (Ok f) (Ok g) e = ap Ok (λ i. record { ending = (e i).ending; records = (e i).records; tries = (e i).tries })
+one_told (Ok f) (Err d) e = absurd (code_some d (sym (ap (λ (l : Listed). l.code) e)))
+one_told (Err d) (Ok g) e = absurd (code_some d (ap (λ (l : Listed). l.code) e))
+one_told (Err d) (Err k) e = ap Err (one_refusal d k (ap (λ (l : Listed). l.code) e))
 
 pub record Same (r s : Listed) (v w : List ℕ) : Type 0 where
   pub code : r.code ≡ s.code
