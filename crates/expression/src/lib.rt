@@ -10,7 +10,6 @@ ghost use Rattle.expression.specs.Rule.{number_at, NameFits, SizeFits};
 pub mod kinds;
 
 use kinds::{REPETITION, SYMBOL};
-use meaning::wide;
 
 // Whether a row of this kind may have this name.
 fn named(kind: u32, name: u32) -> bool
@@ -29,7 +28,7 @@ fn sized(kind: &[u32], size: &[u32], row: usize) -> bool
 {
     let n = kind.len();
     let k = kind[row];
-    let own = wide(size[row]);
+    let own = size[row] as usize;
     if 5 <= k {
         return false;
     }
@@ -40,7 +39,7 @@ fn sized(kind: &[u32], size: &[u32], row: usize) -> bool
     if n <= l {
         return false;
     }
-    let left = wide(size[l]);
+    let left = size[l] as usize;
     if k == REPETITION {
         return own == left + 1;
     }
@@ -48,7 +47,7 @@ fn sized(kind: &[u32], size: &[u32], row: usize) -> bool
     if n <= r {
         return false;
     }
-    let right = wide(size[r]);
+    let right = size[r] as usize;
     own == left + right + 1
 }
 
@@ -66,15 +65,13 @@ pub fn good(kind: &[u32], name: &[u32], size: &[u32]) -> bool
     if size.len() != n {
         return false;
     }
-    let mut i = 0;
-    while i < n {
-        if !named(kind[i], name[i]) {
+    for row in 0..n {
+        if !named(kind[row], name[row]) {
             return false;
         }
-        if !sized(kind, size, i) {
+        if !sized(kind, size, row) {
             return false;
         }
-        i += 1;
     }
     true
 }
@@ -89,7 +86,7 @@ pub fn starts(size: &[u32], row: usize) -> bool
         if row <= at {
             return row == at;
         }
-        at += wide(size[at]);
+        at += size[at] as usize;
     }
     false
 }

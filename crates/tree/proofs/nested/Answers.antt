@@ -13,7 +13,7 @@ pub overflow_sub-depth-in-loop-row : goal.overflow_sub-depth-in-loop-row
 overflow_sub-depth-in-loop-row c = omega (arith, fewer c.loop-row.invariant c.requires c.loop-row-test.true c.from.ensures refl)
 
 pub returns-then-ends-depth : goal.returns-then-ends-depth
-returns-then-ends-depth c = says_no (beyond_end c.loop-row.invariant c.requires c.loop-row-test.true c.from.ensures refl c.next-after.ensures c.if-ends-depth.true)
+returns-then-ends-depth c = says_no (beyond_end c.loop-row.invariant c.requires c.loop-row-test.true c.from.ensures refl c.next-after.ensures (omega (arith, c.next-after.ensures)))
 
 pub returns-then-depth-eq64 : goal.returns-then-depth-eq64
 returns-then-depth-eq64 c = says_no (too_deep c.loop-row.invariant c.requires c.loop-row-test.true c.from.ensures refl c.next-after.ensures (omega arith))

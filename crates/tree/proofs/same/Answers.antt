@@ -6,7 +6,7 @@ pub loop-i-init : goal.loop-i-init
 loop-i-init c = record { each = below_none _ }
 
 pub returns-then-label-a : goal.returns-then-label-a
-returns-then-label-a c = says_no (λ h. c.if-label-a.true (h.each c.loop-i.i c.loop-i-test.true).0)
+returns-then-label-a c = says_no (λ h. c.if-label-a.true (grind (arith, h.each)))
 
 pub returns-then-size-a : goal.returns-then-size-a
 returns-then-size-a c = says_no (λ h. c.if-size-a.true (h.each c.loop-i.i c.loop-i-test.true).1)
