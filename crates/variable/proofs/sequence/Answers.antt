@@ -24,8 +24,8 @@ at-c-requires c = sequence_room c.requires
 pub again-requires : goal.again-requires
 again-requires c = sequence_again_pre c.if-x-n.false c.at-a.ensures.0 c.at-c.ensures.0 c.requires
 
-pub returns-in-Fail : goal.returns-in-Fail
-returns-in-Fail c = sequence_differs c.if-x-n.false c.at-a.ensures.0 c.at-c.ensures.0 c.again.ensures c.in-Fail.is
+pub returns-in-None : goal.returns-in-None
+returns-in-None c = sequence_differs c.if-x-n.false c.at-a.ensures.0 c.at-c.ensures.0 c.again.ensures c.in-None.is
 
-pub returns-in-At : goal.returns-in-At
-returns-in-At c = sequence_again c.if-x-n.false c.at-a.ensures.0 c.at-c.ensures.0 c.again.ensures c.in-At.is
+pub returns-in-Some : goal.returns-in-Some
+returns-in-Some c = sequence_again c.if-x-n.false c.at-a.ensures.0 c.at-c.ensures.0 c.again.ensures c.in-Some.is
