@@ -5,7 +5,7 @@ use mathlib.Core.Logic.{◌≢◌}
 use mathlib.Core.List.{List}
 use lib.ListN.{length, get_or}
 use native.Mathlib.Omega.{arith}
-use Rattle.meaning.specs.Forest.{Forest, some, terms}
+use Rattle.meaning.specs.Forest.{Forest, terms}
 use Rattle.meaning.specs.Read.{take_t, span}
 use Rattle.meaning.specs.Pattern.{Kind, a_sequence, Comes}
 use Rattle.meaning.specs.Matcher.{Value, of_sequence, kind}

@@ -1,7 +1,6 @@
 use borrow.Author.Rules.{rules}
-use Prim.Native.Nat.{◌-◌}
 use native.Mathlib.Omega.{arith}
-use Rattle.compare.proofs.Lefts.{Beside, beside_first, beside_row, beside_all, beside_end, beside_there, beside_alike_pre, beside_differs, beside_more}
+use Rattle.compare.proofs.Lefts.{beside_first, beside_row, beside_all, beside_end, beside_there, beside_alike_pre, beside_differs, beside_more}
 use Rattle.compare.proofs.left.Goals as goal
 
 pub loop-a-init : goal.loop-a-init

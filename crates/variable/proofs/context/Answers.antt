@@ -1,6 +1,5 @@
 use native.Mathlib.Omega.{arith}
 use Rattle.variable.proofs.Contexts.{context_needs, context_room, context_fits_pre, context_differs, context_again}
-use borrow.Author.Rules.{rules}
 use Rattle.variable.proofs.context.Goals as goal
 
 pub returns-then-x-n : goal.returns-then-x-n

@@ -1,6 +1,5 @@
 use native.Mathlib.Omega.{arith}
 use Rattle.variable.proofs.Sequences.{sequence_needs, sequence_room, sequence_again_pre, sequence_differs, sequence_again}
-use borrow.Author.Rules.{rules}
 use Rattle.variable.proofs.sequence.Goals as goal
 
 pub returns-then-x-n : goal.returns-then-x-n
