@@ -7,3 +7,4 @@ pub mod Reached
 pub mod Order
 pub mod Read
 pub mod Means
+pub mod Ending
