@@ -1,7 +1,6 @@
 use native.Mathlib.Omega.{arith}
 use Rattle.judge.specs.Tags.{too_deep, too_many, done}
-use borrow.Author.Rules.{rules}
-use Rattle.judge.proofs.whole.Goals as goal
+use Rattle.judge.proofs.within.Goals as goal
 
 pub returns-then-deep-gt-DEEPEST : goal.returns-then-deep-gt-DEEPEST
 returns-then-deep-gt-DEEPEST c = too_deep c.if-deep-gt-DEEPEST.true
