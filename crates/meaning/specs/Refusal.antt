@@ -1,4 +1,4 @@
--- 01, "Numbers and order of checks": the number of each refusal of the matcher's half; those of 02, #104, where 02 puts them.
+-- 01, "Numbers and order of checks", and 02: the number of each refusal of the matcher's half.
 use Rattle.std.specs.Prelude.{ℕ}
 use Rattle.meaning.specs.declared.refusal.Refusal.{Refusal}
 use Rattle.meaning.specs.declared.refusal.Refusal.TheVariants.{Tree, Pattern, Expressions, Constraints, Record, TooLarge, NoRoom, Forgotten, NoMatcher, Panel}

@@ -1,5 +1,5 @@
-// What matchers and records are stands in specs/, its laws in proofs/. Here are the rules' numbers by name, and what all crates do with a
-// number.
+// What matchers and records are stands in specs/, its laws in proofs/. Here are the rules' numbers and refusals by name, and what all
+// crates do with a number.
 #![tactic(auto)]
 
 ghost use Rattle.std.specs.Prelude.{◌≡◌, ◌<◌};

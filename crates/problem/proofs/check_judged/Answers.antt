@@ -1,5 +1,3 @@
-use borrow.Author.Rules.{rules}
-use mathlib.Core.Path.{refl}
 use Rattle.constraint.proofs.Meant.{list_asked}
 use Rattle.problem.proofs.Lowest.{no_tree, no_pattern, no_table, no_constraints, names_asked, forgotten, all_good}
 use Rattle.problem.proofs.check_judged.Goals as goal
