@@ -62,7 +62,7 @@ fn keep(memory: &mut [usize; 1280], choice: usize, mark: &Mark, a: usize, count:
     memory[at + 1] = a;
     memory[at + 2] = count;
     memory[at + 3] = mark.state.next as usize;
-    memory[at + 4] = letters::number(mark.state.end);
+    memory[at + 4] = usize::from(mark.state.end);
 }
 
 // Whether the heads of b neighbours from the row a on are a word of the expression at the row root: read on from what is

@@ -7,8 +7,6 @@ ghost use Rattle.std.specs.Prelude.{◌≡◌, ◌-◌, ◌≤◌, ◌<◌, leng
 ghost use Rattle.openings.specs.OpenNames.{Keeping, LowNames, Stays, Spared, OpenedOne, MayFind, Finds, reaches, MayClose, ClosedOne};
 
 use super::back::innermost_before;
-use meaning::short;
-use tokens::least;
 
 const MOST_NAMES: usize = 64;
 
@@ -26,7 +24,7 @@ pub fn innermost(names: &[u16; 64], kept: usize) -> usize
     if kept == 0 {
         return 0;
     }
-    short(names[kept - 1])
+    usize::from(names[kept - 1])
 }
 
 // Whether the name at j stays, as 1 or 0; and the last block in which a name up to the next starts.
@@ -46,7 +44,7 @@ fn stays(names: &[u16; 64], j: usize, block: usize) -> Stay
             block: block,
         };
     }
-    let next = short(names[j + 1]) / BLOCK;
+    let next = usize::from(names[j + 1]) / BLOCK;
     if block < next {
         return Stay {
             count: 1,
@@ -66,14 +64,12 @@ fn thin(names: &mut [u16; 64], levels: &mut [u16; 64]) -> usize
 {
     let mut count: usize = 0;
     let mut block: usize = 0;
-    let mut j: usize = 0;
-    while j < MOST_NAMES {
+    for j in 0..MOST_NAMES {
         let stay = stays(names, j, block);
         names[count] = names[j];
         levels[count] = levels[j];
-        count = count + stay.count;
+        count += stay.count;
         block = stay.block;
-        j = j + 1;
     }
     count
 }
@@ -121,11 +117,9 @@ fn find_again(
 {
     let mut at = from;
     let mut level = depth;
-    let mut k = top;
-    while bottom < k {
+    for k in (bottom..top).rev() {
         at = innermost_before(document, at);
-        level = level - 1;
-        k = k - 1;
+        level -= 1;
         names[k] = (at + 1) as u16;
         levels[k] = level as u16;
     }
@@ -139,7 +133,7 @@ fn reach(levels: &[u16; 64], kept: usize) -> usize
     if kept == 0 {
         return 0;
     }
-    short(levels[kept - 1]) + 1
+    usize::from(levels[kept - 1]) + 1
 }
 
 // The innermost element ends, and `depth` are open then: how many names are kept.
@@ -158,8 +152,8 @@ pub fn close(
     if known == depth {
         return left;
     }
-    let from = short(names[left]) - 1;
-    let top = left + least(depth - known, MOST_NAMES - left);
+    let from = usize::from(names[left]) - 1;
+    let top = left + (depth - known).min(MOST_NAMES - left);
     find_again(document, names, levels, from, depth, left, top);
     top
 }

@@ -1,4 +1,3 @@
-use borrow.Author.Rules.{rules}
 use Rattle.openings.proofs.OpenNames.{opens_one}
 use Rattle.openings.proofs.names.open.Goals as goal
 
