@@ -11,6 +11,6 @@ returns-then-not-sized c = says_no (λ o. said_no c.sized.ensures c.if-not-sized
 
 pub returns : goal.returns
 returns c = (
-  λ e. good_table c.args.kind.now c.args.name.now c.args.size.now c.if-n-gt64.false c.if-name-n.false c.if-size-n.false (λ s l. c.loop-row.invariant s (omega arith)),
+  λ e. good_table c.args.kind.now c.args.name.now c.args.size.now (omega arith) c.if-name-n.false c.if-size-n.false (λ s l. c.loop-row.invariant s (omega arith)),
   λ o. refl,
 )
