@@ -5,7 +5,7 @@ use mathlib.Core.List.{List, [], ◌∷◌, ◌++◌}
 use Prim.Native.Nat.{ℕ, ◌+◌, ◌-◌, ◌*◌, ◌≤◌, ◌<◌}
 use native.Mathlib.Omega.{arith}
 use native.Mathlib.Numerals.{add-one}
-use mir.Val.{bool_byte}
+use Rattle.std.specs.Int.{from_bool}
 use lib.Dec.{eqb, ltb}
 use borrow.Author.Tests.{eqb-true, eqb-false, ltb-true, ltb-false}
 use lib.ListN.{length, get_or, set, take, length-append}
@@ -33,10 +33,10 @@ learn_count ns v = go (ltb (place_of ns v) (length ns))
     go false = length-append ns (v ∷ [])
 
 -- how many are known after a number was found: one that is not among the known ones is new
-pub counted_new : (count found : ℕ) {new : ℕ} → found ≤ count → new ≡ bool_byte (eqb found count) → count + new ≡ cond (ltb found count) count (count + 1)
+pub counted_new : (count found : ℕ) {new : ℕ} → found ≤ count → new ≡ from_bool (eqb found count) → count + new ≡ cond (ltb found count) count (count + 1)
 counted_new count found {new} h = go (ltb found count) refl (eqb found count) refl
   where
-    go : (s : Bool) → ltb found count ≡ s → (t : Bool) → eqb found count ≡ t → new ≡ bool_byte t → count + new ≡ cond s count (count + 1)
+    go : (s : Bool) → ltb found count ≡ s → (t : Bool) → eqb found count ≡ t → new ≡ from_bool t → count + new ≡ cond s count (count + 1)
     go true p true q e = absurd (omega (arith, ltb-true found count p, eqb-true found count q))
     go true p false q e = omega (arith, e)
     go false p true q e = omega (arith, e)

@@ -71,6 +71,7 @@ pub fn label_rows(
         );
         label[row] = label_of(document, from, found);
         // A number that is not among the known ones is new.
-        count += usize::from(found == count);
+        let new = usize::from(found == count);
+        count += new;
     }
 }

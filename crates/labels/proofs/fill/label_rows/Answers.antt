@@ -27,7 +27,7 @@ loop-row-preserved c = λ known sorts ws m.
     let end = ap (λ (n : ℕ). c.from-from.result + n) c.from.ensures in
     let done = c.number_of-found.ensures _ (may_number m k here c.from-from.ensures end) in
     labels_next m k here c.from-from.ensures end done (c.label_of.ensures _ (its_sort m k here c.from-from.ensures end))
-    (counted_new c.loop-row.count c.number_of-found.result (found_few m k here c.from-from.ensures end done) c.from-count.ensures)
+    (counted_new c.loop-row.count c.number_of-found.result (found_few m k here c.from-from.ensures end done) c.from-new.ensures)
 
 pub returns : goal.returns
 returns c = λ known sorts ws m. labels_end m (c.loop-row.invariant known sorts ws m) c.loop-row-test.false
