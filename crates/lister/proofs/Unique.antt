@@ -13,9 +13,8 @@ use Rattle.problem.specs.Problem.{Lists}
 use Rattle.problem.proofs.Posed.{Posed, posed, posed_then, one_codes}
 use Rattle.catalogue.proofs.Facts.{one_shown, one_answer}
 use Rattle.catalogue.proofs.Pages.{one_page}
-use Rattle.lister.specs.Listed.{Settled}
+use Rattle.lister.specs.Listed.{Listed, Settled}
 use Rattle.lister.specs.Page.{RecordCodes, PageCodes, PageSettled}
-use Rattle.lister.specs.declared.Listed.{Listed}
 
 pub record Same (r s : Listed) (v w : List ℕ) : Type 0 where
   pub code : r.code ≡ s.code

@@ -1,13 +1,9 @@
-use mathlib.Core.Path.{refl}
+use Rattle.std.proofs.lemmas.Result.{err_from_is_err_and}
 use Rattle.lister.proofs.Whole.{list_refused}
-use borrow.Author.Rules.{rules}
 use Rattle.lister.proofs.list_judged.Goals as goal
 
-pub returns-then-code-ne0 : goal.returns-then-code-ne0
-returns-then-code-ne0 c = rw c.refused.ensures (list_refused _ (c.check_judged-p.ensures.on _ _ c.requires) _ _ c.if-code-ne0.true)
+pub returns-in_err-judged : goal.returns-in_err-judged
+returns-in_err-judged c = let p = err_from_is_err_and c.from_residual.result c.from_residual.ensures.1 in rw (p.1, p.2) (list_refused _ _ _ _ (c.in_err-judged.ensures.on _ _ c.requires))
 
 pub list_checked-requires : goal.list_checked-requires
-list_checked-requires c = record { checked = c.check_judged-p.result; answered = c.check_judged-p.ensures.on _ _ c.requires; accepted = c.if-code-ne0.false; many = refl }
-
-pub returns : goal.returns
-returns c = c.list_checked.ensures
+list_checked-requires c = c.in_ok-judged.ensures.on _ _ c.requires
