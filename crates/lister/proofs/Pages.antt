@@ -42,8 +42,7 @@ use Rattle.lister.specs.Page.{RecordCodes, PageSettled}
 use Rattle.entry.specs.Resumed.{ResumeAsked, ResumePre, ResumePost, not_there, from_there}
 use Rattle.lister.specs.Inside.{nothing, whole, NoPage, bad, of_none}
 use Rattle.lister.specs.declared.Listed.{Listed}
-use Rattle.entry.specs.declared.Paged.{Paged}
-use Rattle.entry.specs.declared.Paged.TheVariants.{NoMatcher, Page}
+use Rattle.std.specs.Prelude.{Some, None}
 use Rattle.lister.proofs.Whole.{searched, shown_in_room}
 
 -- the record of a matcher is good, and so it is not refused
@@ -86,37 +85,28 @@ module _ (l : Lists) {r : Problem} (a : Answered l r) (list : List ℕ) (budget 
       resume_asked = record { some = ((the a z).T, (the a z).P, (the a z).Q, (the a z).es, (the a z).cs, asked (the a z).poses) }
 
       module _ {after : List ℕ} where
-        pub page_none : {p : Paged} {x : Listed} → ResumePost l.label l.size M tables list budget room width before after p → p ≡ NoMatcher → NoPage l.size r.kinds r.variables list x
-            → PageSettled l list budget before x after
-        page_none resumed e = go (rw e at resumed)
-          where
-            go : {x : Listed} → ResumePost l.label l.size M tables list budget room width before after NoMatcher → NoPage l.size r.kinds r.variables list x → PageSettled l list budget before x after
-            go (not_there same n) (bad post) = page_bad post same refl
-            go (not_there same n) (of_none post) =
-                record {
-                  code = codes_high l (RecordCodes l list) 20 (the a z) (inr ((says_good post).0 refl, inl (λ m. n m.0 m.1 m.2 m.3 m.4 (asked m.5) m.6, refl)));
-                  listed = λ h. absurd (omega arith);
-                  refused = λ h. (refl, refl, refl, same);
-                }
+        pub page_none : {x : Listed} → ResumePost l.label l.size M tables list budget room width before after None → NoPage l.size r.kinds r.variables list x → PageSettled l list budget before x after
+        page_none (not_there same n) (bad post) = page_bad post same refl
+        page_none (not_there same n) (of_none post) =
+            record {
+              code = codes_high l (RecordCodes l list) 20 (the a z) (inr ((says_good post).0 refl, inl (λ m. n m.0 m.1 m.2 m.3 m.4 (asked m.5) m.6, refl)));
+              listed = λ h. absurd (omega arith);
+              refused = λ h. (refl, refl, refl, same);
+            }
 
-        pub page_done : {p : Paged} {f : Found} → ResumePost l.label l.size M tables list budget room width before after p → p ≡ Page f
-            → PageSettled l list budget before (whole f) after
-        page_done resumed e = go (rw e at resumed)
-          where
-            go : {f : Found} → ResumePost l.label l.size M tables list budget room width before after (Page f)
-                → PageSettled l list budget before (whole f) after
-            go {f} (from_there each) =
-                record {
-                  code = let p = the a z in codes_high l (RecordCodes l list) 0 p (record_accepted p.poses (each p.T p.P p.Q p.es p.cs (asked p.poses)).is_record);
-                  listed = λ e T P Q es cs w.
-                      let b = asked w in
-                      let s = b.asked.search in
-                      let g = s.pattern.numbered in
-                      let v = each T P Q es cs b in
-                      let walk = walked (Allowed cs) (allowed? cs) g T in
-                      let tame : Tame walk (count Q) (size T) width = (is_fixed s {before = before} b.wide b.fits).is_tame in
-                      shown_in_room (λ x K r. PageMeant (Allowed cs) K P T list budget r x) v.events Q width budget room before after f g (λ x n m. page_unlimited (allowed? cs) n m) b.wide fits
-                      (later_widths (later_more (events.matched (choices Q list) list ∷ []) v.events refl v.later) (tame_widths walk (count Q) (size T) width tame)) b.fits v.fills
-                      (page_meant (Allowed cs) (allowed? cs) g T v.later budget room);
-                  refused = λ e. absurd (e refl);
-                }
+        pub page_done : {f : Found} → ResumePost l.label l.size M tables list budget room width before after (Some f) → PageSettled l list budget before (whole f) after
+        page_done {f} (from_there each) =
+            record {
+              code = let p = the a z in codes_high l (RecordCodes l list) 0 p (record_accepted p.poses (each p.T p.P p.Q p.es p.cs (asked p.poses)).is_record);
+              listed = λ e T P Q es cs w.
+                  let b = asked w in
+                  let s = b.asked.search in
+                  let g = s.pattern.numbered in
+                  let v = each T P Q es cs b in
+                  let walk = walked (Allowed cs) (allowed? cs) g T in
+                  let tame : Tame walk (count Q) (size T) width = (is_fixed s {before = before} b.wide b.fits).is_tame in
+                  shown_in_room (λ x K r. PageMeant (Allowed cs) K P T list budget r x) v.events Q width budget room before after f g (λ x n m. page_unlimited (allowed? cs) n m) b.wide fits
+                  (later_widths (later_more (events.matched (choices Q list) list ∷ []) v.events refl v.later) (tame_widths walk (count Q) (size T) width tame)) b.fits v.fills
+                  (page_meant (Allowed cs) (allowed? cs) g T v.later budget room);
+              refused = λ e. absurd (e refl);
+            }

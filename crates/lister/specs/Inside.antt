@@ -4,6 +4,7 @@ use Rattle.record.specs.Pairs.{RecordPost}
 use Rattle.problem.specs.Problem.{Lists}
 use Rattle.problem.specs.Answer.{Answered}
 use Rattle.problem.specs.declared.Problem.{Problem}
+use Rattle.meaning.specs.Ending.{number}
 use Rattle.search.specs.declared.Found.{Found}
 use Rattle.lister.specs.declared.Listed.{Listed}
 
@@ -13,7 +14,7 @@ nothing code = record { code = code; ending = 0; records = 0; tries = 0 }
 
 -- what the search found, of lists that are accepted
 abbrev pub whole : Found → Listed
-whole f = record { code = 0; ending = f.ending; records = f.records; tries = f.tries }
+whole f = record { code = 0; ending = number f.ending; records = f.records; tries = f.tries }
 
 -- the lists are accepted, and the pattern has so many variables
 pub record CheckedPre (l : Lists) (variables : ℕ) : Type 0 where

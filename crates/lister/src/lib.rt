@@ -10,7 +10,7 @@ ghost use Rattle.meaning.specs.Calls.{Says};
 ghost use Rattle.record.specs.Pairs.{RecordPre};
 ghost use Rattle.tree.specs.Rows.{GoodRows};
 
-use entry::{Paged, begin, resume};
+use entry::{begin, resume};
 use meaning::codes::{NO_MATCHER, RECORD};
 use search::Found;
 
@@ -41,7 +41,7 @@ fn accepted(found: Found) -> Listed
 {
     Listed {
         code: 0,
-        ending: found.ending,
+        ending: u32::from(found.ending),
         records: found.records,
         tries: found.tries,
     }
@@ -293,10 +293,10 @@ pub fn list_after(
     match resume(
         label, size, &packed, &tables, record, budget, room, width, out,
     ) {
-        Paged::NoMatcher => {
+        None => {
             let kinds = p.kinds;
             no_page(size, &kinds, variables, record)
         }
-        Paged::Page(found) => accepted(found),
+        Some(found) => accepted(found),
     }
 }

@@ -70,7 +70,7 @@ fn keep(
     memory[at + 1] = a;
     memory[at + 2] = count;
     memory[at + 3] = next as usize;
-    memory[at + 4] = letters::number(end);
+    memory[at + 4] = usize::from(end);
 }
 
 // Whether the heads of b neighbours from the row a on are a word of the expression at the row root: read on from what is

@@ -13,7 +13,7 @@ fn put(path: &mut [usize; 259], i: usize, row: usize, next: u64, end: bool)
 {
     path[4 * i + 3] = row;
     path[4 * i + 4] = next as usize;
-    path[4 * i + 5] = letters::number(end);
+    path[4 * i + 5] = usize::from(end);
     path[4 * i + 6] = row + 1;
 }
 

@@ -1,6 +1,5 @@
 use mathlib.Core.Path.{refl}
 use Rattle.lister.proofs.Whole.{list_refused}
-use borrow.Author.Rules.{rules}
 use Rattle.lister.proofs.list.Goals as goal
 
 pub returns-then-code-ne0 : goal.returns-then-code-ne0

@@ -7,7 +7,6 @@ use Rattle.problem.proofs.Posed.{the}
 use Rattle.walk.proofs.Packs.{pack_asked}
 use Rattle.lister.proofs.Whole.{tables_asked, few_variables}
 use Rattle.lister.proofs.Pages.{page_refused, record_asked, page_wrong_length, resume_asked, page_none, page_done}
-use borrow.Author.Rules.{rules}
 use Rattle.lister.proofs.list_after.Goals as goal
 
 pub returns-then-code-ne0 : goal.returns-then-code-ne0
@@ -31,11 +30,11 @@ resume-requires c = resume_asked _ c.check-p.ensures _ 0 _ c.if-code-ne0.false c
 pub no_page-requires : goal.no_page-requires
 no_page-requires c = record_asked _ c.check-p.ensures [] 0 [] c.if-code-ne0.false
 
-pub returns-in-NoMatcher : goal.returns-in-NoMatcher
-returns-in-NoMatcher c = page_none _ c.check-p.ensures _ _ _ c.if-code-ne0.false c.if-record-width.false c.tables_of.ensures c.pack.ensures refl c.room_for-room.ensures
-    c.resume.ensures c.in-NoMatcher.is c.no_page.ensures
+pub returns-in-None : goal.returns-in-None
+returns-in-None c = page_none _ c.check-p.ensures _ _ _ c.if-code-ne0.false c.if-record-width.false c.tables_of.ensures c.pack.ensures refl c.room_for-room.ensures
+    c.in-None.ensures c.no_page.ensures
 
-pub returns-in-Page : goal.returns-in-Page
-returns-in-Page c = rw c.accepted.ensures
+pub returns-in-Some : goal.returns-in-Some
+returns-in-Some c = rw c.accepted.ensures
     (page_done _ c.check-p.ensures _ _ _ c.if-code-ne0.false c.if-record-width.false c.tables_of.ensures c.pack.ensures refl c.room_for-room.ensures
-    c.resume.ensures c.in-Page.is)
+    c.in-Some.ensures)

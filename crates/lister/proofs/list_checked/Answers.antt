@@ -6,7 +6,6 @@ use mathlib.Core.List.{[]}
 use Rattle.problem.proofs.Posed.{the}
 use Rattle.walk.proofs.Packs.{pack_asked}
 use Rattle.lister.proofs.Whole.{tables_asked, few_variables, begin_asked, list_done}
-use borrow.Author.Rules.{rules}
 use Rattle.lister.proofs.list_checked.Goals as goal
 
 pub tables_of-requires : goal.tables_of-requires

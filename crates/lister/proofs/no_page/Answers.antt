@@ -1,4 +1,3 @@
-use borrow.Author.Rules.{rules}
 use Rattle.lister.specs.Inside.{bad, of_none}
 use Rattle.lister.proofs.no_page.Goals as goal
 

@@ -1,7 +1,5 @@
-use Prim.Native.Nat.{◌-◌}
 use native.Mathlib.Omega.{arith}
-use borrow.Author.Tests.{not-true, not-false}
-use Rattle.test.proofs.Obeying.{Obeying, obeying_none, list_long, judge_asked, obeying_not, obeying_more, obeying_all}
+use Rattle.test.proofs.Obeying.{obeying_none, list_long, judge_asked, obeying_not, obeying_more, obeying_all}
 use Rattle.test.proofs.all_obey.Goals as goal
 
 pub loop-x-init : goal.loop-x-init

@@ -1,7 +1,6 @@
 use mathlib.Core.Path.{refl}
 use Rattle.walk.proofs.Packs.{pack_asked}
 use Rattle.test.proofs.Refound.{list_short, follow_asked, placed_lost, placed_found}
-use borrow.Author.Rules.{rules}
 use Rattle.test.proofs.placed.Goals as goal
 
 pub pack-requires : goal.pack-requires

@@ -1,4 +1,3 @@
-use borrow.Author.Tests.{not-true, not-false}
 use Rattle.problem.specs.Problem.{Lists}
 use Rattle.test.proofs.Whole.{test_refused, record_asked, test_bad_record, Fitted, placed_asked, test_elsewhere, obeyed_asked, test_yes, test_no}
 use borrow.Author.Rules.{rules}
