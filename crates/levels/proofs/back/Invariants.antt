@@ -1,11 +1,7 @@
-use Rattle.levels.proofs.Columns.{level_number}
 use Rattle.levels.specs.Columns.{lefts}
-use mathlib.Core.List.{List}
-use lib.ListN.{length, get_or}
-use native.Mathlib.Decide.{dec_le}
-use native.Mathlib.Omega.{arith}
-use Prim.Native.Nat.{ℕ, ◌+◌, ◌*◌, ◌≤◌, ◌<◌, ◌-◌, zero-le}
-use mathlib.Core.Path.{◌≡◌, sym, ◌∙◌}
+use lib.ListN.{get_or}
+use Prim.Native.Nat.{ℕ, ◌≤◌, ◌<◌}
+use mathlib.Core.Path.{◌≡◌}
 use Rattle.levels.proofs.back.Given as goal
 
 abbrev pub invariant-loop-d : goal.invariant-loop-d
