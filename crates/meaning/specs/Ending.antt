@@ -1,4 +1,4 @@
--- Not needed to believe the promise: the number that the lister answers for how a list ends.
+-- The number that the lister answers for how a list ends.
 use Rattle.std.specs.Prelude.{ℕ}
 use Rattle.meaning.specs.declared.endings.Ending.{Ending}
 use Rattle.meaning.specs.declared.endings.Ending.TheVariants.{All, Room, Budget}
