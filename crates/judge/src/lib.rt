@@ -13,7 +13,7 @@ pub mod refusal;
 pub mod tags;
 
 use limits::{DEEPEST, MOST_BYTES, MOST_ROWS};
-use openings::names::{close, innermost, open};
+use openings::names::OpenNames;
 use refusal::{Refusal, outside};
 use tags::{Tag, next_tag};
 use tokens::class::{byte_at, table};
@@ -94,14 +94,12 @@ fn last(length: usize, at: usize, depth: usize, rows: usize, deep: usize) -> Res
     within(rows, deep)
 }
 
-// The pass. `names` and `levels` have `kept` names of open elements, that of the innermost among them.
+// The pass. `names` has names of open elements, that of the innermost among them.
 fn pass(document: &[u8], class: &[u8; 512]) -> Result<u32, Refusal>
     requires { Classed class.now × (length document.now ≤ 32768) }
     ensures { Verdict document.now (code_of result) (place_of result) (rows_of result) }
 {
-    let mut names = [0u16; 64];
-    let mut levels = [0u16; 64];
-    let mut kept: usize = 0;
+    let mut names = OpenNames::new();
     let mut depth: usize = 0;
     let mut seen = Seen { rows: 0, deep: 0 };
     let mut i: usize = 0;
@@ -112,11 +110,11 @@ fn pass(document: &[u8], class: &[u8; 512]) -> Result<u32, Refusal>
         if byte_at(document, at) != b'<' {
             return last(document.len(), at, depth, seen.rows, seen.deep);
         }
-        let name = innermost(&names, kept);
+        let name = names.innermost();
         let tag = next_tag(document, class, name, depth, seen.rows, at).map_err(outside)?;
         match tag {
             Tag::Opens(_, next) => {
-                kept = open(&mut names, &mut levels, kept, depth, at + 1);
+                names.open(depth, at + 1);
                 depth = depth + 1;
                 seen = more(seen, 1, depth);
                 i = next;
@@ -127,7 +125,7 @@ fn pass(document: &[u8], class: &[u8; 512]) -> Result<u32, Refusal>
             }
             Tag::Closes(next) => {
                 depth = depth - 1;
-                kept = close(document, &mut names, &mut levels, kept, depth);
+                names.close(document, depth);
                 i = next;
             }
         }

@@ -137,6 +137,7 @@ pub fn long_name_end(document: &[u8], class: &[u8; 512], from: usize) -> usize
 }
 
 // Do the bytes from the run's start up to k end with `]]`?
+#[tactic(auto, using(crate::proofs::Spans::brackets_few, crate::proofs::Spans::brackets_two))]
 fn bracketed(document: &[u8], start: usize, k: usize) -> bool
     requires { (start ≤ k) × (k ≤ length document.now) }
     ensures { result ≡ brackets (bytes document.now start (k - start)) }

@@ -6,7 +6,7 @@ use Rattle.judge.proofs.Judging.{begins, closed_within, room_open, room_close, m
 use Rattle.judge.proofs.pass.Goals as goal
 
 pub loop-names-init : goal.loop-names-init
-loop-names-init c = begins _ _ _ (record { names_long = length-replicate {A = ℕ} 64 0; levels_long = length-replicate {A = ℕ} 64 0; few = omega arith })
+loop-names-init c = rw c.new-names.ensures.1 (begins _ _ _ (rw c.new-names.ensures.1 at c.new-names.ensures.0))
 
 pub overflow_add-depth : goal.overflow_add-depth
 overflow_add-depth c = omega (arith, room_close c.loop-names.invariant c.run_end-text.ensures c.requires.1, c.run_end-text.ensures.few)
@@ -23,8 +23,8 @@ returns-in_err-tag c =
     outside_is c.from_residual.result c.from_residual.ensures.1 c.requires.1 at.1 at.2
 
 -- WHERE A TAG OPENS there are not too many
-pub open-kept-requires : goal.open-kept-requires
-open-kept-requires c = let done = tag_at c.loop-names.invariant c.run_end-text.ensures c.requires.1 c.more-seen.ensures c.innermost-name.ensures.1 (sym c.byte_at.ensures ∙ c.if-byte_at-ne60.false) c.next_tag.result c.next_tag.ensures c.in_ok-tag.ensures.cases c.in-Opens.is in
+pub open-requires : goal.open-requires
+open-requires c = let done = tag_at c.loop-names.invariant c.run_end-text.ensures c.requires.1 c.more-seen.ensures c.innermost-name.ensures.1 (sym c.byte_at.ensures ∙ c.if-byte_at-ne60.false) c.next_tag.result c.next_tag.ensures c.in_ok-tag.ensures.cases c.in-Opens.is in
     let may = may_open_lem c.loop-names.invariant c.run_end-text.ensures c.requires.1 in
     (c.loop-names.invariant.keeping, may.0, omega (arith, room_open c.loop-names.invariant c.run_end-text.ensures c.requires.1 _ done.1), may.1)
 
@@ -38,7 +38,7 @@ loop-names-smaller-in-Opens c = let done = tag_at c.loop-names.invariant c.run_e
 
 pub loop-names-preserved-in-Opens : goal.loop-names-preserved-in-Opens
 loop-names-preserved-in-Opens c = let done = tag_at c.loop-names.invariant c.run_end-text.ensures c.requires.1 c.more-seen.ensures c.innermost-name.ensures.1 (sym c.byte_at.ensures ∙ c.if-byte_at-ne60.false) c.next_tag.result c.next_tag.ensures c.in_ok-tag.ensures.cases c.in-Opens.is in
-    opens c.loop-names.invariant c.run_end-text.ensures c.requires.1 c.more-seen.ensures _ done.0 done.1 c.more-seen-in-Opens.ensures c.open-kept.ensures
+    opens c.loop-names.invariant c.run_end-text.ensures c.requires.1 c.more-seen.ensures _ done.0 done.1 c.more-seen-in-Opens.ensures c.open.ensures
 
 -- WHERE ONE IS A WHOLE ELEMENT
 pub overflow_add-depth-in-Empty : goal.overflow_add-depth-in-Empty
@@ -57,8 +57,8 @@ pub overflow_sub-depth : goal.overflow_sub-depth
 overflow_sub-depth c = let done = tag_at c.loop-names.invariant c.run_end-text.ensures c.requires.1 c.more-seen.ensures c.innermost-name.ensures.1 (sym c.byte_at.ensures ∙ c.if-byte_at-ne60.false) c.next_tag.result c.next_tag.ensures c.in_ok-tag.ensures.cases c.in-Closes.is in
     some_open c.loop-names.invariant c.run_end-text.ensures c.requires.1 done.1
 
-pub close-kept-requires : goal.close-kept-requires
-close-kept-requires c = let done = tag_at c.loop-names.invariant c.run_end-text.ensures c.requires.1 c.more-seen.ensures c.innermost-name.ensures.1 (sym c.byte_at.ensures ∙ c.if-byte_at-ne60.false) c.next_tag.result c.next_tag.ensures c.in_ok-tag.ensures.cases c.in-Closes.is in
+pub close-requires : goal.close-requires
+close-requires c = let done = tag_at c.loop-names.invariant c.run_end-text.ensures c.requires.1 c.more-seen.ensures c.innermost-name.ensures.1 (sym c.byte_at.ensures ∙ c.if-byte_at-ne60.false) c.next_tag.result c.next_tag.ensures c.in_ok-tag.ensures.cases c.in-Closes.is in
     may_close c.loop-names.invariant c.run_end-text.ensures c.requires.1 done.1
 
 pub loop-names-smaller : goal.loop-names-smaller
@@ -67,4 +67,4 @@ loop-names-smaller c = let done = tag_at c.loop-names.invariant c.run_end-text.e
 
 pub loop-names-preserved : goal.loop-names-preserved
 loop-names-preserved c = let done = tag_at c.loop-names.invariant c.run_end-text.ensures c.requires.1 c.more-seen.ensures c.innermost-name.ensures.1 (sym c.byte_at.ensures ∙ c.if-byte_at-ne60.false) c.next_tag.result c.next_tag.ensures c.in_ok-tag.ensures.cases c.in-Closes.is in
-    closes c.loop-names.invariant c.run_end-text.ensures c.requires.1 c.more-seen.ensures _ done.0 done.1 c.close-kept.ensures
+    closes c.loop-names.invariant c.run_end-text.ensures c.requires.1 c.more-seen.ensures _ done.0 done.1 c.close.ensures

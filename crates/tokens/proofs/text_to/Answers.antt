@@ -2,9 +2,6 @@ use Rattle.std.proofs.Common.{sym, ◌∙◌, arith}
 use Rattle.tokens.proofs.Spans.{passed_more, stops_to, at_limit}
 use Rattle.tokens.proofs.text_to.Goals as goal
 
-pub text_at-requires : goal.text_at-requires
-text_at-requires c = (c.requires.0, c.loop-i.invariant.from, omega arith)
-
 pub returns-then-not-text_at : goal.returns-then-not-text_at
 returns-then-not-text_at c = stops_to c.loop-i.invariant (omega arith) (sym c.text_at.ensures ∙ c.if-not-text_at.true)
 

@@ -5,9 +5,6 @@ use Rattle.tokens.proofs.class.table.Goals as goal
 pub loop-k-init : goal.loop-k-init
 loop-k-init c = stopping c.spread-class.ensures
 
-pub bounds-class-k : goal.bounds-class-k
-bounds-class-k c = omega (arith, c.loop-k.invariant.spread.long)
-
 pub loop-k-preserved : goal.loop-k-preserved
 loop-k-preserved c = stop_more c.loop-k.invariant (omega arith) c.stop_of.ensures
 
