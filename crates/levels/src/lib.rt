@@ -67,12 +67,10 @@ pub fn back(levels: &[usize; 1536], depth: usize) -> usize
     requires { (depth ≤ 256) × (length levels.now ≡ 1536) }
     ensures { BackTo (lefts levels.now) depth result }
 {
-    let mut d = depth;
-    while 0 < d {
+    for d in (1..=depth).rev() {
         if levels[6 * (d - 1) + 5] != 0 {
             return d;
         }
-        d -= 1;
     }
     0
 }
