@@ -57,7 +57,7 @@ pub fn of_lister(answer: Result<Found, Refusal>) -> Listing
     match answer {
         Ok(found) => Listing {
             code: 0,
-            ending: found.ending,
+            ending: u32::from(found.ending),
             records: found.records as u32,
             tries: found.tries,
         },

@@ -8,13 +8,6 @@ ghost use Rattle.choice.specs.Runs.{HolesPost, NeighboursPre, NeighboursPost, Wh
 
 use meaning::kinds::{SEQUENCE, SYMBOL};
 
-// How many terms stand from a row on, if that is known.
-#[derive(Drop)]
-pub enum Counted {
-    Unknown,
-    Terms(usize),
-}
-
 // Values that fail: how many, and the row at which the walk goes on with the next.
 #[derive(Drop)]
 pub struct Run {
@@ -72,8 +65,8 @@ pub fn further(size: &[u32], pattern: &[u32; 1536], p: usize, u: usize, left: us
     u + 1
 }
 
-// How many of the terms that start at the row u are left from the row s on.
-fn fewer(size: &[u32], u: usize, s: usize, left: usize) -> Counted
+// How many of the terms that start at the row u are left from the row s on, if one of them or the end of their list is there.
+fn fewer(size: &[u32], u: usize, s: usize, left: usize) -> Option<usize>
     requires { FewerPre size.now u s left }
     ensures { Fewer size.now u s left result }
 {
@@ -84,9 +77,9 @@ fn fewer(size: &[u32], u: usize, s: usize, left: usize) -> Counted
         n -= 1;
     }
     if row == s {
-        return Counted::Terms(n);
+        return Some(n);
     }
-    Counted::Unknown
+    None
 }
 
 // How many values there are, behind the variable at the pattern row q: the walk went on at the row u with its value, and it has left
@@ -104,14 +97,12 @@ pub fn more_values(
     requires { MorePre size.now pattern.now at.now q u left p s }
     ensures { MorePost size.now pattern.now at.now q u left p s result }
 {
-    if walk::kind(pattern, q) == SEQUENCE {
-        if walk::kind(pattern, p) == SEQUENCE {
-            if walk::holder(pattern, q) == walk::holder(pattern, p) {
-                return match fewer(size, u, s, left) {
-                    Counted::Unknown => values(size, pattern, at, p, s),
-                    Counted::Terms(n) => n + 1,
-                };
-            }
+    if walk::kind(pattern, q) == SEQUENCE
+        && walk::kind(pattern, p) == SEQUENCE
+        && walk::holder(pattern, q) == walk::holder(pattern, p)
+    {
+        if let Some(n) = fewer(size, u, s, left) {
+            return n + 1;
         }
     }
     values(size, pattern, at, p, s)
@@ -122,14 +113,12 @@ fn holes(label: &[u32], symbol: usize, row: usize, limit: usize) -> usize
     requires { row + limit ≤ length label.now }
     ensures { HolesPost label.now symbol row limit result }
 {
-    let mut count = 0;
-    while count < limit {
+    for count in 0..limit {
         if tree::at(label, row + count) == symbol {
             return count;
         }
-        count += 1;
     }
-    count
+    limit
 }
 
 // The neighbours from a row on that have another label.
@@ -137,16 +126,17 @@ fn neighbours(label: &[u32], size: &[u32], symbol: usize, row: usize, limit: usi
     requires { NeighboursPre label.now size.now row limit }
     ensures { NeighboursPost label.now size.now symbol row limit result.count result.row }
 {
-    let mut count = 0;
     let mut u = row;
-    while count < limit {
+    for count in 0..limit {
         if tree::at(label, u) == symbol {
             return Run { count, row: u };
         }
         u = tree::next(size, u);
-        count += 1;
     }
-    Run { count, row: u }
+    Run {
+        count: limit,
+        row: u,
+    }
 }
 
 // The values of a sequence variable that ends its list: all but the last leave terms behind.

@@ -5,7 +5,7 @@ ghost use Rattle.client.specs.Solvable.{told, Settled};
 ghost use Rattle.problem.specs.Problem.{lists};
 
 use meaning::Refusal;
-use meaning::endings::BUDGET;
+use meaning::endings::Ending;
 use problem::Problem;
 
 #[derive(Clone, Copy, Debug, PartialEq, Eq)]
@@ -30,7 +30,7 @@ pub fn solvable(problem: &Problem, budget: u32) -> Result<HasMatcher, Refusal>
     if found.records != NONE {
         return Ok(HasMatcher::Yes);
     }
-    if found.ending == BUDGET {
+    if found.ending == Ending::Budget {
         return Ok(HasMatcher::Open);
     }
     Ok(HasMatcher::No)

@@ -62,41 +62,36 @@ module _ {L S tables : List ℕ} {root a : ℕ} where
 
 -- a reading goes on
 module _ (L S tables : List ℕ) (start begun : ℕ) (was : Bool) (more : ℕ) where
-  -- so many are left, and stand from the row on
-  pub record Reading (left row next : ℕ) (end : Bool) : Type 0 where
-    pub low : left ≤ more
-    pub there : MorePre L S row left
-    pub read : ReadOn L S tables start begun was (more - left) row next end
+  -- so many are read, and the others stand from the row on
+  pub record Reading (count row next : ℕ) (end : Bool) : Type 0 where
+    pub there : MorePre L S row (more - count)
+    pub read : ReadOn L S tables start begun was count row next end
 
-  pub reading_begins : MorePre L S start more → Reading more start begun was
+  pub reading_begins : MorePre L S start more → Reading 0 start begun was
   reading_begins pre =
-      record {
-        low = omega arith;
-        there = pre;
-        read = record { on = λ root a c r. let z : c + (more - more) ≡ c = omega arith in rw z r };
-      }
+      let all : more - 0 ≡ more = omega arith in
+      record { there = rw all pre; read = record { on = λ root a c r. let z : c + 0 ≡ c = omega arith in rw z r } }
 
-  module _ {left row next : ℕ} {end : Bool} (h : Reading left row next end) where
-    pub reading_row : 0 < left → (row < length L) × (row < length S)
+  module _ {count row next : ℕ} {end : Bool} (h : Reading count row next end) where
+    pub reading_row : count < more → (row < length L) × (row < length S)
     reading_row z = let w = h.there.some in heads_row w.2 (omega (arith, w.3))
 
-    pub reading_on : {after later : ℕ} {still : Bool} → 0 < left → Stepped tables (get_or L row 0) next later still → after ≡ row + get_or S row 0 → Reading (left - 1) after later still
+    pub reading_on : {after later : ℕ} {still : Bool} → count < more → Stepped tables (get_or L row 0) next later still → after ≡ row + get_or S row 0 → Reading (count + 1) after later still
     reading_on z s p =
         let w = h.there.some in
         let g = heads_rest w.2 (omega (arith, w.3)) in
         record {
-          low = omega (arith, h.low);
           there = record { some = (w.0, g.0, rw p g.1, omega (arith, w.3, g.2)) };
           read =
               record {
                 on = λ root a c r.
-                    let y : c + (more - (left - 1)) ≡ suc (c + (more - left)) = omega (arith, h.low) in
+                    let y : c + (count + 1) ≡ suc (c + count) = omega arith in
                     rw y (one_head (h.read.on root a c r) s p);
               };
         }
 
-    pub reading_done : left ≤ 0 → ReadOn L S tables start begun was more row next end
-    reading_done z = let y : more - left ≡ more = omega arith in rw y at h.read
+    pub reading_done : count ≤ more → more ≤ count → ReadOn L S tables start begun was more row next end
+    reading_done y z = let e : count ≡ more = omega arith in rw e at h.read
 
 -- all heads from the first on
 module _ {L S tables : List ℕ} {root a count : ℕ} where

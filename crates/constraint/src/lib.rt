@@ -16,8 +16,8 @@ ghost use Rattle.constraint.specs.Named.{AllNamed};
 ghost use Rattle.constraint.specs.Reading.{HeadsPre, MorePre, ReadTo, ReadOn, PathPre, After, ObeysPre, ObeysPost, ForbiddenPost};
 
 use expression::Table;
+use letters::State;
 use meaning::kinds::{FUNCTION, INDIVIDUAL, SEQUENCE};
-use meaning::wide;
 use pattern::Pattern;
 
 // Whether a variable of this kind may have these two numbers.
@@ -50,12 +50,10 @@ pub fn given(variables: usize, kinds: &[u32; 16], size: &[u32], constraint: &[u3
     if constraint.len() != variables + variables {
         return false;
     }
-    let mut x = 0;
-    while x < variables {
+    for x in 0..variables {
         if !paired(kinds[x], size, constraint[x + x], constraint[x + x + 1]) {
             return false;
         }
-        x += 1;
     }
     true
 }
@@ -81,18 +79,15 @@ pub fn all_named(variables: usize, size: &[u32], constraint: &[u32]) -> bool
     ensures { (es : List Expression) → size.now ≡ size_rows es → Says result (AllNamed es constraint.now) }
 {
     let mut marks = [false; 65];
-    let mut x = 0;
-    while x < variables {
-        let first = wide(constraint[x + x]);
-        marks[first] = true;
-        x += 1;
+    for x in 0..variables {
+        marks[constraint[x + x] as usize] = true;
     }
     let mut row = 0;
     while row < size.len() {
         if !marks[row + 1] {
             return false;
         }
-        row += wide(size[row]);
+        row += size[row] as usize;
     }
     true
 }
@@ -101,37 +96,22 @@ pub fn all_named(variables: usize, size: &[u32], constraint: &[u32]) -> bool
 #[derive(Drop)]
 pub struct Mark {
     pub row: usize,
-    pub next: u64,
-    pub end: bool,
+    pub state: State,
 }
 
 // The reading goes on by so many heads. What has been read before is not read again: a choice that grows by one term reads one
 // more letter.
-pub fn read_on(
-    label: &[u32],
-    size: &[u32],
-    tables: &[u64; 320],
-    start: usize,
-    next: u64,
-    end: bool,
-    more: usize,
-) -> Mark
-    requires { MorePre label.now size.now start more }
-    ensures { ReadOn label.now size.now tables.now start next end more result.row result.next result.end }
+pub fn read_on(label: &[u32], size: &[u32], tables: &[u64; 320], from: Mark, more: usize) -> Mark
+    requires { MorePre label.now size.now from.row more }
+    ensures { ReadOn label.now size.now tables.now from.row from.state.next from.state.end more result.row result.state.next result.state.end }
 {
-    let mut state = letters::State { next, end };
-    let mut row = start;
-    let mut left = more;
-    while 0 < left {
+    let mut row = from.row;
+    let mut state = from.state;
+    for _ in 0..more {
         state = letters::step(state.next, tables, label[row]);
         row = tree::next(size, row);
-        left -= 1;
     }
-    Mark {
-        row,
-        next: state.next,
-        end: state.end,
-    }
+    Mark { row, state }
 }
 
 // The reading of the heads of so many neighbours from the row a on, for the expression that starts at the row root.
@@ -144,10 +124,13 @@ pub fn after_heads(
     count: usize,
 ) -> Mark
     requires { HeadsPre label.now size.now root a count }
-    ensures { ReadTo label.now size.now tables.now root a count result.row result.next result.end }
+    ensures { ReadTo label.now size.now tables.now root a count result.row result.state.next result.state.end }
 {
-    let state = letters::begin(tables, root);
-    read_on(label, size, tables, a, state.next, state.end, count)
+    let begun = Mark {
+        row: a,
+        state: letters::begin(tables, root),
+    };
+    read_on(label, size, tables, begun, count)
 }
 
 // The state after the labels on the path from the row a down to the row b, that of b left out.
@@ -158,7 +141,7 @@ pub fn after_path(
     root: usize,
     a: usize,
     b: usize,
-) -> letters::State
+) -> State
     requires { PathPre label.now size.now root a b }
     ensures { (c : Context) → ContextAt label.now size.now a b c
         → After tables.now root (path c) result.next result.end }
@@ -208,9 +191,7 @@ pub fn obeys(
     let above = start as usize;
     let root = above - 1;
     if kind == SEQUENCE {
-        let state = after_heads(label, size, tables, root, a, b);
-        return state.end;
+        return after_heads(label, size, tables, root, a, b).state.end;
     }
-    let state = after_path(label, size, tables, root, a, b);
-    state.end
+    after_path(label, size, tables, root, a, b).end
 }

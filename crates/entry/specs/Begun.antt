@@ -10,6 +10,7 @@ use Rattle.catalogue.proofs.Events.{events}
 use Rattle.catalogue.proofs.Fill.{fill}
 use Rattle.catalogue.proofs.Whole.{walked}
 use Rattle.levels.specs.Levels.{Search}
+use Rattle.meaning.specs.Ending.{number}
 use Rattle.search.specs.declared.Found.{Found}
 
 pub record BeginAsked (L S M tables : List ℕ) (room width : ℕ) (before : List ℕ)
@@ -27,4 +28,4 @@ pub record BeginPost (L S M tables : List ℕ) (budget room width : ℕ) (before
   pub all : (T : Term) (P : Pattern) (Q : List Kind) (es : List Expression) (cs : List Constraint)
       → (a : BeginAsked L S M tables room width before T P Q es cs)
       → fill budget room width 0 0 before (events (walked (Allowed cs) (allowed? cs) a.search.pattern.numbered T) (count Q) [])
-      ≡ record { ending = r.ending; records = r.records; tries = r.tries; out = after }
+      ≡ record { ending = number r.ending; records = r.records; tries = r.tries; out = after }

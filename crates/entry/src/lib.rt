@@ -4,8 +4,9 @@
 ghost use Rattle.entry.specs.Begun.{BeginPre, BeginPost};
 ghost use Rattle.entry.specs.Resumed.{ResumePre, ResumePost};
 
-use meaning::endings::{ALL, ROOM};
+use meaning::endings::Ending;
 use search::{Found, Limits};
+use walk::Halt;
 
 // The search from its first walk on, before any choice.
 pub fn begin(
@@ -24,8 +25,8 @@ pub fn begin(
     let mut record = [0u32; 32];
     let mut at = [0usize; 256];
     match walk::begin(label, size, pattern, &mut record, &mut at) {
-        walk::Out::Fail => search::ended(ALL, 0, 0),
-        walk::Out::Need(w) => {
+        Err(Halt::Fail) => search::ended(Ending::All, 0, 0),
+        Err(Halt::Need(w)) => {
             let mut levels = [0usize; 1536];
             let least = choice::least(pattern, w.place, w.start);
             let values = choice::values(size, pattern, &at, w.place, w.start);
@@ -48,24 +49,17 @@ pub fn begin(
                 out,
             )
         }
-        walk::Out::Ok(_) => {
+        Ok(_) => {
             if room == 0 {
-                return search::ended(ROOM, 0, 0);
+                return search::ended(Ending::Room, 0, 0);
             }
             search::put(out, 0, &record, width);
-            search::ended(ALL, 1, 0)
+            search::ended(Ending::All, 1, 0)
         }
     }
 }
 
-// What the search comes to from a record on, if it is that of a matcher.
-#[derive(Drop)]
-pub enum Paged {
-    NoMatcher,
-    Page(Found),
-}
-
-// The search from the levels that stand at a record.
+// The search from the levels that stand at a record, if it is that of a matcher.
 pub fn resume(
     label: &[u32],
     size: &[u32],
@@ -76,7 +70,7 @@ pub fn resume(
     room: usize,
     width: usize,
     out: &mut [u32],
-) -> Paged
+) -> Option<Found>
     requires { ResumePre label.now size.now pattern.now tables.now list.now room width out.old }
     ensures { ResumePost label.now size.now pattern.now tables.now list.now budget room width out.old out.new result }
 {
@@ -88,7 +82,7 @@ pub fn resume(
     let mut record = [0u32; 32];
     let mut at = [0usize; 256];
     let mut levels = [0usize; 1536];
-    match page::reach(
+    let depth = page::reach(
         label,
         size,
         pattern,
@@ -97,19 +91,17 @@ pub fn resume(
         &mut record,
         &mut at,
         &mut levels,
-    ) {
-        page::Reached::Nowhere => Paged::NoMatcher,
-        page::Reached::At(depth) => Paged::Page(search::go(
-            label,
-            size,
-            pattern,
-            tables,
-            limits,
-            &mut record,
-            &mut at,
-            &mut levels,
-            depth,
-            out,
-        )),
-    }
+    )?;
+    Some(search::go(
+        label,
+        size,
+        pattern,
+        tables,
+        limits,
+        &mut record,
+        &mut at,
+        &mut levels,
+        depth,
+        out,
+    ))
 }

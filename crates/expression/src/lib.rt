@@ -10,7 +10,6 @@ ghost use Rattle.expression.specs.Rule.{number_at, NameFits, SizeFits};
 pub mod kinds;
 
 use kinds::{REPETITION, SYMBOL};
-use meaning::wide;
 
 // An expression table as it is lent: the kind, the name and the size of each row, whole expressions one after another in preorder.
 #[derive(Clone, Copy)]
@@ -37,7 +36,7 @@ fn sized(kind: &[u32], size: &[u32], row: usize) -> bool
 {
     let n = kind.len();
     let k = kind[row];
-    let own = wide(size[row]);
+    let own = size[row] as usize;
     if 5 <= k {
         return false;
     }
@@ -48,7 +47,7 @@ fn sized(kind: &[u32], size: &[u32], row: usize) -> bool
     if n <= l {
         return false;
     }
-    let left = wide(size[l]);
+    let left = size[l] as usize;
     if k == REPETITION {
         return own == left + 1;
     }
@@ -56,7 +55,7 @@ fn sized(kind: &[u32], size: &[u32], row: usize) -> bool
     if n <= r {
         return false;
     }
-    let right = wide(size[r]);
+    let right = size[r] as usize;
     own == left + right + 1
 }
 
@@ -95,7 +94,7 @@ pub fn starts(size: &[u32], row: usize) -> bool
         if row <= at {
             return row == at;
         }
-        at += wide(size[at]);
+        at += size[at] as usize;
     }
     false
 }

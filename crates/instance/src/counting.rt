@@ -33,10 +33,8 @@ pub fn rows_of(size: &[u32], kind: &[u32], name: &[u32], record: &[u32]) -> usiz
     ensures { RowsPost size.now kind.now name.now «record».now result }
 {
     let mut rows = 0;
-    let mut row = 0;
-    while row < kind.len() {
+    for row in 0..kind.len() {
         rows += row_adds(size, kind, name, record, row);
-        row += 1;
     }
     rows
 }

@@ -1,5 +1,5 @@
 // What is written of one value: its rows copied, and for a context what stands around its hole.
-ghost use Rattle.std.specs.Prelude.{◌≡◌};
+ghost use Rattle.std.specs.Prelude.{◌≡◌, ◌+◌};
 ghost use Rattle.std.proofs.lemmas.List.Edits.{sets};
 ghost use Rattle.instance.specs.Places.{along, number, resized};
 ghost use Rattle.instance.specs.Pieces.{CopyPre, ResizedPre, AbovePre, AroundPre, AroundPost, IndividualPre, IndividualPost, SequencePre, SequencePost, FillingPre, FillingPost, ContextPre, ContextPost, HeadPre, HeadPost};
@@ -13,11 +13,28 @@ pub fn copy(list: &[u32], from: usize, count: usize, out: &mut [u32], to: usize)
     requires { CopyPre list.now out.old from count to }
     ensures { out.new ≡ sets out.old to (along (number list.now) from count) }
 {
-    let mut i = 0;
-    while i < count {
-        out[to + i] = list[from + i];
-        i += 1;
-    }
+    out[to..to + count].copy_from_slice(&list[from..from + count]);
+}
+
+// Copies so many rows, to the rows from `to` on, and answers the row behind them.
+fn copy_rows(
+    label: &[u32],
+    size: &[u32],
+    from: usize,
+    count: usize,
+    to: usize,
+    out_label: &mut [u32],
+    out_size: &mut [u32],
+) -> usize
+    requires labels { CopyPre label.now out_label.old from count to }
+    requires sizes { CopyPre size.now out_size.old from count to }
+    ensures labels { out_label.new ≡ sets out_label.old to (along (number label.now) from count) }
+    ensures sizes { out_size.new ≡ sets out_size.old to (along (number size.now) from count) }
+    ensures end { result ≡ to + count }
+{
+    copy(label, from, count, out_label, to);
+    copy(size, from, count, out_size, to);
+    to + count
 }
 
 // The size of a row where the term at the hole, of so many rows, has made place for another.
@@ -46,10 +63,8 @@ fn copy_above(
     requires { AbovePre size.now out.old from count hole taken filled to }
     ensures { out.new ≡ sets out.old to (along (resized size.now hole taken filled) from count) }
 {
-    let mut i = 0;
-    while i < count {
+    for i in 0..count {
         out[to + i] = resized(size, hole, taken, filled, from + i);
-        i += 1;
     }
 }
 
@@ -72,11 +87,10 @@ fn around(
     let behind = hole + taken;
     let right = tree::next(size, start) - behind;
     let next = to + left + filled;
-    copy(label, behind, right, out_label, next);
-    copy(size, behind, right, out_size, next);
+    let end = copy_rows(label, size, behind, right, next, out_label, out_size);
     copy(label, start, left, out_label, to);
     copy_above(size, start, left, hole, taken, filled, out_size, to);
-    next + right
+    end
 }
 
 // Writes the value of an individual variable.
@@ -94,9 +108,7 @@ pub fn individual(
 {
     let row = tree::at(record, variable + variable);
     let rows = tree::at(size, row);
-    copy(label, row, rows, out_label, to);
-    copy(size, row, rows, out_size, to);
-    to + rows
+    copy_rows(label, size, row, rows, to, out_label, out_size)
 }
 
 // Writes the value of a sequence variable.
@@ -115,9 +127,7 @@ pub fn sequence(
     let start = tree::at(record, variable + variable);
     let count = tree::at(record, variable + variable + 1);
     let rows = tree::past(size, start, count) - start;
-    copy(label, start, rows, out_label, to);
-    copy(size, start, rows, out_size, to);
-    to + rows
+    copy_rows(label, size, start, rows, to, out_label, out_size)
 }
 
 // The row of a context variable's hole, where the context starts at the row `to`.

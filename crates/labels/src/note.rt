@@ -1,15 +1,6 @@
 // Rows as they are noted, in three lists: the start and the length of a row's spelling, and its size.
-ghost use Rattle.std.specs.Prelude.{◌≡◌, ◌-◌, ◌≤◌, ◌<◌, get_or, set};
+ghost use Rattle.std.specs.Prelude.{◌≡◌, ◌-◌, ◌≤◌, ◌<◌, set};
 ghost use Rattle.labels.specs.Lists.{Put};
-
-use meaning::short;
-
-pub fn number(list: &[u16; 2052], i: usize) -> usize
-    requires { i < 2052 }
-    ensures { (result ≡ get_or list.now i 0) × (result < 65536) }
-{
-    short(list[i])
-}
 
 // A row behind those that are noted: it holds no other yet.
 pub fn put(

@@ -74,16 +74,16 @@ module _ (list : List ℕ) (x a b c d e : ℕ) where
     pub five_4 : get_or new (5 * x + 4) 0 ≡ e
     five_4 = get_or-set_same four (5 * x + 4) e 0 (simp length-set (omega arith))
 
--- ---- five lists laid into one
+-- ---- the rows laid into one list
 
 -- up to a row
-pub record Laid (name first : List ℕ) (null : List Bool) (cont : List ℕ) (ends : List Bool) (tables : List ℕ) (rows : ℕ) : Type 0 where
+pub record Laid (name first : ℕ → ℕ) (null : ℕ → Bool) (cont : ℕ → ℕ) (ends : ℕ → Bool) (tables : List ℕ) (rows : ℕ) : Type 0 where
   pub long : length tables ≡ 320
-  pub names : (row : ℕ) → row < rows → name_of tables row ≡ get_or name row 0
-  pub firsts : (row : ℕ) → row < rows → first_of tables row ≡ get_or first row 0
-  pub nulls : (row : ℕ) → row < rows → null_of tables row ≡ get_or null row false
-  pub conts : (row : ℕ) → row < rows → cont_of tables row ≡ get_or cont row 0
-  pub finals : (row : ℕ) → row < rows → ends_of tables row ≡ get_or ends row false
+  pub names : (row : ℕ) → row < rows → name_of tables row ≡ name row
+  pub firsts : (row : ℕ) → row < rows → first_of tables row ≡ first row
+  pub nulls : (row : ℕ) → row < rows → null_of tables row ≡ null row
+  pub conts : (row : ℕ) → row < rows → cont_of tables row ≡ cont row
+  pub finals : (row : ℕ) → row < rows → ends_of tables row ≡ ends row
 
 -- what holds of the rows before one and of that one holds of one row more
 grow : (P : ℕ → Type 0) (rows : ℕ) → ((row : ℕ) → row < rows → P row) → P rows → (row : ℕ) → row < rows + 1 → P row
@@ -95,7 +95,7 @@ grow P rows old here row h = elim (ℕ_discrete row rows) [
 inside : (row : ℕ) → (row < 64) ⊎ (64 ≤ row)
 inside row = ⊎_elim (λ e. inr (omega arith)) (λ h. inl (omega arith)) (eq-zero-or-pos (64 - row))
 
-module _ {name first : List ℕ} {null : List Bool} {cont : List ℕ} {ends : List Bool} {tables : List ℕ} where
+module _ {name first : ℕ → ℕ} {null : ℕ → Bool} {cont : ℕ → ℕ} {ends : ℕ → Bool} {tables : List ℕ} where
   pub laid_none : length tables ≡ 320 → Laid name first null cont ends tables 0
   laid_none long =
       record {
@@ -109,7 +109,7 @@ module _ {name first : List ℕ} {null : List Bool} {cont : List ℕ} {ends : Li
 
   module _ {rows : ℕ} (l : Laid name first null cont ends tables rows) where
     abbrev next : List ℕ
-    next = five tables rows (get_or name rows 0) (get_or first rows 0) (noted (get_or null rows false)) (get_or cont rows 0) (noted (get_or ends rows false))
+    next = five tables rows (name rows) (first rows) (noted (null rows)) (cont rows) (noted (ends rows))
 
     kept : (row i : ℕ) → row < rows → i < 5 → get_or next (5 * row + i) 0 ≡ get_or tables (5 * row + i) 0
     kept row i h few = five_other tables rows _ _ _ _ _ row i (λ e. omega arith) few
@@ -120,25 +120,25 @@ module _ {name first : List ℕ} {null : List Bool} {cont : List ℕ} {ends : Li
         let zero_at : (row : ℕ) → 5 * row + 0 ≡ 5 * row = λ row. omega arith in
         record {
           long = five_long tables rows _ _ _ _ _ ∙ l.long;
-          names = grow (λ row. name_of next row ≡ get_or name row 0) rows (λ row b. rw (zero_at row) at (kept row 0 b (omega arith)) ∙ l.names row b) (five_0 tables rows _ _ _ _ _ room);
-          firsts = grow (λ row. first_of next row ≡ get_or first row 0) rows (λ row b. kept row 1 b (omega arith) ∙ l.firsts row b) (five_1 tables rows _ _ _ _ _ room);
-          nulls = grow (λ row. null_of next row ≡ get_or null row false) rows (λ row b. rw (kept row 2 b (omega arith)) (l.nulls row b))
+          names = grow (λ row. name_of next row ≡ name row) rows (λ row b. rw (zero_at row) at (kept row 0 b (omega arith)) ∙ l.names row b) (five_0 tables rows _ _ _ _ _ room);
+          firsts = grow (λ row. first_of next row ≡ first row) rows (λ row b. kept row 1 b (omega arith) ∙ l.firsts row b) (five_1 tables rows _ _ _ _ _ room);
+          nulls = grow (λ row. null_of next row ≡ null row) rows (λ row b. rw (kept row 2 b (omega arith)) (l.nulls row b))
               (rw (five_2 tables rows _ _ _ _ _ room) (noted_is _));
-          conts = grow (λ row. cont_of next row ≡ get_or cont row 0) rows (λ row b. kept row 3 b (omega arith) ∙ l.conts row b) (five_3 tables rows _ _ _ _ _ room);
-          finals = grow (λ row. ends_of next row ≡ get_or ends row false) rows (λ row b. rw (kept row 4 b (omega arith)) (l.finals row b))
+          conts = grow (λ row. cont_of next row ≡ cont row) rows (λ row b. kept row 3 b (omega arith) ∙ l.conts row b) (five_3 tables rows _ _ _ _ _ room);
+          finals = grow (λ row. ends_of next row ≡ ends row) rows (λ row b. rw (kept row 4 b (omega arith)) (l.finals row b))
               (rw (five_4 tables rows _ _ _ _ _ room) (noted_is _));
         }
 
-  -- where each list has 64 rows, the rows beyond are alike
-  pub laid_whole : {rows : ℕ} → Laid name first null cont ends tables rows → 64 ≤ rows → length name ≡ 64 → length first ≡ 64 → length null ≡ 64 → length cont ≡ 64 → length ends ≡ 64
-      → Tabled name first null cont ends tables
-  laid_whole l most a b c d e =
+  -- where nothing is beyond 64 rows
+  pub laid_whole : {rows : ℕ} → Laid name first null cont ends tables rows → 64 ≤ rows
+      → ((row : ℕ) → 64 ≤ row → (name row ≡ 0) × (first row ≡ 0) × (null row ≡ false) × (cont row ≡ 0) × (ends row ≡ false)) → Tabled name first null cont ends tables
+  laid_whole l most beyond =
       record {
-        names = fun_ext (λ row. ⊎_elim (λ h. l.names row (omega arith)) (λ h. none row (5 * row) h (omega arith) ∙ sym (get_or-eq_default name 0 {n = row} (omega arith))) (inside row));
-        firsts = fun_ext (λ row. ⊎_elim (λ h. l.firsts row (omega arith)) (λ h. none row (5 * row + 1) h (omega arith) ∙ sym (get_or-eq_default first 0 {n = row} (omega arith))) (inside row));
-        nulls = fun_ext (λ row. ⊎_elim (λ h. l.nulls row (omega arith)) (λ h. rw (none row (5 * row + 2) h (omega arith), get_or-eq_default null false {n = row} (omega arith)) refl) (inside row));
-        conts = fun_ext (λ row. ⊎_elim (λ h. l.conts row (omega arith)) (λ h. none row (5 * row + 3) h (omega arith) ∙ sym (get_or-eq_default cont 0 {n = row} (omega arith))) (inside row));
-        finals = fun_ext (λ row. ⊎_elim (λ h. l.finals row (omega arith)) (λ h. rw (none row (5 * row + 4) h (omega arith), get_or-eq_default ends false {n = row} (omega arith)) refl) (inside row));
+        names = fun_ext (λ row. ⊎_elim (λ h. l.names row (omega arith)) (λ h. none row (5 * row) h (omega arith) ∙ sym (beyond row h).0) (inside row));
+        firsts = fun_ext (λ row. ⊎_elim (λ h. l.firsts row (omega arith)) (λ h. none row (5 * row + 1) h (omega arith) ∙ sym (beyond row h).1) (inside row));
+        nulls = fun_ext (λ row. ⊎_elim (λ h. l.nulls row (omega arith)) (λ h. rw (none row (5 * row + 2) h (omega arith), (beyond row h).2) refl) (inside row));
+        conts = fun_ext (λ row. ⊎_elim (λ h. l.conts row (omega arith)) (λ h. none row (5 * row + 3) h (omega arith) ∙ sym (beyond row h).3) (inside row));
+        finals = fun_ext (λ row. ⊎_elim (λ h. l.finals row (omega arith)) (λ h. rw (none row (5 * row + 4) h (omega arith), (beyond row h).4) refl) (inside row));
       }
     where
       none : (row i : ℕ) → 64 ≤ row → 5 * row ≤ i → get_or tables i 0 ≡ 0

@@ -1,7 +1,5 @@
 -- Not needed to believe the promise: an expression table with what may come first and next, as one list, five numbers a row.
-use Rattle.std.specs.Prelude.{◌≡◌, Bool, cond, List, ℕ, ◌+◌, ◌*◌, length, get_or, set, eqb}
-use Rattle.expression.specs.Rule.{number_at}
-use Rattle.letters.specs.Accepts.{flag_at}
+use Rattle.std.specs.Prelude.{◌≡◌, Bool, cond, List, ℕ, ◌+◌, ◌*◌, get_or, set, eqb}
 
 -- a flag as a number
 abbrev pub noted : Bool → ℕ
@@ -29,18 +27,10 @@ module _ (tables : List ℕ) (row : ℕ) where
   abbrev pub ends_of : Bool
   ends_of = eqb (get_or tables (5 * row + 4) 0) 1
 
-pub record LayPre (name first : List ℕ) (null : List Bool) (cont : List ℕ) (ends : List Bool) (tables : List ℕ) : Type 0 where
-  pub names : length name ≡ 64
-  pub firsts : length first ≡ 64
-  pub nulls : length null ≡ 64
-  pub conts : length cont ≡ 64
-  pub finals : length ends ≡ 64
-  pub room : length tables ≡ 320
-
--- the tables hold five lists of a number or a flag for each row
-pub record Tabled (name first : List ℕ) (null : List Bool) (cont : List ℕ) (ends : List Bool) (tables : List ℕ) : Type 0 where
-  pub names : name_of tables ≡ number_at name
-  pub firsts : first_of tables ≡ number_at first
-  pub nulls : null_of tables ≡ flag_at null
-  pub conts : cont_of tables ≡ number_at cont
-  pub finals : ends_of tables ≡ flag_at ends
+-- the tables hold a name, a head and a state for each row
+pub record Tabled (name first : ℕ → ℕ) (null : ℕ → Bool) (cont : ℕ → ℕ) (ends : ℕ → Bool) (tables : List ℕ) : Type 0 where
+  pub names : name_of tables ≡ name
+  pub firsts : first_of tables ≡ first
+  pub nulls : null_of tables ≡ null
+  pub conts : cont_of tables ≡ cont
+  pub finals : ends_of tables ≡ ends

@@ -5,26 +5,17 @@ ghost use Rattle.std.specs.Int.Bits.{bit_or};
 ghost use Rattle.expression.specs.Expression.{Expression};
 ghost use Rattle.expression.specs.Rows.{GoodTable, StartsAt};
 ghost use Rattle.expression.specs.Rule.{number_at};
-ghost use Rattle.letters.specs.Accepts.{flag_at};
 ghost use Rattle.letters.specs.State.{StateOf, TablesOf};
-ghost use Rattle.letters.specs.Tables.{noted, five, LayPre, Tabled};
-ghost use Rattle.letters.specs.Following.{gate, head_set, head_null, HeadRow, Shape, PartsAre, followed, ContsOf};
+ghost use Rattle.letters.specs.Tables.{noted, five, Tabled};
+ghost use Rattle.letters.specs.Following.{first_in, null_in, next_in, end_in, gate, head_set, head_null, HeadRow, Shape, PartsAre, followed, ContsOf};
 
 use expression::kinds::{CHOICE, CONCATENATION, EMPTY, SYMBOL};
-use meaning::wide;
 
 // The rows that may read the next letter, and whether the word may end here.
-#[derive(Drop)]
+#[derive(Clone, Copy)]
 pub struct State {
     pub next: u64,
     pub end: bool,
-}
-
-// A flag as a number.
-pub fn number(flag: bool) -> usize
-    ensures { result ≡ noted flag }
-{
-    if flag { 1 } else { 0 }
 }
 
 fn gated(on: bool, x: u64) -> u64
@@ -34,7 +25,7 @@ fn gated(on: bool, x: u64) -> u64
 }
 
 // The rows of the parts of a row; a leaf stands for its own parts.
-#[derive(Drop)]
+#[derive(Clone, Copy)]
 struct Parts {
     left: usize,
     right: usize,
@@ -57,14 +48,14 @@ fn parts_of(kind: &[u32], size: &[u32], row: usize) -> Parts
     if k < 4 {
         return Parts {
             left: l,
-            right: l + wide(size[l]),
+            right: l + size[l] as usize,
         };
     }
     Parts { left: l, right: l }
 }
 
 // The rows that may read first, and whether the empty word is one.
-#[derive(Drop)]
+#[derive(Clone, Copy)]
 struct Head {
     first: u64,
     null: bool,
@@ -83,13 +74,10 @@ fn head_of(kind: u32, row: usize, l: Head, r: Head) -> Head
             first: 0,
             null: true,
         },
-        CONCATENATION => {
-            let more = gated(l.null, r.first);
-            Head {
-                first: l.first | more,
-                null: l.null & r.null,
-            }
-        }
+        CONCATENATION => Head {
+            first: l.first | gated(l.null, r.first),
+            null: l.null & r.null,
+        },
         CHOICE => Head {
             first: l.first | r.first,
             null: l.null | r.null,
@@ -101,46 +89,22 @@ fn head_of(kind: u32, row: usize, l: Head, r: Head) -> Head
     }
 }
 
-#[derive(Drop)]
-struct Heads {
-    first: [u64; 64],
-    null: [bool; 64],
-}
-
 // Each row's head, from the last row up.
-fn heads_of(kind: &[u32], size: &[u32]) -> Heads
+fn heads_of(kind: &[u32], size: &[u32]) -> [Head; 64]
     requires { (length size.now ≡ length kind.now) × (length kind.now ≤ 64)
         × Shape (number_at kind.now) (number_at size.now) (length kind.now) }
-    ensures { (length result.first ≡ 64) × (length result.null ≡ 64)
-        × ((s : ℕ) → s < length kind.now → HeadRow (number_at kind.now) (number_at size.now) (number_at result.first) (flag_at result.null) s) }
+    ensures { (s : ℕ) → s < length kind.now → HeadRow (number_at kind.now) (number_at size.now) (first_in result) (null_in result) s }
 {
-    let mut first = [0u64; 64];
-    let mut null = [false; 64];
-    let mut i = kind.len();
-    while 0 < i {
-        i -= 1;
-        let p = parts_of(kind, size, i);
-        let l = p.left;
-        let r = p.right;
-        let h = head_of(
-            kind[i],
-            i,
-            Head {
-                first: first[l],
-                null: null[l],
-            },
-            Head {
-                first: first[r],
-                null: null[r],
-            },
-        );
-        first[i] = h.first;
-        null[i] = h.null;
+    let none = Head {
+        first: 0,
+        null: false,
+    };
+    let mut heads = [none; 64];
+    for row in (0..kind.len()).rev() {
+        let parts = parts_of(kind, size, row);
+        heads[row] = head_of(kind[row], row, heads[parts.left], heads[parts.right]);
     }
-    Heads {
-        first: first,
-        null: null,
-    }
+    heads
 }
 
 // What may come after the left part of a row: `head` is that of the right part, `here` is what may come after the row.
@@ -149,9 +113,8 @@ fn follow(kind: u32, head: Head, here: State) -> State
         × (result.end ≡ followed kind (head.null && here.end) here.end here.end) }
 {
     if kind == CONCATENATION {
-        let more = gated(head.null, here.next);
         return State {
-            next: head.first | more,
+            next: head.first | gated(head.null, here.next),
             end: head.null & here.end,
         };
     }
@@ -164,69 +127,31 @@ fn follow(kind: u32, head: Head, here: State) -> State
     }
 }
 
-#[derive(Drop)]
-struct Conts {
-    cont: [u64; 64],
-    ends: [bool; 64],
-}
-
 // What may come after each row, from the first row down. After a top-level expression nothing comes.
-fn conts_of(kind: &[u32], size: &[u32], first: &[u64; 64], null: &[bool; 64]) -> Conts
+fn states_of(kind: &[u32], size: &[u32], heads: &[Head; 64]) -> [State; 64]
     requires { (length size.now ≡ length kind.now) × (length kind.now ≤ 64)
         × Shape (number_at kind.now) (number_at size.now) (length kind.now) }
-    ensures { (length result.cont ≡ 64) × (length result.ends ≡ 64)
-        × ((name : List ℕ) (es : List Expression) → GoodTable kind.now name size.now es
-        → ContsOf first.now null.now result.cont result.ends es (length kind.now)) }
+    ensures { (name : List ℕ) (es : List Expression) → GoodTable kind.now name size.now es
+        → ContsOf (first_in heads.now) (null_in heads.now) (next_in result) (end_in result) es (length kind.now) }
 {
-    let mut cont = [0u64; 64];
-    let mut ends = [true; 64];
-    let mut i = 0;
-    while i < kind.len() {
-        let p = parts_of(kind, size, i);
-        let l = p.left;
-        let r = p.right;
-        let head = Head {
-            first: first[r],
-            null: null[r],
-        };
-        let next = cont[i];
-        let end = ends[i];
-        let left = follow(
-            kind[i],
-            head,
-            State {
-                next: next,
-                end: end,
-            },
-        );
-        cont[r] = next;
-        ends[r] = end;
-        cont[l] = left.next;
-        ends[l] = left.end;
-        i += 1;
+    let last = State { next: 0, end: true };
+    let mut states = [last; 64];
+    for row in 0..kind.len() {
+        let parts = parts_of(kind, size, row);
+        let here = states[row];
+        states[parts.right] = here;
+        states[parts.left] = follow(kind[row], heads[parts.right], here);
     }
-    Conts {
-        cont: cont,
-        ends: ends,
-    }
+    states
 }
 
-#[derive(Drop)]
-struct Names {
-    name: [u32; 64],
-}
-
-fn names_of(name: &[u32]) -> Names
+fn names_of(name: &[u32]) -> [u32; 64]
     requires { length name.now ≤ 64 }
-    ensures { (length result.name ≡ 64) × ((s : ℕ) → s < length name.now → number_at result.name s ≡ number_at name.now s) }
+    ensures { (s : ℕ) → s < length name.now → number_at result s ≡ number_at name.now s }
 {
-    let mut copy = [0u32; 64];
-    let mut i = 0;
-    while i < name.len() {
-        copy[i] = name[i];
-        i += 1;
-    }
-    Names { name: copy }
+    let mut names = [0u32; 64];
+    names[..name.len()].copy_from_slice(name);
+    names
 }
 
 // The five numbers of a row: its name; the rows that may read first in it, and whether it has the empty word; the rows that may read
@@ -236,37 +161,20 @@ fn put(tables: &mut [u64; 320], row: usize, name: u32, head: Head, after: State)
     ensures { tables.new ≡ five tables.old row name head.first (noted head.null) after.next (noted after.end) }
 {
     let at = 5 * row;
-    tables[at] = name as u64;
+    tables[at] = u64::from(name);
     tables[at + 1] = head.first;
-    tables[at + 2] = number(head.null) as u64;
+    tables[at + 2] = u64::from(head.null);
     tables[at + 3] = after.next;
-    tables[at + 4] = number(after.end) as u64;
+    tables[at + 4] = u64::from(after.end);
 }
 
-// Five lists of a number for each row as one list.
-fn lay(
-    name: &[u32; 64],
-    first: &[u64; 64],
-    null: &[bool; 64],
-    cont: &[u64; 64],
-    ends: &[bool; 64],
-    tables: &mut [u64; 320],
-)
-    requires { LayPre name.now first.now null.now cont.now ends.now tables.old }
-    ensures { Tabled name.now first.now null.now cont.now ends.now tables.new }
+// All rows, one after another.
+fn lay(name: &[u32; 64], heads: &[Head; 64], states: &[State; 64], tables: &mut [u64; 320])
+    requires { length tables.old ≡ 320 }
+    ensures { Tabled (number_at name.now) (first_in heads.now) (null_in heads.now) (next_in states.now) (end_in states.now) tables.new }
 {
-    let mut row = 0;
-    while row < 64 {
-        let head = Head {
-            first: first[row],
-            null: null[row],
-        };
-        let after = State {
-            next: cont[row],
-            end: ends[row],
-        };
-        put(tables, row, name[row], head, after);
-        row += 1;
+    for row in 0..64 {
+        put(tables, row, name[row], heads[row], states[row]);
     }
 }
 
@@ -275,15 +183,9 @@ pub fn tables_of(kind: &[u32], name: &[u32], size: &[u32], tables: &mut [u64; 32
     requires { (length tables.old ≡ 320) × ((es : List Expression) × GoodTable kind.now name.now size.now es) }
     ensures { (es : List Expression) → GoodTable kind.now name.now size.now es → TablesOf es tables.new }
 {
-    let n = names_of(name);
-    let copy = n.name;
-    let h = heads_of(kind, size);
-    let first = h.first;
-    let null = h.null;
-    let c = conts_of(kind, size, &first, &null);
-    let cont = c.cont;
-    let ends = c.ends;
-    lay(&copy, &first, &null, &cont, &ends, tables);
+    let heads = heads_of(kind, size);
+    let states = states_of(kind, size, &heads);
+    lay(&names_of(name), &heads, &states, tables);
 }
 
 // The state before the first letter, for the expression that starts at the row `root`.

@@ -16,8 +16,9 @@ use Rattle.walk.specs.Above.{Marks}
 use Rattle.walk.specs.Cycle.{stop_at}
 use Rattle.walk.specs.Onward.{Problem, BeginPost}
 use Rattle.walk.specs.Taken.{Answers}
-use Rattle.walk.specs.declared.Out.{Out}
-use Rattle.walk.specs.declared.Out.TheVariants as answer
+use Rattle.std.specs.Prelude.{Result, Err}
+use Rattle.walk.specs.declared.Halt.{Halt}
+use Rattle.walk.specs.declared.Halt.TheVariants as halt
 use Rattle.walk.proofs.Marks.{marks_kept}
 use Rattle.walk.proofs.Views.{need_agree}
 use Rattle.walk.proofs.Answered.{answers}
@@ -39,7 +40,7 @@ module _ {L S M tables : List ℕ} {T : Term} {P : Pattern} {Q : List Kind} {es 
         marks = record { few = w.pattern.few; long = rows_long };
       }
 
-  module _ {o : Out} {R' A' : List ℕ} (b : BeginPost L S M R A o R' A') where
+  module _ {o : Result ℕ Halt} {R' A' : List ℕ} (b : BeginPost L S M R A o R' A') where
     pub first_marks : Marks w.K A'
     first_marks = marks_kept (b.is T P Q first_asked).2 (record { few = w.pattern.few; long = rows_long })
 
@@ -52,7 +53,7 @@ module _ {L S M tables : List ℕ} {T : Term} {P : Pattern} {Q : List Kind} {es 
     pub first_answered : Answers R' o (walk (Allowed cs) (allowed? cs) P T [])
     first_answered = rw free (answers (b.is T P Q first_asked).0)
 
-    pub first_asks : (vals G : List ℕ) (p x s : ℕ) → o ≡ answer.Need (stop_at p x s) → Asks w R' A' vals G 0 p x s
+    pub first_asks : (vals G : List ℕ) (p x s : ℕ) → o ≡ Err (halt.Need (stop_at p x s)) → Asks w R' A' vals G 0 p x s
     unfolding first_asked
     first_asks vals G p x s e =
         let n = need_agree (rw e at (b.is T P Q first_asked).0) in

@@ -21,8 +21,9 @@ use Rattle.memory.specs.Memory.{Both, GrowPre}
 use Rattle.walk.specs.Packed.{root_of}
 use Rattle.walk.specs.Above.{Stands, before_terms, over_term}
 use Rattle.walk.specs.Taken.{TakeAsked, TakePre, TakePost}
-use Rattle.walk.specs.declared.Out.{Out}
-use Rattle.walk.specs.declared.Out.TheVariants as out
+use Rattle.std.specs.Prelude.{Result, Err}
+use Rattle.walk.specs.declared.Halt.{Halt}
+use Rattle.walk.specs.declared.Halt.TheVariants as halt
 use Rattle.walk.proofs.Marks.{unchanged_same}
 use Rattle.walk.proofs.Resumes.{stop_row}
 use Rattle.levels.specs.Levels.{Search, AttemptPre, AttemptPost}
@@ -74,7 +75,7 @@ module _ {L S M tables R A : List ℕ} {p x s u v : ℕ}
   abbrev Judged : Bool → Type 0
   Judged r = ObeysPost L S tables (get_or M (6 * p + 4) 0) (get_or M (6 * p + 5) 0) (get_or M (6 * p) 0) s v r
 
-  pub try_fails : {r : Bool} → Judged r → r ≡ false → AttemptPost L S M tables R A p x s u v out.Fail R A
+  pub try_fails : {r : Bool} → Judged r → r ≡ false → AttemptPost L S M tables R A p x s u v (Err halt.Fail) R A
   try_fails post e =
       record {
         is = λ T P Q es cs k f lo hi w l g a. (λ n. refl, λ b. absurd (said_no ((says w l a post).is T Q es cs k w.allowing l g) e b), unchanged_same, unchanged_same);
@@ -83,7 +84,7 @@ module _ {L S M tables R A : List ℕ} {p x s u v : ℕ}
   pub try_asked : TakePre L S M R A p x s u v
   try_asked = let h = pre.some in record { some = (h.9.K, h.9.N, h.9.Z, h.2, h.6, h.7, h.8, h.12) }
 
-  pub try_walked : {r : Bool} {o : Out} {R' A' : List ℕ} → Judged r → r ≡ true → TakePost L S M R A p x s u v o R' A'
+  pub try_walked : {r : Bool} {o : Result ℕ Halt} {R' A' : List ℕ} → Judged r → r ≡ true → TakePost L S M R A p x s u v o R' A'
       → AttemptPost L S M tables R A p x s u v o R' A'
   try_walked post e walk =
       record {
@@ -93,7 +94,7 @@ module _ {L S M tables R A : List ℕ} {p x s u v : ℕ}
       }
 
   -- the record keeps its length
-  pub try_long : {o : Out} {R' A' : List ℕ} → AttemptPost L S M tables R A p x s u v o R' A' → length R' ≡ length R
+  pub try_long : {o : Result ℕ Halt} {R' A' : List ℕ} → AttemptPost L S M tables R A p x s u v o R' A' → length R' ≡ length R
   try_long post =
       let h = pre.some in
       (post.is h.0 h.1 h.2 h.3 h.4 h.5 h.6 h.7 h.8 h.9 h.10 h.11 h.12).2.long

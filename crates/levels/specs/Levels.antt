@@ -1,5 +1,5 @@
 -- Not needed to believe the promise: the levels of the search, and one try.
-use Rattle.std.specs.Prelude.{ℕ, suc, ◌+◌, ◌-◌, ◌<◌, ◌≤◌, ◌≡◌, List, [], ◌∷◌, ◌++◌, length, get_or, take}
+use Rattle.std.specs.Prelude.{ℕ, suc, ◌+◌, ◌-◌, ◌<◌, ◌≤◌, ◌≡◌, List, [], ◌∷◌, ◌++◌, length, get_or, take, Result, Err}
 use Rattle.meaning.specs.Forest.{none, Term, ◌◂◌}
 use Rattle.meaning.specs.Pattern.{Pattern, Kind, old, look}
 use Rattle.meaning.specs.Read.{value_at, Fits}
@@ -14,8 +14,8 @@ use Rattle.walk.specs.Above.{Marks, Unchanged}
 use Rattle.walk.specs.Cycle.{Needs, Agree}
 use Rattle.walk.specs.Onward.{Lands}
 use Rattle.walk.specs.Taken.{TakeAsked}
-use Rattle.walk.specs.declared.Out.{Out}
-use Rattle.walk.specs.declared.Out.TheVariants as out
+use Rattle.walk.specs.declared.Halt.{Halt}
+use Rattle.walk.specs.declared.Halt.TheVariants as halt
 
 -- the problem that is searched: the tree, the packed pattern, the constraints and the tables of the expressions
 pub record Search (L S M tables : List ℕ) (T : Term) (P : Pattern) (Q : List Kind) (es : List Expression) (cs : List Constraint) : Type 0 where
@@ -36,10 +36,10 @@ pub record AttemptPre (L S M tables R A : List ℕ) (p x s u v : ℕ) : Type 0 w
       × (w : Search L S M tables T P Q es cs) × (look Q x ≡ old k) × Fits k (T ◂ none) s v × TakeAsked L S M R A p x s u v w.K w.N w.Z Q f lo hi
 
 -- where the value is not allowed it fails; else the walk goes on with it. What stands before the variable is kept.
-pub record AttemptPost (L S M tables R A : List ℕ) (p x s u v : ℕ) (o : Out) (R' A' : List ℕ) : Type 0 where
+pub record AttemptPost (L S M tables R A : List ℕ) (p x s u v : ℕ) (o : Result ℕ Halt) (R' A' : List ℕ) : Type 0 where
   pub is : (T : Term) (P : Pattern) (Q : List Kind) (es : List Expression) (cs : List Constraint) (k : Kind) (f : List ℕ → Res) (lo hi : ℕ)
       (w : Search L S M tables T P Q es cs) → look Q x ≡ old k → Fits k (T ◂ none) s v → TakeAsked L S M R A p x s u v w.K w.N w.Z Q f lo hi
-      → ((Allowed cs x (value_at k (T ◂ none) s v) → ⊥) → o ≡ out.Fail)
+      → ((Allowed cs x (value_at k (T ◂ none) s v) → ⊥) → o ≡ (Err halt.Fail))
       × (Allowed cs x (value_at k (T ◂ none) s v) → (m : ℕ) × Agree L S R' A' w.K w.N w.Z Q (p + 1) m [] (λ ds. f (v ∷ ds)) o)
       × Unchanged (x + x) R R' × Unchanged (p + 1) A A'
 

@@ -9,6 +9,8 @@ ghost use Rattle.levels.specs.Columns.{lefts, Inside, LevelAt, Moved, Entered};
 ghost use Rattle.levels.specs.Levels.{AttemptPre, AttemptPost};
 ghost use Rattle.levels.specs.Steps.{NextPre, NextPost, DeeperPre, DeeperPost};
 
+use walk::Halt;
+
 // A level: the pattern row of its variable, the variable, the row where it starts, the row at which the walk goes on with the next
 // value, that value, and how many are left.
 #[derive(Drop)]
@@ -65,12 +67,10 @@ pub fn back(levels: &[usize; 1536], depth: usize) -> usize
     requires { (depth ≤ 256) × (length levels.now ≡ 1536) }
     ensures { BackTo (lefts levels.now) depth result }
 {
-    let mut d = depth;
-    while 0 < d {
+    for d in (1..=depth).rev() {
         if levels[6 * (d - 1) + 5] != 0 {
             return d;
         }
-        d -= 1;
     }
     0
 }
@@ -165,14 +165,14 @@ pub fn attempt(
     t: Try,
     memory: &mut [usize; 1280],
     path: &mut [usize; 259],
-) -> walk::Out
+) -> Result<usize, Halt>
     requires { AttemptPre label.now size.now pattern.now tables.now «record».old at.old t.p t.x t.s t.u t.v
         × Both label.now size.now tables.now (root_of pattern.now) memory.old path.old }
     ensures { AttemptPost label.now size.now pattern.now tables.now «record».old at.old t.p t.x t.s t.u t.v result «record».new at.new
         × Both label.now size.now tables.now (root_of pattern.now) memory.new path.new }
 {
     if !memory::allowed(label, size, pattern, tables, t.p, t.s, t.v, memory, path) {
-        return walk::Out::Fail;
+        return Err(Halt::Fail);
     }
     walk::take(label, size, pattern, record, at, t.p, t.x, t.s, t.u, t.v)
 }

@@ -48,7 +48,7 @@ use Rattle.lister.specs.Page.{RecordCodes, PageSettled}
 use Rattle.lister.specs.Listed.{told}
 use Rattle.entry.specs.Resumed.{ResumeAsked, ResumePre, ResumePost, not_there, from_there}
 use Rattle.lister.specs.Inside.{Checked, NoPage, bad, of_none}
-use Rattle.entry.specs.declared.Paged.TheVariants.{NoMatcher, Page}
+use Rattle.std.specs.Prelude.{Some, None}
 use Rattle.lister.proofs.Whole.{searched, shown_in_room}
 
 -- the record of a matcher is good, and so it is not refused
@@ -95,7 +95,7 @@ module _ (l : Lists) (v : Variables) (a : Checked l v) (list : List ℕ) (budget
     resume_asked = record { some = (p.T, p.P, p.Q, p.es, p.cs, asked p.poses) }
 
     module _ {after : List ℕ} where
-      pub page_none : {e : Refusal} → ResumePost l.label l.size M tables list budget room width before after NoMatcher → NoPage l.size v.kinds v.count list e → PageSettled l list budget before (told (Err e)) after
+      pub page_none : {e : Refusal} → ResumePost l.label l.size M tables list budget room width before after None → NoPage l.size v.kinds v.count list e → PageSettled l list budget before (told (Err e)) after
       page_none (not_there same n) (bad post) = page_bad post same refl
       page_none (not_there same n) (of_none post) =
           record {
@@ -104,7 +104,7 @@ module _ (l : Lists) (v : Variables) (a : Checked l v) (list : List ℕ) (budget
             refused = λ h. (refl, refl, refl, same);
           }
 
-      pub page_done : {f : Found} → ResumePost l.label l.size M tables list budget room width before after (Page f) → PageSettled l list budget before (told (Ok f)) after
+      pub page_done : {f : Found} → ResumePost l.label l.size M tables list budget room width before after (Some f) → PageSettled l list budget before (told (Ok f)) after
       page_done {f} (from_there each) =
           record {
             code = codes_high l (RecordCodes l list) 0 p (record_accepted p.poses (each p.T p.P p.Q p.es p.cs (asked p.poses)).is_record);

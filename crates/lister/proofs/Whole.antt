@@ -30,6 +30,7 @@ use Rattle.catalogue.proofs.Run.{Tame, run}
 use Rattle.catalogue.proofs.Fill.{Widths, fill, tame_widths, shown, room_fits}
 use Rattle.catalogue.proofs.Whole.{walked, meant}
 use Rattle.catalogue.proofs.Facts.{meant_unlimited}
+use Rattle.meaning.specs.Ending.{number}
 use Rattle.search.specs.declared.Found.{Found}
 use Rattle.levels.proofs.Going.{is_fixed}
 use Rattle.entry.specs.Begun.{BeginAsked, BeginPre, BeginPost}
@@ -45,12 +46,12 @@ in_room M n (k ∷ Q) g one m = subst (λ (r : ℕ). M (k ∷ Q) (at_most r)) (s
 -- what is filled with the room of the code is what is meant with the room of the rules, for a list and for a page
 pub shown_in_room : (M : Result → List Kind → Room → Type 0) {P : Pattern} (es : List Event) (Q : List Kind) (width budget room : ℕ) (before after : List ℕ) (f : Found)
     → Numbered P Q → ((x : Result) → Numbered P [] → M x [] (at_most 1) → M x [] unlimited) → width ≡ length Q + length Q → room ≡ fitting (length before) width
-    → Widths width es → room * width ≤ length before → fill budget room width 0 0 before es ≡ record { ending = f.ending; records = f.records; tries = f.tries; out = after }
-    → M (run es budget room) Q (at_most room) → Shown (λ x. M x Q (room_of (length before) (length Q))) before f.ending f.records f.tries after
+    → Widths width es → room * width ≤ length before → fill budget room width 0 0 before es ≡ record { ending = number f.ending; records = f.records; tries = f.tries; out = after }
+    → M (run es budget room) Q (at_most room) → Shown (λ x. M x Q (room_of (length before) (length Q))) before (number f.ending) f.records f.tries after
 shown_in_room M es Q width budget room before after f g one wide fits w h e m =
     let x = run es budget room in
     let y : room ≡ fitting (length before) (length Q + length Q) = fits ∙ ap (fitting (length before)) wide in
-    shown (λ x. M x Q (room_of (length before) (length Q))) es width budget room before after f.ending f.records f.tries w h e
+    shown (λ x. M x Q (room_of (length before) (length Q))) es width budget room before after (number f.ending) f.records f.tries w h e
     (in_room (M x) (length before) Q g (one x) (subst (λ (n : ℕ). M x Q (at_most n)) y m))
 
 -- a refusal of the problem

@@ -9,6 +9,7 @@ use Rattle.constraint.specs.Obeys.{Constraint, Allowed}
 use Rattle.problem.specs.Problem.{Lists, Poses, Codes}
 use Rattle.catalogue.specs.Listing.{Listing}
 use Rattle.meaning.specs.Refusal.{code}
+use Rattle.meaning.specs.Ending.{number}
 use Rattle.meaning.specs.declared.refusal.Refusal.{Refusal}
 use Rattle.search.specs.declared.Found.{Found}
 
@@ -21,7 +22,7 @@ pub record Listed : Type 0 where
 
 -- of lists that are accepted the code is 0, and a refusal is its code and nothing else
 abbrev pub told : Result Found Refusal → Listed
-told (Ok found) = record { code = 0; ending = found.ending; records = found.records; tries = found.tries }
+told (Ok found) = record { code = 0; ending = number found.ending; records = found.records; tries = found.tries }
 told (Err refusal) = record { code = code refusal; ending = 0; records = 0; tries = 0 }
 
 -- what the lister promises of its answer and of the lent list, for any lists

@@ -11,7 +11,7 @@ ghost use Rattle.problem.specs.Problem.{lists};
 ghost use Rattle.record.specs.Pairs.{RecordPre};
 ghost use Rattle.tree.specs.Rows.{GoodRows};
 
-use entry::{Paged, begin, resume};
+use entry::{begin, resume};
 use meaning::Refusal;
 use pattern::Variables;
 use problem::Problem;
@@ -115,10 +115,10 @@ pub fn list_after(
     match resume(
         tree.label, tree.size, &packed, &tables, record, budget, room, width, out,
     ) {
-        Paged::NoMatcher => {
+        None => {
             let kinds = checked.kinds;
             Err(no_page(tree.size, &kinds, checked.count, record))
         }
-        Paged::Page(found) => Ok(found),
+        Some(found) => Ok(found),
     }
 }

@@ -8,3 +8,4 @@ pub mod Order
 pub mod Read
 pub mod Means
 pub mod Refusal
+pub mod Ending

@@ -5,14 +5,14 @@
 ghost use Rattle.std.specs.Prelude.{◌≡◌, ◌<◌, ◌-◌, length};
 ghost use Rattle.memory.specs.Memory.{kept, RecallPre, RecallPost, GrownPre, GrownPost, GrowPre, GrowPost};
 
+use constraint::Mark;
+use letters::State;
 use meaning::kinds::SEQUENCE;
 
-// A reading of the heads of a sequence: where it stands, its state, and how many are read.
+// A reading of the heads of a sequence, and how many are read.
 #[derive(Drop)]
 struct Recalled {
-    row: usize,
-    next: u64,
-    end: bool,
+    mark: Mark,
     count: usize,
 }
 
@@ -26,7 +26,7 @@ fn recall(
     b: usize,
 ) -> Recalled
     requires { RecallPre root memory.now choice }
-    ensures { RecallPost tables.now root memory.now choice a b result.row result.next result.count result.end }
+    ensures { RecallPost tables.now root memory.now choice a b result.mark.row result.mark.state.next result.count result.mark.state.end }
 {
     let at = 5 * choice;
     let row = memory[at];
@@ -34,10 +34,12 @@ fn recall(
     if row != 0 {
         if memory[at + 1] == a {
             if count <= b {
-                return Recalled {
-                    row,
+                let state = State {
                     next: memory[at + 3] as u64,
                     end: memory[at + 4] == 1,
+                };
+                return Recalled {
+                    mark: Mark { row, state },
                     count,
                 };
             }
@@ -45,32 +47,22 @@ fn recall(
     }
     let state = letters::begin(tables, root);
     Recalled {
-        row: a,
-        next: state.next,
-        end: state.end,
+        mark: Mark { row: a, state },
         count: 0,
     }
 }
 
 // The reading of the choice is kept for the next value.
-fn keep(
-    memory: &mut [usize; 1280],
-    choice: usize,
-    row: usize,
-    a: usize,
-    count: usize,
-    next: u64,
-    end: bool,
-)
+fn keep(memory: &mut [usize; 1280], choice: usize, mark: &Mark, a: usize, count: usize)
     requires { (choice < 256) × (length memory.old ≡ 1280) }
-    ensures { memory.new ≡ kept memory.old choice row a count next end }
+    ensures { memory.new ≡ kept memory.old choice mark.now.row a count mark.now.state.next mark.now.state.end }
 {
     let at = 5 * choice;
-    memory[at] = row;
+    memory[at] = mark.row;
     memory[at + 1] = a;
     memory[at + 2] = count;
-    memory[at + 3] = next as usize;
-    memory[at + 4] = letters::number(end);
+    memory[at + 3] = mark.state.next as usize;
+    memory[at + 4] = usize::from(mark.state.end);
 }
 
 // Whether the heads of b neighbours from the row a on are a word of the expression at the row root: read on from what is
@@ -89,13 +81,10 @@ fn grown(
     ensures { GrownPost label.now size.now tables.now root choice a b memory.old result memory.new }
 {
     let was = recall(memory, tables, root, choice, a, b);
-    let row = was.row;
-    let next = was.next;
-    let end = was.end;
     let more = b - was.count;
-    let mark = constraint::read_on(label, size, tables, row, next, end, more);
-    keep(memory, choice, mark.row, a, b, mark.next, mark.end);
-    mark.end
+    let mark = constraint::read_on(label, size, tables, was.mark, more);
+    keep(memory, choice, &mark, a, b);
+    mark.state.end
 }
 
 // The row of the expression that a constraint's first number names.

@@ -17,8 +17,9 @@ use Rattle.expression.specs.Expression.{Expression}
 use Rattle.constraint.specs.Obeys.{Constraint}
 use Rattle.walk.specs.Cycle.{stop_at}
 use Rattle.walk.specs.Onward.{BeginPre, BeginPost}
-use Rattle.walk.specs.declared.Out.{Out}
-use Rattle.walk.specs.declared.Out.TheVariants as answer
+use Rattle.std.specs.Prelude.{Result, Ok, Err, Some, None}
+use Rattle.walk.specs.declared.Halt.{Halt}
+use Rattle.walk.specs.declared.Halt.TheVariants as halt
 use Rattle.choice.proofs.Stops.{at_room}
 use Rattle.record.specs.Copied.{Copied}
 use Rattle.catalogue.proofs.Later.{later_start}
@@ -30,13 +31,10 @@ use Rattle.levels.proofs.First.{first_asked, first_marks, first_long, first_answ
 use Rattle.levels.proofs.Going.{Walked}
 use Rattle.levels.proofs.Pauses.{pauses_none}
 use Rattle.page.specs.Page.{ChoosePre, ChoosePost, outside, value, ReachAsked, ReachPre, ReachPost, nowhere, reached}
-use Rattle.page.specs.declared.Chosen.{Chosen}
-use Rattle.page.specs.declared.Chosen.TheVariants.{Beyond, Value}
-use Rattle.page.specs.declared.Reached.TheVariants.{Nowhere, At}
 use Rattle.page.proofs.Stood.{Stood, stood_fails, stood_other, stood_record, stood_later, stood_stop, stood_deep, stood_read, stood_beyond, stood_landing, stood_further, stood_attempt, stood_tried}
 
 -- at the loop's head
-pub record OnTheWay (L S M tables list R A W : List ℕ) (o : Out) (depth : ℕ) : Type 0 where
+pub record OnTheWay (L S M tables list R A W : List ℕ) (o : Result ℕ Halt) (depth : ℕ) : Type 0 where
   pub record_long : length R ≡ 32
   pub levels_long : length W ≡ 1536
   pub each : {T : Term} {P : Pattern} {Q : List Kind} {es : List Expression} {cs : List Constraint} (a : ReachAsked L S M tables list T P Q es cs)
@@ -46,7 +44,7 @@ module _ {L S M tables list R A W : List ℕ} (pre : ReachPre L S M tables list 
   pub reach_begins : BeginPre L S M R A
   reach_begins = let s = pre.some in record { some = (s.0, s.1, s.2, first_asked s.5.search pre.record_long pre.rows_long) }
 
-  pub reach_first : {o : Out} {R' A' : List ℕ} → BeginPost L S M R A o R' A' → OnTheWay L S M tables list R' A' W o 0
+  pub reach_first : {o : Result ℕ Halt} {R' A' : List ℕ} → BeginPost L S M R A o R' A' → OnTheWay L S M tables list R' A' W o 0
   reach_first {o} {R'} {A'} b =
       record {
         record_long = first_long pre.some.5.search pre.record_long pre.rows_long b;
@@ -68,15 +66,15 @@ module _ {L S M tables list R A W : List ℕ} (pre : ReachPre L S M tables list 
             };
       }
 
-module _ {L S M tables list R A W : List ℕ} {o : Out} {depth : ℕ} (t : OnTheWay L S M tables list R A W o depth) where
-  pub reach_fails : o ≡ answer.Fail → ReachPost L S M tables list R A W Nowhere
+module _ {L S M tables list R A W : List ℕ} {o : Result ℕ Halt} {depth : ℕ} (t : OnTheWay L S M tables list R A W o depth) where
+  pub reach_fails : o ≡ (Err halt.Fail) → ReachPost L S M tables list R A W None
   reach_fails e = nowhere (λ T P Q es cs a i. stood_fails a (t.each a) e i)
 
-  module _ {n : ℕ} (e : o ≡ answer.Ok n) {same : Bool} (says : Says same (Copied list R)) where
-    pub reach_other : same ≡ false → ReachPost L S M tables list R A W Nowhere
+  module _ {n : ℕ} (e : o ≡ Ok n) {same : Bool} (says : Says same (Copied list R)) where
+    pub reach_other : same ≡ false → ReachPost L S M tables list R A W None
     reach_other f = nowhere (λ T P Q es cs a i. stood_other a (t.each a) e t.record_long (said_no says f) i)
 
-    pub reach_found : same ≡ true → ReachPost L S M tables list R A W (At depth)
+    pub reach_found : same ≡ true → ReachPost L S M tables list R A W (Some depth)
     reach_found f =
         reached
         (record {
@@ -98,7 +96,7 @@ module _ {L S M tables list R A W : List ℕ} {o : Out} {depth : ℕ} (t : OnThe
   pub reach_short : {T : Term} {P : Pattern} {Q : List Kind} {es : List Expression} {cs : List Constraint} → ReachAsked L S M tables list T P Q es cs → length list ≤ 32
   reach_short a = omega (arith, a.long, a.search.allowing.few)
 
-  module _ {p x s : ℕ} (e : o ≡ answer.Need (stop_at p x s)) where
+  module _ {p x s : ℕ} (e : o ≡ Err (halt.Need (stop_at p x s))) where
     module _ {T : Term} {P : Pattern} {Q : List Kind} {es : List Expression} {cs : List Constraint} (a : ReachAsked L S M tables list T P Q es cs) where
       pub reach_deep : depth < 256
       reach_deep = (stood_deep a (t.each a) e).1
@@ -120,22 +118,19 @@ module _ {L S M tables list R A W : List ℕ} {o : Out} {depth : ℕ} (t : OnThe
           }
 
     module _ {W' : List ℕ} where
-      pub reach_beyond : {c : Chosen} → ChoosePost S M A W list depth p x s W' c → c ≡ Beyond → {R' A' W'' : List ℕ} → ReachPost L S M tables list R' A' W'' Nowhere
-      reach_beyond post h = go (rw h at post)
-        where
-          go : {R' A' W'' : List ℕ} → ChoosePost S M A W list depth p x s W' Beyond → ReachPost L S M tables list R' A' W'' Nowhere
-          go (outside low values out) =
-              nowhere
-              (λ T P Q es cs a i.
-              stood_beyond a (t.each a) e low values (columns_long W) out i)
+      pub reach_beyond : ChoosePost S M A W list depth p x s W' None → {R' A' W'' : List ℕ} → ReachPost L S M tables list R' A' W'' None
+      reach_beyond (outside low values out) =
+          nowhere
+          (λ T P Q es cs a i.
+          stood_beyond a (t.each a) e low values (columns_long W) out i)
 
       -- the level stands behind the value that is tried
-      pub reach_tries : {v : Try} → ChoosePost S M A W list depth p x s W' (Value v) → {T : Term} {P : Pattern} {Q : List Kind} {es : List Expression} {cs : List Constraint} → ReachAsked L S M tables list T P Q es cs
+      pub reach_tries : {v : Try} → ChoosePost S M A W list depth p x s W' (Some v) → {T : Term} {P : Pattern} {Q : List Kind} {es : List Expression} {cs : List Constraint} → ReachAsked L S M tables list T P Q es cs
           → AttemptPre L S M tables R A v.p v.x v.s v.u v.v
       reach_tries (value {left = left} low values ev small high landing further entered moved) a =
           stood_attempt a (t.each a) e low values (columns_long W) left small high landing t.record_long
 
-      pub reach_again : {v : Try} {o' : Out} {R' A' : List ℕ} → ChoosePost S M A W list depth p x s W' (Value v) → length R' ≡ 32 → AttemptPost L S M tables R A v.p v.x v.s v.u v.v o' R' A'
+      pub reach_again : {v : Try} {o' : Result ℕ Halt} {R' A' : List ℕ} → ChoosePost S M A W list depth p x s W' (Some v) → length R' ≡ 32 → AttemptPost L S M tables R A v.p v.x v.s v.u v.v o' R' A'
           → OnTheWay L S M tables list R' A' W' o' (depth + 1)
       reach_again (value {v = v} {row = row} {left = left} low values ev small high landing further entered moved) long post =
           record {

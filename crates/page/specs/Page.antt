@@ -1,5 +1,6 @@
 -- Not needed to believe the promise: the levels of the search as they stand at a record.
-use Rattle.std.specs.Prelude.{ℕ, suc, ◌+◌, ◌*◌, ◌<◌, ◌≤◌, ◌≡◌, List, ◌∷◌, length, get_or}
+use Rattle.std.specs.Prelude.{ℕ, suc, ◌+◌, ◌*◌, ◌<◌, ◌≤◌, ◌≡◌, List, ◌∷◌, length, get_or, Option, Some, None}
+use Rattle.levels.specs.declared.Try.{Try}
 use Rattle.meaning.specs.Forest.{Term}
 use Rattle.meaning.specs.Pattern.{Pattern, Kind}
 use Rattle.meaning.specs.Record.{IsRecord}
@@ -16,10 +17,6 @@ use Rattle.catalogue.proofs.Levels.{Levels}
 use Rattle.catalogue.proofs.Whole.{walked, all}
 use Rattle.levels.specs.Columns.{places, variables, starts, rows, nexts, lefts, Inside, Moved, Entered}
 use Rattle.levels.specs.Levels.{Search, Pauses}
-use Rattle.page.specs.declared.Chosen.{Chosen}
-use Rattle.page.specs.declared.Chosen.TheVariants.{Beyond, Value}
-use Rattle.page.specs.declared.Reached.{Reached}
-use Rattle.page.specs.declared.Reached.TheVariants.{Nowhere, At}
 
 -- choose: the walk stopped before the variable x, and there is room for its level
 pub record ChoosePre (S M A W list : List ℕ) (d p x s : ℕ) : Type 0 where
@@ -31,11 +28,11 @@ pub record ChoosePre (S M A W list : List ℕ) (d p x s : ℕ) : Type 0 where
       → LandingPre S M p s v × ((u : ℕ) → LandingPost S M p s v u → FurtherPre S M p u left)
 
 -- the second number that the record has for it is none of its values; or its level stands behind this one
-pub data ChoosePost (S M A W list : List ℕ) (d p x s : ℕ) (W' : List ℕ) : Chosen → Type 0 where
-  outside : {lo n : ℕ} → LeastPost M p s lo → ValuesPost S M A p s n → (lo ≤ get_or list (x + x + 1) 0 → get_or list (x + x + 1) 0 < lo + n → ⊥) → ChoosePost S M A W list d p x s W' Beyond
+pub data ChoosePost (S M A W list : List ℕ) (d p x s : ℕ) (W' : List ℕ) : Option Try → Type 0 where
+  outside : {lo n : ℕ} → LeastPost M p s lo → ValuesPost S M A p s n → (lo ≤ get_or list (x + x + 1) 0 → get_or list (x + x + 1) 0 < lo + n → ⊥) → ChoosePost S M A W list d p x s W' None
   value : {lo n u v row left : ℕ} {W₁ : List ℕ} → LeastPost M p s lo → ValuesPost S M A p s n → v ≡ get_or list (x + x + 1) 0 → lo ≤ v → v + suc left ≡ lo + n
       → LandingPost S M p s v u → FurtherPost S M p u left row → Entered W d p x s lo n W₁ → Moved W₁ d row (v + 1) left W'
-      → ChoosePost S M A W list d p x s W' (Value (record { p = p; x = x; s = s; u = u; v = v; left = left; failed = 0 }))
+      → ChoosePost S M A W list d p x s W' (Some (record { p = p; x = x; s = s; u = u; v = v; left = left; failed = 0 }))
 
 -- reach: the problem that is searched, and a record of two numbers a variable
 pub record ReachAsked (L S M tables list : List ℕ) (T : Term) (P : Pattern) (Q : List Kind) (es : List Expression) (cs : List Constraint) : Type 0 where
@@ -66,7 +63,7 @@ pub record Arrived (L S M tables list R A W : List ℕ) (depth : ℕ) : Type 0 w
   pub levels_long : length W ≡ 1536
   pub each : (T : Term) (P : Pattern) (Q : List Kind) (es : List Expression) (cs : List Constraint) (a : ReachAsked L S M tables list T P Q es cs) → AtRecord L S M tables list T P Q es cs a.search R A W depth
 
-pub data ReachPost (L S M tables list R A W : List ℕ) : Reached → Type 0 where
+pub data ReachPost (L S M tables list R A W : List ℕ) : Option ℕ → Type 0 where
   nowhere : ((T : Term) (P : Pattern) (Q : List Kind) (es : List Expression) (cs : List Constraint) → ReachAsked L S M tables list T P Q es cs → IsRecord (Allowed cs) Q P T list → ⊥)
-      → ReachPost L S M tables list R A W Nowhere
-  reached : {depth : ℕ} → Arrived L S M tables list R A W depth → ReachPost L S M tables list R A W (At depth)
+      → ReachPost L S M tables list R A W None
+  reached : {depth : ℕ} → Arrived L S M tables list R A W depth → ReachPost L S M tables list R A W (Some depth)

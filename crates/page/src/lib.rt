@@ -4,15 +4,10 @@
 ghost use Rattle.page.specs.Page.{ChoosePre, ChoosePost, ReachPre, ReachPost};
 
 use levels::{Try, advance, attempt, enter};
+use walk::Halt;
 
-// What a record has for a variable: none of its values, or one to be tried.
-#[derive(Drop)]
-pub enum Chosen {
-    Beyond,
-    Value(Try),
-}
-
-// The level d is for the variable at which the walk stopped, and stands behind the value that the record has for it.
+// The level d is for the variable at which the walk stopped, and stands behind the value that the record has for it, which is to be
+// tried, if it is one of the variable's.
 fn choose(
     size: &[u32],
     pattern: &[u32; 1536],
@@ -21,7 +16,7 @@ fn choose(
     levels: &mut [usize; 1536],
     d: usize,
     w: walk::Stop,
-) -> Chosen
+) -> Option<Try>
     requires { ChoosePre size.now pattern.now at.now levels.old list.now d w.place w.variable w.start }
     ensures { ChoosePost size.now pattern.now at.now levels.old list.now d w.place w.variable w.start levels.new result }
 {
@@ -32,17 +27,17 @@ fn choose(
     let least = choice::least(pattern, p, s);
     let values = choice::values(size, pattern, at, p, s);
     if v < least {
-        return Chosen::Beyond;
+        return None;
     }
     if values <= v - least {
-        return Chosen::Beyond;
+        return None;
     }
     let left = values - (v - least) - 1;
     let u = choice::landing(size, pattern, p, s, v);
     let row = choice::further(size, pattern, p, u, left);
     enter(levels, d, w, least, values);
     advance(levels, d, row, v + 1, left);
-    Chosen::Value(Try {
+    Some(Try {
         p,
         x,
         s,
@@ -53,14 +48,8 @@ fn choose(
     })
 }
 
-// Where the levels stand, if the record is that of a matcher.
-#[derive(Drop)]
-pub enum Reached {
-    Nowhere,
-    At(usize),
-}
-
-// Goes to the record of a matcher once, from the first walk on: a level for each of its choices, as the search left them there.
+// Goes to the record of a matcher once, from the first walk on: a level for each of its choices, as the search left them there; how
+// many levels these are, if the record is that of a matcher.
 pub fn reach(
     label: &[u32],
     size: &[u32],
@@ -70,7 +59,7 @@ pub fn reach(
     record: &mut [u32; 32],
     at: &mut [usize; 256],
     levels: &mut [usize; 1536],
-) -> Reached
+) -> Option<usize>
     requires { ReachPre label.now size.now pattern.now tables.now list.now «record».old at.old levels.old }
     ensures { ReachPost label.now size.now pattern.now tables.now list.now «record».new at.new levels.new result }
 {
@@ -80,30 +69,28 @@ pub fn reach(
     let mut o = walk::begin(label, size, pattern, record, at);
     loop {
         match o {
-            walk::Out::Fail => return Reached::Nowhere,
-            walk::Out::Ok(_) => {
+            Err(Halt::Fail) => return None,
+            Ok(_) => {
                 if record::equal(record, list) {
-                    return Reached::At(depth);
+                    return Some(depth);
                 }
-                return Reached::Nowhere;
+                return None;
             }
-            walk::Out::Need(w) => match choose(size, pattern, list, at, levels, depth, w) {
-                Chosen::Beyond => return Reached::Nowhere,
-                Chosen::Value(t) => {
-                    o = attempt(
-                        label,
-                        size,
-                        pattern,
-                        tables,
-                        record,
-                        at,
-                        t,
-                        &mut memory,
-                        &mut path,
-                    );
-                    depth += 1;
-                }
-            },
+            Err(Halt::Need(w)) => {
+                let t = choose(size, pattern, list, at, levels, depth, w)?;
+                o = attempt(
+                    label,
+                    size,
+                    pattern,
+                    tables,
+                    record,
+                    at,
+                    t,
+                    &mut memory,
+                    &mut path,
+                );
+                depth += 1;
+            }
         }
     }
 }

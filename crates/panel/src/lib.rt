@@ -31,13 +31,7 @@ fn total(lengths: &[u32]) -> usize
     requires { length lengths.now ≤ 32 }
     ensures { (result ≡ sum lengths.now) × (result ≤ most) }
 {
-    let mut all = 0;
-    let mut k = 0;
-    while k < lengths.len() {
-        all += at(lengths, k);
-        k += 1;
-    }
-    all
+    lengths.iter().map(|length| *length as usize).sum()
 }
 
 impl<'a> Problems<'a> {

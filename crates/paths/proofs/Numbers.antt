@@ -1,8 +1,8 @@
 -- The numbers that are kept of a path.
 use Prim.Native.Nat.{ℕ, ◌+◌, ◌*◌, ◌<◌, ◌≤◌}
-use mathlib.Core.Path.{◌≡◌, ◌∙◌}
+use mathlib.Core.Path.{◌≡◌, refl, ◌∙◌}
 use mathlib.Core.Logic.{◌≢◌}
-use mathlib.Core.Bool.{Bool}
+use mathlib.Core.Bool.{Bool, true, false}
 use mathlib.Core.List.{List}
 use lib.ListN.{length, get_or, set, length-set}
 use lib.Seq.{get_or-set_same, get_or-set_other}
@@ -11,6 +11,12 @@ use native.Mathlib.Decide.{ℕ_discrete}
 use Rattle.letters.specs.Tables.{noted}
 use Rattle.letters.proofs.Five.{noted_is}
 use Rattle.paths.specs.Paths.{From, Entry, Place, Places, put}
+use Rattle.std.specs.Int.{from_bool}
+
+-- a flag as a number, as std has it
+pub noted_from : (flag : Bool) → from_bool flag ≡ noted flag
+noted_from true = refl
+noted_from false = refl
 
 -- a list with the number at k changed has the others
 other : (P : List ℕ) (k v i : ℕ) → i ≢ k → get_or (set P k v) i 0 ≡ get_or P i 0

@@ -3,8 +3,7 @@
 use Rattle.std.specs.Prelude.{ℕ, ◌+◌, ◌*◌, ◌<◌, ◌≤◌, ◌≡◌, Bool, List, ◌++◌, eqb, length, get_or, set}
 use Rattle.meaning.specs.Forest.{Context}
 use Rattle.tree.specs.Places.{ContextAt}
-use Rattle.tree.specs.Helpers.{ChildPre}
-use Rattle.tree.proofs.Ways.{Ahead}
+use Rattle.tree.specs.Helpers.{ChildPre, Ahead}
 use Rattle.letters.specs.Tables.{noted}
 use Rattle.constraint.specs.Obeys.{path}
 use Rattle.constraint.specs.Reading.{PathPre, After}

@@ -13,19 +13,8 @@ fn put(path: &mut [usize; 259], i: usize, row: usize, next: u64, end: bool)
 {
     path[4 * i + 3] = row;
     path[4 * i + 4] = next as usize;
-    path[4 * i + 5] = letters::number(end);
+    path[4 * i + 5] = usize::from(end);
     path[4 * i + 6] = row + 1;
-}
-
-// The child from which on the one that holds the row b is looked for: the first where b is before the one that is kept.
-fn nearer(row: usize, from: usize, b: usize) -> usize
-    requires { row < b }
-    ensures { (from ≤ b → result ≡ from) × (b < from → result ≡ row + 1) }
-{
-    if from <= b {
-        return from;
-    }
-    row + 1
 }
 
 // The child of the term at the row that holds the row b, looked for from a child on, or from the first where b is before that.
@@ -33,13 +22,8 @@ fn child(size: &[u32], row: usize, from: usize, b: usize) -> usize
     requires { ChildFromPre size.now row from b }
     ensures { ChildFromPost size.now row b result }
 {
-    let mut u = nearer(row, from, b);
-    let mut e = tree::next(size, u);
-    while e <= b {
-        u = e;
-        e = tree::next(size, u);
-    }
-    u
+    let first = if b < from { row + 1 } else { from };
+    tree::holder(size, first, b)
 }
 
 // The last place whose row's term has the row b.
@@ -47,15 +31,13 @@ fn holding(size: &[u32], path: &[usize; 259], m: usize, b: usize) -> usize
     requires { HoldingPre size.now path.now m }
     ensures { HoldingPost size.now path.now m b result }
 {
-    let mut i = m;
-    while 0 < i {
+    for i in (1..=m).rev() {
         let row = path[4 * i + 3];
         if row <= b {
             if b < tree::next(size, row) {
                 return i;
             }
         }
-        i -= 1;
     }
     0
 }

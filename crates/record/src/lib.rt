@@ -72,14 +72,12 @@ pub fn fits(size: &[u32], kinds: &[u32; 16], variables: usize, record: &[u32]) -
     if record.len() != variables + variables {
         return false;
     }
-    let mut x = 0;
-    while x < variables {
+    for x in 0..variables {
         let a = tree::at(record, x + x);
         let b = tree::at(record, x + x + 1);
         if !pair_fits(size, kinds[x], a, b) {
             return false;
         }
-        x += 1;
     }
     true
 }
@@ -89,14 +87,7 @@ pub fn equal(found: &[u32; 32], list: &[u32]) -> bool
     requires { (length found.now ≡ 32) × (length list.now ≤ 32) }
     ensures { Says result (Copied list.now found.now) }
 {
-    let mut i = 0;
-    while i < list.len() {
-        if found[i] != list[i] {
-            return false;
-        }
-        i += 1;
-    }
-    true
+    &found[..list.len()] == list
 }
 
 // Code 15: whether the record is good, for the tree and the pattern.

@@ -6,22 +6,20 @@ ghost use Rattle.grammar.specs.Machine.{Open};
 ghost use Rattle.tokens.specs.Tokens.{Classed};
 ghost use Rattle.judge.specs.Tags.{RunTo};
 ghost use Rattle.labels.specs.Lists.{Long};
-ghost use Rattle.rows.specs.Notes.{LastOf, Notes};
+ghost use Rattle.rows.specs.Notes.{Notes};
 ghost use Rattle.rows.specs.Turns.{MayTag, TagDone, RunDone, MayTurn, TurnDone};
 
-use super::stack::{pop, push};
 use super::tags::next_tag;
-use judge::Run;
-use judge::codes::{DEEPEST, MOST_ROWS};
+use judge::limits::{DEEPEST, MOST_ROWS};
 use judge::tags::Tag;
-use labels::note::{close, number, put};
+use judge::{Run, is_whole};
+use labels::note::{close, put};
 use tokens::class::{byte_at, table};
 use tokens::{long_text_end, long_white_end};
 
-// So many rows are noted; or the place of code 3; or a document, if it is one, that is too deep or has too many rows.
-#[derive(Drop)]
-pub enum Noted {
-    Rows(usize),
+// Why no rows are noted: the place of code 3; or a document, if it is one, that is too deep or has too many rows.
+#[derive(Clone, Copy, PartialEq, Eq)]
+pub enum Unread {
     Outside(usize),
     Beyond,
 }
@@ -46,32 +44,16 @@ fn run(document: &[u8], class: &[u8; 512], depth: usize, start: usize) -> Run
     }
     let end = long_text_end(document, class, start, white);
     if white < end {
-        return Run { end: end, rows: 1 };
+        return Run { end, rows: 1 };
     }
-    Run { end: end, rows: 0 }
+    Run { end, rows: 0 }
 }
 
-// The answer where no tag follows: the last run ends at `at`.
-fn last(length: usize, at: usize, depth: usize, rows: usize) -> Noted
-    ensures { LastOf length at depth rows result }
-{
-    if at < length {
-        return Noted::Outside(at);
-    }
-    if 0 < depth {
-        return Noted::Outside(at);
-    }
-    if rows == 0 {
-        return Noted::Outside(at);
-    }
-    Noted::Rows(rows)
-}
-
-// What a turn of the pass comes to: the answer; or an element at this row, and then where its tag ends; or an end tag behind so many
-// rows, and where it ends.
-#[derive(Drop)]
+// What a turn of the pass comes to: a whole document of so many rows; or an element at this row, and then where its tag ends; or an end tag
+// behind so many rows, and where it ends.
+#[derive(Clone, Copy)]
 enum Turn {
-    Ends(Noted),
+    Ends(usize),
     Opens(usize, usize),
     Empty(usize, usize),
     Closes(usize, usize),
@@ -88,36 +70,36 @@ fn read_tag(
     depth: usize,
     row: usize,
     at: usize,
-) -> Turn
+) -> Result<Turn, Unread>
     requires { Classed class.now × ((o : List Open) × (f : Content) × (t : Bytes) × MayTag document.now starts.old lengths.old top depth row at o f t) }
     ensures { (o : List Open) (f : Content) (t : Bytes) → MayTag document.now starts.old lengths.old top depth row at o f t → TagDone document.now starts.old lengths.old sizes.old depth row at o f t starts.new lengths.new sizes.new result }
 {
-    let name = number(starts, top);
-    let length = number(lengths, top);
-    match next_tag(document, class, name, length, depth, row, at) {
-        Tag::Refused(place) => Turn::Ends(Noted::Outside(place)),
+    let name = usize::from(starts[top]);
+    let length = usize::from(lengths[top]);
+    let tag = next_tag(document, class, name, length, depth, row, at).map_err(Unread::Outside)?;
+    match tag {
         Tag::Opens(end, next) => {
             if DEEPEST <= depth {
-                return Turn::Ends(Noted::Beyond);
+                return Err(Unread::Beyond);
             }
             put(starts, lengths, sizes, row, at + 1, end - (at + 1));
-            Turn::Opens(row, next)
+            Ok(Turn::Opens(row, next))
         }
         Tag::Empty(end, next) => {
             if DEEPEST <= depth {
-                return Turn::Ends(Noted::Beyond);
+                return Err(Unread::Beyond);
             }
             put(starts, lengths, sizes, row, at + 1, end - (at + 1));
-            Turn::Empty(row, next)
+            Ok(Turn::Empty(row, next))
         }
-        Tag::Closes(next) => Turn::Closes(row, next),
+        Tag::Closes(next) => Ok(Turn::Closes(row, next)),
     }
 }
 
-// What a run comes to: the answer; or a tag behind so many rows, at this place.
-#[derive(Drop)]
+// What a run comes to: the end of a document of so many rows; or a tag behind so many rows, at this place.
+#[derive(Clone, Copy)]
 enum Ran {
-    Over(Noted),
+    Last(usize),
     Tag(usize, usize),
 }
 
@@ -132,15 +114,15 @@ fn read_run(
     depth: usize,
     row: usize,
     i: usize,
-) -> Ran
+) -> Result<Ran, Unread>
     requires { Classed class.now × (lib.ListN.length document.now ≤ 32768) × (i ≤ lib.ListN.length document.now) × (depth ≤ 64) }
     ensures { RunDone document.now starts.old lengths.old sizes.old depth row i starts.new lengths.new sizes.new result }
 {
     if MOST_ROWS < row {
-        return Ran::Over(Noted::Beyond);
+        return Err(Unread::Beyond);
     }
     if byte_at(document, i) == b'<' {
-        return Ran::Tag(row, i);
+        return Ok(Ran::Tag(row, i));
     }
     let text = run(document, class, depth, i);
     let at = text.end;
@@ -148,12 +130,15 @@ fn read_run(
     put(starts, lengths, sizes, row, i, at - i);
     let row = row + leaves;
     if byte_at(document, at) != b'<' {
-        return Ran::Over(last(document.len(), at, depth, row));
+        if !is_whole(document.len(), at, depth, row) {
+            return Err(Unread::Outside(at));
+        }
+        return Ok(Ran::Last(row));
     }
     if DEEPEST < depth + leaves {
-        return Ran::Over(Noted::Beyond);
+        return Err(Unread::Beyond);
     }
-    Ran::Tag(row, at)
+    Ok(Ran::Tag(row, at))
 }
 
 // One turn: the run that starts at `i`, and the tag behind it.
@@ -167,12 +152,13 @@ fn read_turn(
     depth: usize,
     row: usize,
     i: usize,
-) -> Turn
+) -> Result<Turn, Unread>
     requires { Classed class.now × ((o : List Open) × (f : Content) × MayTurn document.now starts.old lengths.old sizes.old top depth row i o f) }
     ensures { (o : List Open) (f : Content) → MayTurn document.now starts.old lengths.old sizes.old top depth row i o f → TurnDone document.now starts.old lengths.old sizes.old depth row i o f starts.new lengths.new sizes.new result }
 {
-    match read_run(document, class, starts, lengths, sizes, depth, row, i) {
-        Ran::Over(answer) => Turn::Ends(answer),
+    let run = read_run(document, class, starts, lengths, sizes, depth, row, i)?;
+    match run {
+        Ran::Last(rows) => Ok(Turn::Ends(rows)),
         Ran::Tag(behind, at) => read_tag(
             document, class, starts, lengths, sizes, top, depth, behind, at,
         ),
@@ -186,7 +172,7 @@ fn pass(
     starts: &mut [u16; 2052],
     lengths: &mut [u16; 2052],
     sizes: &mut [u16; 2052],
-) -> Noted
+) -> Result<usize, Unread>
     requires { Classed class.now × (lib.ListN.length document.now ≤ 32768) × Long starts.old lengths.old sizes.old }
     ensures { Notes document.now starts.new lengths.new sizes.new result }
 {
@@ -196,10 +182,11 @@ fn pass(
     let mut row: usize = 0;
     let mut i: usize = 0;
     loop {
-        match read_turn(document, class, starts, lengths, sizes, top, depth, row, i) {
-            Turn::Ends(answer) => return answer,
+        let turn = read_turn(document, class, starts, lengths, sizes, top, depth, row, i)?;
+        match turn {
+            Turn::Ends(rows) => return Ok(rows),
             Turn::Opens(element, next) => {
-                push(&mut around, depth, top);
+                around[depth] = top as u16;
                 top = element;
                 depth = depth + 1;
                 row = element + 1;
@@ -212,7 +199,7 @@ fn pass(
             Turn::Closes(behind, next) => {
                 close(sizes, top, behind);
                 depth = depth - 1;
-                top = pop(&around, depth);
+                top = usize::from(around[depth]);
                 row = behind;
                 i = next;
             }
@@ -226,7 +213,7 @@ pub fn note(
     starts: &mut [u16; 2052],
     lengths: &mut [u16; 2052],
     sizes: &mut [u16; 2052],
-) -> Noted
+) -> Result<usize, Unread>
     requires { (lib.ListN.length document.now ≤ 32768) × Long starts.old lengths.old sizes.old }
     ensures { Notes document.now starts.new lengths.new sizes.new result }
 {

@@ -11,22 +11,28 @@ use tokens::{long_name_end, white_end};
 use words::stands_again;
 
 // The tag whose `<` stands before `at`. Most end behind the name at once.
-fn start_tag(document: &[u8], class: &[u8; 512], at: usize) -> Tag
+fn start_tag(document: &[u8], class: &[u8; 512], at: usize) -> Result<Tag, usize>
     requires { Classed class.now × (at ≤ ListN.length document.now) }
     ensures { Started document.now at result }
 {
     if class_of(class, byte_at(document, at)) < FIRST {
-        return Tag::Refused(at);
+        return Err(at);
     }
     let end = long_name_end(document, class, at + 1);
     if byte_at(document, end) == b'>' {
-        return Tag::Opens(end, end + 1);
+        return Ok(Tag::Opens(end, end + 1));
     }
     shut(document, class, end)
 }
 
 // The end tag whose `</` stands before `at`. Where the name does not stand again, the judge says how far it does.
-fn end_tag(document: &[u8], class: &[u8; 512], name: usize, length: usize, at: usize) -> Tag
+fn end_tag(
+    document: &[u8],
+    class: &[u8; 512],
+    name: usize,
+    length: usize,
+    at: usize,
+) -> Result<Tag, usize>
     requires { Classed class.now × (at ≤ ListN.length document.now) × (name < 65536) × Span (name_at document.now) document.now name (name + length) }
     ensures { Ended document.now name at result }
 {
@@ -35,13 +41,13 @@ fn end_tag(document: &[u8], class: &[u8; 512], name: usize, length: usize, at: u
     }
     let end = at + length;
     if byte_at(document, end) == b'>' {
-        return Tag::Closes(end + 1);
+        return Ok(Tag::Closes(end + 1));
     }
     let shut = white_end(document, class, end);
     if byte_at(document, shut) == b'>' {
-        return Tag::Closes(shut + 1);
+        return Ok(Tag::Closes(shut + 1));
     }
-    Tag::Refused(shut)
+    Err(shut)
 }
 
 // The tag whose `<` stands at `at`, in `depth` open elements and behind `rows` rows.
@@ -53,12 +59,12 @@ pub fn next_tag(
     depth: usize,
     rows: usize,
     at: usize,
-) -> Tag
+) -> Result<Tag, usize>
     requires { Classed class.now × (at < ListN.length document.now) × (name < 65536) × (0 < depth → Span (name_at document.now) document.now name (name + length)) }
     ensures { Tagged document.now name depth rows at result }
 {
     match stands(document, depth, rows, at) {
-        Kind::Nothing => Tag::Refused(at),
+        Kind::Nothing => Err(at),
         Kind::Start => start_tag(document, class, at + 1),
         Kind::End => end_tag(document, class, name, length, at + 2),
     }

@@ -5,8 +5,9 @@ use mathlib.Core.List.{List}
 use lib.ListN.{length, get_or}
 use native.Mathlib.Omega.{arith}
 use Rattle.walk.specs.Cycle.{stop_at}
-use Rattle.walk.specs.declared.Out.{Out}
-use Rattle.walk.specs.declared.Out.TheVariants as answer
+use Rattle.std.specs.Prelude.{Result, Err}
+use Rattle.walk.specs.declared.Halt.{Halt}
+use Rattle.walk.specs.declared.Halt.TheVariants as halt
 use Rattle.levels.specs.Columns.{places, variables, starts, rows, nexts, lefts, LevelAt}
 use Rattle.levels.specs.Levels.{AttemptPre, AttemptPost}
 use Rattle.levels.proofs.Columns.{columns_long}
@@ -44,7 +45,7 @@ module _ {i : Input} {out R A W : List ℕ} {depth cnt tries : ℕ}
     attempt_pre = rw (n.value, e.place, e.variable, e.start, e.next) (passed_asked passing)
 
     -- the value was tried
-    module _ {o : Out} {R' A' : List ℕ} (answered : AttemptPost i.L i.S i.M i.tables R A p x s u v o R' A') where
+    module _ {o : Result ℕ Halt} {R' A' : List ℕ} (answered : AttemptPost i.L i.S i.M i.tables R A p x s u v o R' A') where
       pub tried : Tried i out R' A' (places W') (variables W') (starts W') (rows W') (nexts W') (lefts W') depth cnt (tries + failed + 1) u left o
       tried =
           let m = n.moved in
@@ -55,7 +56,7 @@ module _ {i : Input} {out R A W : List ℕ} {depth cnt tries : ℕ}
       same_place = ap (λ (c : List ℕ). get_or c (depth - 1) 0) n.moved.same_places ∙ sym e.place
 
       -- the walk needs a choice
-      module _ {p₁ x₁ s₁ : ℕ} (needs : o ≡ answer.Need (stop_at p₁ x₁ s₁)) where
+      module _ {p₁ x₁ s₁ : ℕ} (needs : o ≡ Err (halt.Need (stop_at p₁ x₁ s₁))) where
         pub deeper_pre : length W ≡ 1536 → DeeperPre i.S i.M A' W' depth p u left p₁ s₁
         deeper_pre long =
             record {

@@ -10,6 +10,7 @@ use Rattle.catalogue.proofs.Fill.{fill, rest}
 use Rattle.catalogue.proofs.Levels.{Levels}
 use Rattle.catalogue.proofs.Whole.{walked}
 use Rattle.levels.specs.Levels.{Search, Pauses}
+use Rattle.meaning.specs.Ending.{number}
 use Rattle.search.specs.declared.Found.{Found}
 
 -- levels that the search can go on from
@@ -34,4 +35,4 @@ pub record GoPost (L S M tables : List ℕ) (budget room width : ℕ) (R A place
   pub all : (T : Term) (P : Pattern) (Q : List Kind) (es : List Expression) (cs : List Constraint) (vals : List ℕ)
       → (a : GoAsked L S M tables room width R A places variables starts rows nexts lefts depth before T P Q es cs vals)
       → fill budget room width 0 0 before (rest (walked (Allowed cs) (allowed? cs) a.search.pattern.numbered T) (count Q) vals nexts lefts depth)
-      ≡ record { ending = r.ending; records = r.records; tries = r.tries; out = after }
+      ≡ record { ending = number r.ending; records = r.records; tries = r.tries; out = after }

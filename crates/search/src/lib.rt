@@ -6,17 +6,18 @@ ghost use Rattle.levels.specs.Columns.{places, variables, starts, rows, nexts, l
 ghost use Rattle.search.specs.Search.{GoPre, GoPost};
 
 use levels::{attempt, deeper, next_try};
-use meaning::endings::{ALL, BUDGET, ROOM};
+use meaning::endings::Ending;
+use walk::Halt;
 
 // What the search comes to: the ending, how many records were written, and the tries.
 #[derive(Drop)]
 pub struct Found {
-    pub ending: u32,
+    pub ending: Ending,
     pub records: usize,
     pub tries: u32,
 }
 
-pub fn ended(ending: u32, records: usize, tries: u32) -> Found
+pub fn ended(ending: Ending, records: usize, tries: u32) -> Found
     ensures { (result.ending ≡ ending) × (result.records ≡ records) × (result.tries ≡ tries) }
 {
     Found {
@@ -31,11 +32,7 @@ pub fn put(out: &mut [u32], at: usize, record: &[u32; 32], n: usize)
     requires { (n ≤ 32) × (length «record».now ≡ 32) × (at + n ≤ length out.old) }
     ensures { out.new ≡ paste out.old at «record».now n }
 {
-    let mut j = 0;
-    while j < n {
-        out[at + j] = record[j];
-        j += 1;
-    }
+    out[at..at + n].copy_from_slice(&record[..n]);
 }
 
 // How far the search may go: the tries, the records that there is room for, and the numbers of a record.
@@ -74,10 +71,10 @@ pub fn go(
     loop {
         depth = levels::back(levels, depth);
         if depth == 0 {
-            return ended(ALL, count, tries);
+            return ended(Ending::All, count, tries);
         }
         if tries == budget {
-            return ended(BUDGET, count, tries);
+            return ended(Ending::Budget, count, tries);
         }
         let t = next_try(label, size, pattern, at, levels, depth - 1, budget, tries);
         tries = tries + t.failed + 1;
@@ -92,14 +89,14 @@ pub fn go(
             &mut memory,
             &mut path,
         ) {
-            walk::Out::Fail => {}
-            walk::Out::Need(w) => {
+            Err(Halt::Fail) => {}
+            Err(Halt::Need(w)) => {
                 deeper(size, pattern, at, levels, depth, t.p, t.u, t.left, w);
                 depth += 1;
             }
-            walk::Out::Ok(_) => {
+            Ok(_) => {
                 if count == room {
-                    return ended(ROOM, count, tries);
+                    return ended(Ending::Room, count, tries);
                 }
                 put(out, count * width, record, width);
                 count += 1;

@@ -26,9 +26,9 @@ fn follow(
     let mut o = walk::begin(label, size, pattern, found, &mut at);
     loop {
         match o {
-            walk::Out::Fail => return false,
-            walk::Out::Ok(_) => return true,
-            walk::Out::Need(w) => {
+            Err(walk::Halt::Fail) => return false,
+            Ok(_) => return true,
+            Err(walk::Halt::Need(w)) => {
                 let p = w.place;
                 let x = w.variable;
                 let t = w.start;

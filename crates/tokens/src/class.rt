@@ -41,13 +41,8 @@ fn stop_of(c: u8) -> u8
 fn spread() -> [u8; 512]
     ensures { Spread result }
 {
-    let codes = codes();
     let mut class = [0u8; 512];
-    let mut k: usize = 0;
-    while k < 128 {
-        class[k] = codes[k];
-        k += 1;
-    }
+    class[..128].copy_from_slice(&codes());
     class
 }
 
@@ -56,10 +51,8 @@ pub fn table() -> [u8; 512]
     ensures { Classed result }
 {
     let mut class = spread();
-    let mut k: usize = 0;
-    while k < 256 {
+    for k in 0..256 {
         class[256 + k] = stop_of(class[k]);
-        k += 1;
     }
     class
 }

@@ -6,7 +6,7 @@ ghost use Rattle.tree.specs.Rows.{Below, GoodRows};
 ghost use Rattle.tree.specs.Shape.{Shape};
 ghost use Rattle.tree.specs.Endings.{Told, EndingPost, NestedPre};
 ghost use Rattle.tree.specs.Places.{SameRows};
-ghost use Rattle.tree.specs.Helpers.{SamePre, CountPre, CountPost, PastPre, PastPost, ChildPre, ChildPost, ListPre, ListPost};
+ghost use Rattle.tree.specs.Helpers.{SamePre, CountPre, CountPost, PastPre, PastPost, HolderPre, HolderPost, ChildPre, ChildPost, ListPre, ListPost};
 
 // A tree as it is lent: the label and the size of each row, in preorder.
 #[derive(Clone, Copy)]
@@ -23,13 +23,6 @@ pub fn at(s: &[u32], i: usize) -> usize
     s[i] as usize
 }
 
-// The number, wider.
-fn wide(x: u16) -> usize
-    ensures { result ≡ x }
-{
-    x as usize
-}
-
 // The row after the term at the row.
 pub fn next(size: &[u32], row: usize) -> usize
     requires { row < length size.now }
@@ -44,17 +37,12 @@ fn ending(size: &[u32], closing: &mut [u16; 2049]) -> bool
     ensures { EndingPost size.now closing.new result }
 {
     let rows = size.len();
-    let mut row = 0;
-    while row < rows {
+    for row in 0..rows {
         let after = next(size, row);
-        if after == row {
-            return false;
-        }
-        if rows < after {
+        if after == row || rows < after {
             return false;
         }
         closing[after] += 1;
-        row += 1;
     }
     true
 }
@@ -70,9 +58,8 @@ fn nested(size: &[u32], closing: &[u16; 2049]) -> bool
     let mut ends = [0usize; 64];
     ends[0] = rows;
     let mut opened = 1;
-    let mut row = 1;
-    while row < rows {
-        let depth = opened - wide(closing[row]);
+    for row in 1..rows {
+        let depth = opened - usize::from(closing[row]);
         let after = next(size, row);
         if ends[depth - 1] < after {
             return false;
@@ -82,7 +69,6 @@ fn nested(size: &[u32], closing: &[u16; 2049]) -> bool
         }
         ends[depth] = after;
         opened = depth + 1;
-        row += 1;
     }
     true
 }
@@ -114,13 +100,7 @@ pub fn below(s: &[u32], limit: u32) -> bool
     ensures { Says result (Below limit s.now) }
 {
     // No branch depends on a number, so that many are compared at once.
-    let mut all = true;
-    let mut i = 0;
-    while i < s.len() {
-        all = all & (s[i] < limit);
-        i += 1;
-    }
-    all
+    s.iter().fold(true, |all, x| all & (*x < limit))
 }
 
 // The tree check.
@@ -138,15 +118,14 @@ pub fn same(label: &[u32], size: &[u32], a: usize, t: usize, k: usize) -> bool
     requires { SamePre label.now size.now a t k }
     ensures { Says result (SameRows label.now size.now a t k) }
 {
-    let mut i = 0;
-    while i < k {
+    // Row by row: most terms that are compared are small, and two slices of few numbers take `==` half as long again.
+    for i in 0..k {
         if label[a + i] != label[t + i] {
             return false;
         }
         if size[a + i] != size[t + i] {
             return false;
         }
-        i += 1;
     }
     true
 }
@@ -170,11 +149,23 @@ pub fn past(size: &[u32], t: usize, c: usize) -> usize
     requires { PastPre size.now t c }
     ensures { PastPost size.now t c result }
 {
-    let mut i = 0;
     let mut u = t;
-    while i < c {
+    for _ in 0..c {
         u = next(size, u);
-        i += 1;
+    }
+    u
+}
+
+// The term that holds the row b: the one at the row `from` or a neighbour behind it.
+pub fn holder(size: &[u32], from: usize, b: usize) -> usize
+    requires { HolderPre size.now from b }
+    ensures { HolderPost size.now from b result }
+{
+    let mut u = from;
+    let mut e = next(size, u);
+    while e <= b {
+        u = e;
+        e = next(size, u);
     }
     u
 }
@@ -184,13 +175,7 @@ pub fn child(size: &[u32], a: usize, b: usize) -> usize
     requires { ChildPre size.now a b }
     ensures { ChildPost size.now a b result }
 {
-    let mut u = a + 1;
-    let mut e = next(size, u);
-    while e <= b {
-        u = e;
-        e = next(size, u);
-    }
-    u
+    holder(size, a + 1, b)
 }
 
 // The end of the argument list in which the row stands; the root's is the length.

@@ -8,13 +8,6 @@ ghost use Rattle.variable.specs.Steps.{IndividualPre, IndividualPost, HeadPre, H
 
 use meaning::kinds::SYMBOL;
 
-// What an individual variable and the head of a term answer: no match, or one with so many variables bound.
-#[derive(Drop)]
-pub enum Bound {
-    Fail,
-    Ok(usize),
-}
-
 // What a sequence or context variable answers: where it comes first, that a value is needed; otherwise the row at which the walk
 // goes on.
 #[derive(Drop)]
@@ -33,7 +26,7 @@ pub fn put(record: &mut [u32], n: usize, t: usize, v: usize)
     record[n + n + 1] = v as u32;
 }
 
-// The individual variable x at row t.
+// The individual variable x at row t: no match, or one with so many variables bound.
 pub fn individual(
     label: &[u32],
     size: &[u32],
@@ -41,41 +34,48 @@ pub fn individual(
     x: usize,
     t: usize,
     n: usize,
-) -> Bound
+) -> Option<usize>
     requires { IndividualPre label.now size.now «record».old x t n }
     ensures { IndividualPost label.now size.now «record».old x t n result «record».new }
 {
     if x == n {
         put(record, n, t, 0);
-        return Bound::Ok(n + 1);
+        return Some(n + 1);
     }
     let a = tree::at(record, x + x);
     if compare::alike(label, size, a, tree::next(size, a), t, tree::next(size, t)) {
-        Bound::Ok(n)
+        Some(n)
     } else {
-        Bound::Fail
+        None
     }
 }
 
-// The head of the term at row t: the symbol or function variable x.
-pub fn head(label: &[u32], record: &mut [u32], kind: u32, x: usize, t: usize, n: usize) -> Bound
+// The head of the term at row t: the symbol or function variable x; what it answers is as above.
+pub fn head(
+    label: &[u32],
+    record: &mut [u32],
+    kind: u32,
+    x: usize,
+    t: usize,
+    n: usize,
+) -> Option<usize>
     requires { HeadPre label.now «record».old kind x t n }
     ensures { HeadPost label.now «record».old kind x t n result «record».new }
 {
     if kind == SYMBOL {
         if x == tree::at(label, t) {
-            return Bound::Ok(n);
+            return Some(n);
         }
-        return Bound::Fail;
+        return None;
     }
     if x == n {
         put(record, n, t, 0);
-        return Bound::Ok(n + 1);
+        return Some(n + 1);
     }
     if tree::at(label, tree::at(record, x + x)) == tree::at(label, t) {
-        Bound::Ok(n)
+        Some(n)
     } else {
-        Bound::Fail
+        None
     }
 }
 
@@ -98,8 +98,8 @@ pub fn sequence(
     let a = tree::at(record, x + x);
     let c = tree::at(record, x + x + 1);
     match compare::again(label, size, a, c, t, e) {
-        compare::Found::Fail => Step::Fail,
-        compare::Found::At(u) => Step::Go(u),
+        None => Step::Fail,
+        Some(u) => Step::Go(u),
     }
 }
 
@@ -114,7 +114,7 @@ pub fn context(label: &[u32], size: &[u32], record: &[u32], x: usize, t: usize, 
     let a = tree::at(record, x + x);
     let b = tree::at(record, x + x + 1);
     match compare::fits(label, size, a, b, t) {
-        compare::Found::Fail => Step::Fail,
-        compare::Found::At(h) => Step::Go(h),
+        None => Step::Fail,
+        Some(h) => Step::Go(h),
     }
 }

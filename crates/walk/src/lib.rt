@@ -9,6 +9,7 @@ ghost use Rattle.walk.specs.Onward.{UpPre, UpPost, ResumePre, ResumePost, BeginP
 ghost use Rattle.walk.specs.Taken.{TakePre, TakePost};
 
 use meaning::kinds::{CONTEXT, INDIVIDUAL, SEQUENCE};
+use variable::Step;
 
 // Where a walk stops: the row of the pattern with a variable that has to be chosen, the variable, and the row of the tree where it starts.
 #[derive(Drop)]
@@ -18,12 +19,11 @@ pub struct Stop {
     pub start: usize,
 }
 
-// What a walk answers: no match; a stop; or a match with so many variables bound.
+// What keeps a walk from its end, at which it says how many variables are bound: no match, or a variable that has to be chosen.
 #[derive(Drop)]
-pub enum Out {
+pub enum Halt {
     Fail,
     Need(Stop),
-    Ok(usize),
 }
 
 // What the walk needs of a row of the pattern: its kind, name and size, the row that holds it, and its variable's constraint.
@@ -54,7 +54,7 @@ fn put(packed: &mut [u32], row: usize, r: PatternRow)
 fn entry(list: &[u32], i: usize) -> u32
     ensures { result ≡ get_or list.now i 0 }
 {
-    if i < list.len() { list[i] } else { 0 }
+    list.get(i).copied().unwrap_or(0)
 }
 
 // The nearest row before a row whose term has it, where the rows before have theirs; the root's is itself.
@@ -78,8 +78,7 @@ pub fn pack(kind: &[u32], name: &[u32], size: &[u32], constraint: &[u32], packed
     ensures { Packed kind.now name.now size.now packed.new
         × Bounds kind.now name.now constraint.now packed.new }
 {
-    let mut row = 0;
-    while row < kind.len() {
+    for row in 0..kind.len() {
         let holder = holder_of(size, packed, row) as u32;
         let x = tree::at(name, row);
         let r = PatternRow {
@@ -91,7 +90,6 @@ pub fn pack(kind: &[u32], name: &[u32], size: &[u32], constraint: &[u32], packed
             flag: entry(constraint, x + x + 1),
         };
         put(packed, row, r);
-        row += 1;
     }
 }
 
@@ -175,7 +173,7 @@ fn term(
     p: usize,
     t: usize,
     n: usize,
-) -> Out
+) -> Result<usize, Halt>
     requires { TermPre label.now size.now pattern.now «record».old at.old p t n }
     ensures { TermPost label.now size.now pattern.now «record».old at.old p t n result «record».new at.new }
 {
@@ -183,37 +181,32 @@ fn term(
     let k = kind(pattern, p);
     let x = name(pattern, p);
     if k == INDIVIDUAL {
-        return match variable::individual(label, size, record, x, t, n) {
-            variable::Bound::Fail => Out::Fail,
-            variable::Bound::Ok(m) => Out::Ok(m),
-        };
+        return variable::individual(label, size, record, x, t, n).ok_or(Halt::Fail);
     }
     if k == CONTEXT {
         return match variable::context(label, size, record, x, t, n) {
-            variable::Step::Fail => Out::Fail,
-            variable::Step::Need => Out::Need(Stop {
+            Step::Fail => Err(Halt::Fail),
+            Step::Need => Err(Halt::Need(Stop {
                 place: p,
                 variable: x,
                 start: t,
-            }),
-            variable::Step::Go(u) => term(label, size, pattern, record, at, p + 1, u, n),
+            })),
+            Step::Go(u) => term(label, size, pattern, record, at, p + 1, u, n),
         };
     }
-    match variable::head(label, record, k, x, t, n) {
-        variable::Bound::Fail => Out::Fail,
-        variable::Bound::Ok(m) => args(
-            label,
-            size,
-            pattern,
-            record,
-            at,
-            p + 1,
-            next(pattern, p),
-            t + 1,
-            tree::next(size, t),
-            m,
-        ),
-    }
+    let m = variable::head(label, record, k, x, t, n).ok_or(Halt::Fail)?;
+    args(
+        label,
+        size,
+        pattern,
+        record,
+        at,
+        p + 1,
+        next(pattern, p),
+        t + 1,
+        tree::next(size, t),
+        m,
+    )
 }
 
 // The pattern's arguments from row p up to pe against the terms from row t up to te, where n variables are bound. A loop, so that the recursion is no deeper than the pattern.
@@ -229,7 +222,7 @@ fn args(
     t: usize,
     te: usize,
     n: usize,
-) -> Out
+) -> Result<usize, Halt>
     requires { ListPre label.now size.now pattern.now «record».old at.old p pe t te n }
     ensures { ListPost label.now size.now pattern.now «record».old at.old p pe t te n result «record».new at.new }
 {
@@ -240,39 +233,33 @@ fn args(
         if kind(pattern, q) == SEQUENCE {
             let x = name(pattern, q);
             match variable::sequence(label, size, record, x, u, te, m) {
-                variable::Step::Fail => return Out::Fail,
-                variable::Step::Need => {
+                Step::Fail => return Err(Halt::Fail),
+                Step::Need => {
                     come(at, q, u);
-                    return Out::Need(Stop {
+                    return Err(Halt::Need(Stop {
                         place: q,
                         variable: x,
                         start: u,
-                    });
+                    }));
                 }
-                variable::Step::Go(v) => {
+                Step::Go(v) => {
                     q += 1;
                     u = v;
                 }
             }
         } else {
             if u == te {
-                return Out::Fail;
+                return Err(Halt::Fail);
             }
-            match term(label, size, pattern, record, at, q, u, m) {
-                Out::Fail => return Out::Fail,
-                Out::Need(w) => return Out::Need(w),
-                Out::Ok(k) => {
-                    q = next(pattern, q);
-                    u = tree::next(size, u);
-                    m = k;
-                }
-            }
+            m = term(label, size, pattern, record, at, q, u, m)?;
+            q = next(pattern, q);
+            u = tree::next(size, u);
         }
     }
     if u == te {
-        return Out::Ok(m);
+        return Ok(m);
     }
-    Out::Fail
+    Err(Halt::Fail)
 }
 
 // What is left of the walk behind the pattern term at row p: the rest of the list that it stands in, then of the list that its holder
@@ -285,7 +272,7 @@ fn up(
     at: &mut [usize; 256],
     p: usize,
     n: usize,
-) -> Out
+) -> Result<usize, Halt>
     requires { UpPre label.now size.now pattern.now «record».old at.old p n }
     ensures { UpPost label.now size.now pattern.now «record».old at.old p n result «record».new at.new }
 {
@@ -298,7 +285,7 @@ fn up(
         } else {
             let t = row(at, q);
             let g = row(at, h);
-            match args(
+            m = args(
                 label,
                 size,
                 pattern,
@@ -309,17 +296,11 @@ fn up(
                 tree::next(size, t),
                 tree::next(size, g),
                 m,
-            ) {
-                Out::Fail => return Out::Fail,
-                Out::Need(w) => return Out::Need(w),
-                Out::Ok(k) => {
-                    q = h;
-                    m = k;
-                }
-            }
+            )?;
+            q = h;
         }
     }
-    Out::Ok(m)
+    Ok(m)
 }
 
 // The walk goes on from the variable at the pattern row p, the last of n that are bound: u is the row behind a sequence's terms,
@@ -333,14 +314,14 @@ pub fn resume(
     p: usize,
     u: usize,
     n: usize,
-) -> Out
+) -> Result<usize, Halt>
     requires { ResumePre label.now size.now pattern.now «record».old at.old p u n }
     ensures { ResumePost label.now size.now pattern.now «record».old at.old p u n result «record».new at.new }
 {
     if kind(pattern, p) == SEQUENCE {
         let h = holder(pattern, p);
         let g = row(at, h);
-        return match args(
+        let m = args(
             label,
             size,
             pattern,
@@ -351,17 +332,11 @@ pub fn resume(
             u,
             tree::next(size, g),
             n,
-        ) {
-            Out::Fail => Out::Fail,
-            Out::Need(w) => Out::Need(w),
-            Out::Ok(m) => up(label, size, pattern, record, at, h, m),
-        };
+        )?;
+        return up(label, size, pattern, record, at, h, m);
     }
-    match term(label, size, pattern, record, at, p + 1, u, n) {
-        Out::Fail => Out::Fail,
-        Out::Need(w) => Out::Need(w),
-        Out::Ok(m) => up(label, size, pattern, record, at, p, m),
-    }
+    let m = term(label, size, pattern, record, at, p + 1, u, n)?;
+    up(label, size, pattern, record, at, p, m)
 }
 
 // The variable x at the pattern row p, which starts at the row s, takes the value v, and the walk goes on at the row u.
@@ -376,7 +351,7 @@ pub fn take(
     s: usize,
     u: usize,
     v: usize,
-) -> Out
+) -> Result<usize, Halt>
     requires { TakePre label.now size.now pattern.now «record».old at.old p x s u v }
     ensures { TakePost label.now size.now pattern.now «record».old at.old p x s u v result «record».new at.new }
 {
@@ -391,7 +366,7 @@ pub fn begin(
     pattern: &[u32; 1536],
     record: &mut [u32; 32],
     at: &mut [usize; 256],
-) -> Out
+) -> Result<usize, Halt>
     requires { BeginPre label.now size.now pattern.now «record».old at.old }
     ensures { BeginPost label.now size.now pattern.now «record».old at.old result «record».new at.new }
 {

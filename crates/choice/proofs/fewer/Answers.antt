@@ -1,7 +1,6 @@
-use Prim.Native.Nat.{◌-◌}
 use native.Mathlib.Omega.{arith}
 use Rattle.choice.specs.Stops.{elsewhere}
-use Rattle.choice.proofs.Counts.{Leaving, leaving_all, leaving_next, leaving_more, leaving_there}
+use Rattle.choice.proofs.Counts.{leaving_all, leaving_next, leaving_more, leaving_there}
 use Rattle.choice.proofs.fewer.Goals as goal
 
 pub loop-row-init : goal.loop-row-init

@@ -1,7 +1,5 @@
 use Prim.Native.Nat.{◌-◌}
-use native.Mathlib.Omega.{arith}
-use Rattle.choice.specs.Stops.{elsewhere}
-use Rattle.choice.proofs.Counts.{Leaving, leaving_all, leaving_next, leaving_more, leaving_there}
+use Rattle.choice.proofs.Counts.{Leaving}
 use Rattle.choice.proofs.fewer.Given as goal
 
 abbrev pub invariant-loop-row : goal.invariant-loop-row

@@ -1,4 +1,3 @@
-use borrow.Author.Rules.{rules}
 use Rattle.choice.proofs.Counts.{least_terms, least_hole}
 use Rattle.choice.proofs.least.Goals as goal
 

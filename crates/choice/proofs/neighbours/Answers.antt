@@ -1,7 +1,4 @@
-use Prim.Native.Nat.{◌-◌}
 use mathlib.Core.Path.{◌∙◌}
-use native.Mathlib.Omega.{arith}
-use Rattle.choice.specs.Runs.{NeighboursPost}
 use Rattle.choice.proofs.Runs.{neighbours_none, neighbours_next, neighbours_more}
 use Rattle.choice.proofs.neighbours.Goals as goal
 
@@ -11,20 +8,8 @@ loop-count-init c = neighbours_none
 pub at-requires : goal.at-requires
 at-requires c = (neighbours_next c.loop-count.invariant c.loop-count-test.true c.requires).0
 
-pub returns-then-at-symbol : goal.returns-then-at-symbol
-returns-then-at-symbol c = c.loop-count.invariant
-
 pub next-u-requires : goal.next-u-requires
 next-u-requires c = (neighbours_next c.loop-count.invariant c.loop-count-test.true c.requires).1
 
-pub overflow_add-count : goal.overflow_add-count
-overflow_add-count c = omega (arith, c.loop-count-test.true, c.ranges.limit)
-
-pub loop-count-smaller : goal.loop-count-smaller
-loop-count-smaller c = omega (arith, c.loop-count-test.true)
-
 pub loop-count-preserved : goal.loop-count-preserved
 loop-count-preserved c = neighbours_more c.loop-count.invariant c.loop-count-test.true (λ e. c.if-at-symbol.false (c.at.ensures.0 ∙ e)) c.next-u.ensures
-
-pub returns : goal.returns
-returns c = c.loop-count.invariant

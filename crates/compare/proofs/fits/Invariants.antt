@@ -1,7 +1,5 @@
 use Prim.Native.Nat.{◌-◌}
-use native.Mathlib.Omega.{arith}
-use Rattle.compare.proofs.Contexts.{Fitted, fitted_first, fitted_rows, fitted_labels, fitted_done, fitted_level_pre, fitted_less, fitted_fails, fitted_more}
-use borrow.Author.Rules.{rules}
+use Rattle.compare.proofs.Contexts.{Fitted}
 use Rattle.compare.proofs.fits.Given as goal
 
 abbrev pub invariant-loop-from : goal.invariant-loop-from

@@ -1,6 +1,6 @@
-use Prim.Native.Nat.{◌-◌}
+use borrow.Author.Rules.{rules}
 use native.Mathlib.Omega.{arith}
-use Rattle.compare.proofs.Lefts.{Beside, beside_first, beside_row, beside_all, beside_end, beside_there, beside_alike_pre, beside_differs, beside_more}
+use Rattle.compare.proofs.Lefts.{beside_first, beside_row, beside_all, beside_end, beside_there, beside_alike_pre, beside_differs, beside_more}
 use Rattle.compare.proofs.left.Goals as goal
 
 pub loop-a-init : goal.loop-a-init
@@ -25,7 +25,7 @@ pub loop-a-smaller : goal.loop-a-smaller
 loop-a-smaller c = omega (arith, c.if-b-behind.false, c.next-behind.ensures, beside_row c.loop-a.invariant c.requires)
 
 pub loop-a-preserved : goal.loop-a-preserved
-loop-a-preserved c = beside_more c.loop-a.invariant c.next-behind.ensures c.if-b-behind.false c.if-v-e.false c.next-after.ensures c.alike.ensures c.if-alike.true
+loop-a-preserved c = beside_more c.loop-a.invariant c.next-behind.ensures c.if-b-behind.false c.if-v-e.false c.next-after.ensures c.alike.ensures (search rules)
 
-pub returns-else-alike : goal.returns-else-alike
-returns-else-alike c = beside_differs c.loop-a.invariant c.next-behind.ensures c.if-b-behind.false c.if-v-e.false c.next-after.ensures c.alike.ensures c.if-alike.false
+pub returns-then-not-alike : goal.returns-then-not-alike
+returns-then-not-alike c = beside_differs c.loop-a.invariant c.next-behind.ensures c.if-b-behind.false c.if-v-e.false c.next-after.ensures c.alike.ensures (search rules)

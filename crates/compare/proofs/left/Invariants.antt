@@ -1,6 +1,5 @@
 use Prim.Native.Nat.{◌-◌}
-use native.Mathlib.Omega.{arith}
-use Rattle.compare.proofs.Lefts.{Beside, beside_first, beside_row, beside_all, beside_end, beside_there, beside_alike_pre, beside_differs, beside_more}
+use Rattle.compare.proofs.Lefts.{Beside}
 use Rattle.compare.proofs.left.Given as goal
 
 abbrev pub invariant-loop-a : goal.invariant-loop-a

@@ -16,31 +16,31 @@ pub left-requires : goal.left-requires
 left-requires c = level_left_pre c.next-e.ensures c.requires
 
 pub returns-then-v-e : goal.returns-then-v-e
-returns-then-v-e c = level_none c.next-e.ensures c.left.ensures c.in-At.is c.if-v-e.true
+returns-then-v-e c = level_none c.next-e.ensures c.in_ok-v.ensures c.if-v-e.true
 
 pub overflow_sub-v : goal.overflow_sub-v
-overflow_sub-v c = omega (arith, level_places c.next-e.ensures c.left.ensures c.in-At.is c.if-v-e.false c.requires)
+overflow_sub-v c = omega (arith, level_places c.next-e.ensures c.in_ok-v.ensures c.if-v-e.false c.requires)
 
-pub overflow_add-a-in-At : goal.overflow_add-a-in-At
-overflow_add-a-in-At c = omega (arith, level_places c.next-e.ensures c.left.ensures c.in-At.is c.if-v-e.false c.requires, c.well_formed)
+pub overflow_add-a-2 : goal.overflow_add-a-2
+overflow_add-a-2 c = omega (arith, level_places c.next-e.ensures c.in_ok-v.ensures c.if-v-e.false c.requires, c.well_formed)
 
 pub next-right-requires : goal.next-right-requires
-next-right-requires c = (level_places c.next-e.ensures c.left.ensures c.in-At.is c.if-v-e.false c.requires).1
+next-right-requires c = (level_places c.next-e.ensures c.in_ok-v.ensures c.if-v-e.false c.requires).1
 
 pub next-end-requires : goal.next-end-requires
 next-end-requires c = (level_rows c.requires).0.sized
 
 pub next-there-requires : goal.next-there-requires
-next-there-requires c = (level_places c.next-e.ensures c.left.ensures c.in-At.is c.if-v-e.false c.requires).2
+next-there-requires c = (level_places c.next-e.ensures c.in_ok-v.ensures c.if-v-e.false c.requires).2
 
 pub alike-requires : goal.alike-requires
-alike-requires c = level_alike_pre c.next-e.ensures c.left.ensures c.in-At.is c.if-v-e.false c.next-right.ensures c.next-end.ensures c.next-there.ensures c.requires
+alike-requires c = level_alike_pre c.next-e.ensures c.in_ok-v.ensures c.if-v-e.false c.next-right.ensures c.next-end.ensures c.next-there.ensures c.requires
 
 pub returns-then-alike : goal.returns-then-alike
-returns-then-alike c = level_at c.next-e.ensures c.left.ensures c.in-At.is c.if-v-e.false c.next-right.ensures c.next-end.ensures c.next-there.ensures c.alike.ensures c.requires.label (search rules)
+returns-then-alike c = level_at c.next-e.ensures c.in_ok-v.ensures c.if-v-e.false c.next-right.ensures c.next-end.ensures c.next-there.ensures c.alike.ensures c.requires.label (search rules)
 
-pub returns-in-Fail : goal.returns-in-Fail
-returns-in-Fail c = level_differ c.next-e.ensures c.left.ensures c.in-Fail.is
+pub returns-in_err-v : goal.returns-in_err-v
+returns-in_err-v c = rw c.from_residual.ensures (level_differ c.next-e.ensures c.in_err-v.ensures)
 
-pub returns-else-alike : goal.returns-else-alike
-returns-else-alike c = level_right c.next-e.ensures c.left.ensures c.in-At.is c.if-v-e.false c.next-right.ensures c.next-end.ensures c.next-there.ensures c.alike.ensures (search rules)
+pub returns : goal.returns
+returns c = level_right c.next-e.ensures c.in_ok-v.ensures c.if-v-e.false c.next-right.ensures c.next-end.ensures c.next-there.ensures c.alike.ensures (search rules)

@@ -3,4 +3,4 @@ use borrow.Author.Rules.{rules}
 use Rattle.constraint.proofs.after_heads.Goals as goal
 
 pub returns : goal.returns
-returns c = from_first c.begin-state.ensures c.read_on.ensures
+returns c = from_first c.begin.ensures c.read_on.ensures

@@ -1,5 +1,4 @@
 use native.Mathlib.Omega.{arith}
-use borrow.Author.Rules.{rules}
 use Rattle.dictionary.proofs.Learning.{fresh}
 use Rattle.dictionary.proofs.check.Goals as goal
 

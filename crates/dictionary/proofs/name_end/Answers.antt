@@ -1,10 +1,5 @@
-use mathlib.Core.Path.{◌≡◌}
-use Prim.Native.Nat.{◌+◌, ◌-◌, ◌≤◌}
 use native.Mathlib.Omega.{arith}
-use lib.ListN.{length, drop}
-use Rattle.dictionary.specs.Scan.{upto}
 use Rattle.dictionary.proofs.Pieces.{upto_ten, upto_more, upto_end}
-use borrow.Author.Rules.{rules}
 use Rattle.dictionary.proofs.name_end.Goals as goal
 
 pub returns-then-dictionary-end-eq10 : goal.returns-then-dictionary-end-eq10

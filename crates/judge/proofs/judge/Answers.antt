@@ -1,6 +1,5 @@
 use native.Mathlib.Omega.{arith}
 use Rattle.judge.specs.Verdict.{long}
-use borrow.Author.Rules.{rules}
 use Rattle.judge.proofs.judge.Goals as goal
 
 pub returns-then-document-gt-MOST_BYTES : goal.returns-then-document-gt-MOST_BYTES

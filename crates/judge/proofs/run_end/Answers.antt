@@ -1,5 +1,4 @@
 use Rattle.judge.proofs.Turns.{white_text, outer_run, inner_run, inner_space}
-use borrow.Author.Rules.{rules}
 use Rattle.judge.proofs.run_end.Goals as goal
 
 pub returns-then-depth-eq0 : goal.returns-then-depth-eq0

@@ -2,11 +2,10 @@ use mathlib.Core.Path.{refl, ap}
 use Prim.Native.Nat.{ℕ}
 use lib.Bits.{bit_or}
 use Rattle.letters.proofs.Firsts.{follow_keep, follow_loop}
-use borrow.Author.Rules.{rules}
 use Rattle.letters.proofs.follow.Goals as goal
 
 pub returns-then-kind-eq-CONCATENATION : goal.returns-then-kind-eq-CONCATENATION
-returns-then-kind-eq-CONCATENATION c = rw c.if-kind-eq-CONCATENATION.true (ap (λ (x : ℕ). bit_or c.args.head.first x) c.gated-more.ensures, refl)
+returns-then-kind-eq-CONCATENATION c = rw c.if-kind-eq-CONCATENATION.true (ap (λ (x : ℕ). bit_or c.args.head.first x) c.gated.ensures, refl)
 
 pub returns-then-kind-lt4 : goal.returns-then-kind-lt4
 returns-then-kind-lt4 c = (follow_keep _ _ _ _ c.if-kind-eq-CONCATENATION.false c.if-kind-lt4.true, follow_keep _ _ _ _ c.if-kind-eq-CONCATENATION.false c.if-kind-lt4.true)

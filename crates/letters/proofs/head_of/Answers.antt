@@ -4,7 +4,6 @@ use native.Mathlib.Nat.{one-mul, mod-eq_of_lt}
 use lib.Bits.{bit_or}
 use lib.Pow.{pow-lt}
 use Rattle.letters.proofs.Firsts.{is_rest}
-use borrow.Author.Rules.{rules}
 use Rattle.letters.proofs.head_of.Goals as goal
 
 pub returns-in-0 : goal.returns-in-0
@@ -14,7 +13,7 @@ returns-in-0 c = rw c.in-0.is (
 )
 
 pub returns-in-2 : goal.returns-in-2
-returns-in-2 c = rw c.in-2.is (ap (λ (x : ℕ). bit_or c.args.l.first x) c.gated-more.ensures, refl)
+returns-in-2 c = rw c.in-2.is (ap (λ (x : ℕ). bit_or c.args.l.first x) c.gated.ensures, refl)
 
 pub returns-in-3 : goal.returns-in-3
 returns-in-3 c = rw c.in-3.is (refl, refl)

@@ -16,10 +16,10 @@ resume-requires c = resume_asked _ _ c.in_ok-checked.ensures _ 0 _ c.if-record-w
 pub no_page-requires : goal.no_page-requires
 no_page-requires c = record_asked _ _ c.in_ok-checked.ensures [] 0 []
 
-pub returns-in-NoMatcher : goal.returns-in-NoMatcher
-returns-in-NoMatcher c =
-    page_none _ _ c.in_ok-checked.ensures _ _ _ c.if-record-width.false c.tables_of.ensures c.pack.ensures refl c.room_for-room.ensures c.in-NoMatcher.ensures c.no_page.ensures
+pub returns-in-None : goal.returns-in-None
+returns-in-None c =
+    page_none _ _ c.in_ok-checked.ensures _ _ _ c.if-record-width.false c.tables_of.ensures c.pack.ensures refl c.room_for-room.ensures c.in-None.ensures c.no_page.ensures
 
-pub returns-in-Page : goal.returns-in-Page
-returns-in-Page c =
-    page_done _ _ c.in_ok-checked.ensures _ _ _ c.if-record-width.false c.tables_of.ensures c.pack.ensures refl c.room_for-room.ensures c.in-Page.ensures
+pub returns-in-Some : goal.returns-in-Some
+returns-in-Some c =
+    page_done _ _ c.in_ok-checked.ensures _ _ _ c.if-record-width.false c.tables_of.ensures c.pack.ensures refl c.room_for-room.ensures c.in-Some.ensures

@@ -1,4 +1,3 @@
-use borrow.Author.Rules.{rules}
 use Rattle.catalogue.proofs.Back.{fitting_none, fitting_some}
 use Rattle.lister.proofs.room_for.Goals as goal
 

@@ -1,13 +1,7 @@
 use Prim.Native.Nat.{◌-◌}
-use mathlib.Core.Path.{◌∙◌}
-use native.Mathlib.Omega.{arith}
-use Rattle.paths.proofs.Read as paths
-use Rattle.memory.proofs.Numbers.{blank}
 use Rattle.memory.specs.Memory.{Both}
 use Rattle.walk.specs.Packed.{root_of}
-use Rattle.levels.proofs.Tried.{try_long}
-use Rattle.page.proofs.Reaching.{OnTheWay, reach_begins, reach_first, reach_fails, reach_other, reach_found, reach_short, reach_deep, reach_chooses, reach_beyond, reach_tries, reach_again}
-use borrow.Author.Rules.{rules}
+use Rattle.page.proofs.Reaching.{OnTheWay}
 use Rattle.page.proofs.reach.Given as goal
 
 abbrev pub invariant-loop-o : goal.invariant-loop-o

@@ -1,32 +1,21 @@
-use Prim.Native.Nat.{◌*◌, ◌≤◌, ◌-◌}
-use mathlib.Core.Path.{◌≡◌, refl, ap, ◌∙◌}
-use lib.ListN.{length, take}
-use lib.Seq.{take_all}
-use native.Mathlib.Omega.{arith}
-use Rattle.panel.specs.Parts.{sum}
-use Rattle.panel.proofs.Parts.{sum_next}
+use Rattle.std.proofs.Common.{◌≡◌, ℕ, suc, ◌+◌, ◌*◌, ◌<◌, ◌≤◌, List, [], ◌∷◌, length, get_or, sum, Fits, w32, refl, ap, ◌∙◌, arith}
+use Rattle.std.proofs.lemmas.Grind.{common_steps}
+use Rattle.std.proofs.lemmas.List.Sums.{sum_by-cons}
+use Rattle.panel.specs.Parts.{sum as sum_of}
 use Rattle.panel.proofs.total.Goals as goal
 
-pub loop-k-init : goal.loop-k-init
-unfolding sum
-loop-k-init c = (omega arith, refl, omega arith)
+same_sum : (ns : List ℕ) → sum ns ≡ sum_of ns
+unfolding sum_of
+same_sum [] = refl
+same_sum (n ∷ ns) = sum_by-cons (λ x. x) n ns ∙ ap (λ (x : ℕ). n + x) (same_sum ns)
 
-pub at-all-requires : goal.at-all-requires
-at-all-requires c = omega arith
-
-pub overflow_add-all : goal.overflow_add-all
-overflow_add-all c = omega arith
-
-pub overflow_add-k : goal.overflow_add-k
-overflow_add-k c = omega arith
-
-pub loop-k-smaller : goal.loop-k-smaller
-loop-k-smaller c = omega arith
-
-pub loop-k-preserved : goal.loop-k-preserved
-loop-k-preserved c = let l = c.loop-k in
-    (omega arith, omega (arith, l.invariant.1, c.at-all.ensures.0, sum_next l.k c.args.lengths.now (omega arith)), omega (arith, l.invariant.2, c.at-all.ensures.1))
+most_sum : (ns : List ℕ) → ((i : ℕ) → Fits w32 (get_or ns i 0)) → sum_of ns ≤ length ns * 4294967296
+unfolding sum_of
+most_sum [] h = omega arith
+most_sum (n ∷ ns) h = omega (arith, h 0, most_sum ns (λ i. h (suc i)))
 
 pub returns : goal.returns
-returns c = let l = c.loop-k in
-    (l.invariant.1 ∙ ap sum (take_all l.k _ (omega arith)), omega (arith, l.invariant.2, l.invariant.0))
+returns c =
+    let lengths : List ℕ = c.args.lengths.now in
+    let e : c.sum.result ≡ sum c.args.lengths.now = grind (arith, common_steps) in
+    (e ∙ same_sum lengths, omega (arith, e, same_sum lengths, most_sum lengths c.type_inv.lengths))

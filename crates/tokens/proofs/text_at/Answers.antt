@@ -5,17 +5,11 @@ use native.Mathlib.Omega.{arith}
 use borrow.Author.Rules.{rules}
 use Rattle.tokens.proofs.text_at.Goals as goal
 
-pub class_of-c-requires : goal.class_of-c-requires
-class_of-c-requires c = c.requires.0
-
 pub returns-then-c-gt-GREATER : goal.returns-then-c-gt-GREATER
 returns-then-c-gt-GREATER c = sym (text_at_yes _ _ _ _ c.class_of-c.ensures c.if-c-gt-GREATER.true)
 
 pub returns-then-c-eq-NONE : goal.returns-then-c-eq-NONE
 returns-then-c-eq-NONE c = sym (text_at_not _ _ _ _ c.class_of-c.ensures c.if-c-eq-NONE.true)
-
-pub bracketed-requires : goal.bracketed-requires
-bracketed-requires c = (c.requires.1, omega (arith, c.requires.2))
 
 pub returns : goal.returns
 returns c = ap not c.bracketed.ensures ∙ sym (text_at_bracket _ _ _ _ c.class_of-c.ensures (omega (arith, c.if-c-eq-NONE.false, c.if-c-gt-GREATER.false)))

@@ -1,6 +1,5 @@
 use native.Mathlib.Omega.{arith}
 use Rattle.variable.proofs.Contexts.{context_needs, context_room, context_fits_pre, context_differs, context_again}
-use borrow.Author.Rules.{rules}
 use Rattle.variable.proofs.context.Goals as goal
 
 pub returns-then-x-n : goal.returns-then-x-n
@@ -24,8 +23,8 @@ at-b-requires c = omega (arith, context_room c.requires, c.well_formed)
 pub fits-requires : goal.fits-requires
 fits-requires c = context_fits_pre c.if-x-n.false c.at-a.ensures.0 c.at-b.ensures.0 c.requires
 
-pub returns-in-Fail : goal.returns-in-Fail
-returns-in-Fail c = context_differs c.if-x-n.false c.at-a.ensures.0 c.at-b.ensures.0 c.fits.ensures c.in-Fail.is
+pub returns-in-None : goal.returns-in-None
+returns-in-None c = context_differs c.if-x-n.false c.at-a.ensures.0 c.at-b.ensures.0 c.fits.ensures c.in-None.is
 
-pub returns-in-At : goal.returns-in-At
-returns-in-At c = context_again c.if-x-n.false c.at-a.ensures.0 c.at-b.ensures.0 c.fits.ensures c.in-At.is
+pub returns-in-Some : goal.returns-in-Some
+returns-in-Some c = context_again c.if-x-n.false c.at-a.ensures.0 c.at-b.ensures.0 c.fits.ensures c.in-Some.is

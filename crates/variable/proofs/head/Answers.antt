@@ -1,6 +1,5 @@
 use native.Mathlib.Omega.{arith}
 use Rattle.variable.proofs.Singles.{symbol_same, symbol_differs, function_room, function_first, function_next, function_same, function_differs}
-use borrow.Author.Rules.{rules}
 use Rattle.variable.proofs.head.Goals as goal
 
 pub at-requires : goal.at-requires

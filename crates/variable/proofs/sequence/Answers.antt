@@ -1,6 +1,5 @@
 use native.Mathlib.Omega.{arith}
 use Rattle.variable.proofs.Sequences.{sequence_needs, sequence_room, sequence_again_pre, sequence_differs, sequence_again}
-use borrow.Author.Rules.{rules}
 use Rattle.variable.proofs.sequence.Goals as goal
 
 pub returns-then-x-n : goal.returns-then-x-n
@@ -24,8 +23,8 @@ at-c-requires c = sequence_room c.requires
 pub again-requires : goal.again-requires
 again-requires c = sequence_again_pre c.if-x-n.false c.at-a.ensures.0 c.at-c.ensures.0 c.requires
 
-pub returns-in-Fail : goal.returns-in-Fail
-returns-in-Fail c = sequence_differs c.if-x-n.false c.at-a.ensures.0 c.at-c.ensures.0 c.again.ensures c.in-Fail.is
+pub returns-in-None : goal.returns-in-None
+returns-in-None c = sequence_differs c.if-x-n.false c.at-a.ensures.0 c.at-c.ensures.0 c.again.ensures c.in-None.is
 
-pub returns-in-At : goal.returns-in-At
-returns-in-At c = sequence_again c.if-x-n.false c.at-a.ensures.0 c.at-c.ensures.0 c.again.ensures c.in-At.is
+pub returns-in-Some : goal.returns-in-Some
+returns-in-Some c = sequence_again c.if-x-n.false c.at-a.ensures.0 c.at-c.ensures.0 c.again.ensures c.in-Some.is

@@ -1,5 +1,4 @@
 use Rattle.walk.proofs.Packs.{climb_first, climb_row, climb_room, climb_more, climb_ends}
-use Rattle.walk.specs.Packed.{Past}
 use native.Mathlib.Omega.{arith}
 use Rattle.walk.proofs.holder_of.Goals as goal
 

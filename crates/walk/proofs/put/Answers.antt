@@ -1,7 +1,6 @@
 use Rattle.walk.proofs.Packs.{six_put}
 use native.Mathlib.Omega.{arith}
 use lib.ListN.{length-set}
-use borrow.Author.Rules.{rules}
 use Rattle.walk.proofs.put.Goals as goal
 
 pub bounds-packed-at-2 : goal.bounds-packed-at-2

@@ -2,7 +2,6 @@ use mathlib.Core.Path.{ap, ap₂, ◌∙◌}
 use Prim.Native.Nat.{ℕ}
 use borrow.Author.Tests.{lt-ltb, le-ltb, eq-eqb, ne_eqb}
 use Rattle.words.specs.Words.{mixed_of, hash_of}
-use borrow.Author.Rules.{rules}
 use Rattle.words.proofs.hash.Goals as goal
 
 pub returns-then-length-eq0 : goal.returns-then-length-eq0

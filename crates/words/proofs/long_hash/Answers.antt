@@ -2,7 +2,6 @@ use mathlib.Core.Path.{ap, ap₂, ◌∙◌}
 use Prim.Native.Nat.{ℕ, ◌/◌}
 use borrow.Author.Tests.{lt-ltb, le-ltb}
 use Rattle.words.specs.Words.{mixed_of, long_hash_of}
-use borrow.Author.Rules.{rules}
 use Rattle.words.proofs.long_hash.Goals as goal
 
 pub returns-then-length-lt17 : goal.returns-then-length-lt17

@@ -1,8 +1,5 @@
 use Prim.Native.Nat.{◌-◌, ◌≤◌}
-use native.Mathlib.Omega.{arith}
 use Rattle.words.specs.Words.{Again}
-use Rattle.words.proofs.Bytes.{again_none, again_more, again_word, says_word, says_last}
-use borrow.Author.Rules.{rules}
 use Rattle.words.proofs.same_words.Given as goal
 
 abbrev pub invariant-loop-k : goal.invariant-loop-k

@@ -1,5 +1,4 @@
 use Rattle.words.proofs.Bytes.{word_is}
-use borrow.Author.Rules.{rules}
 use Rattle.words.proofs.word.Goals as goal
 
 pub returns : goal.returns

@@ -1,5 +1,4 @@
 use Rattle.dictionary.proofs.Buckets.{bucket_is}
-use borrow.Author.Rules.{rules}
 use Rattle.dictionary.proofs.index.bucket_of.Goals as goal
 
 pub returns : goal.returns

@@ -1,6 +1,5 @@
 use native.Mathlib.Omega.{arith}
 use lib.ListN.{length-set}
-use borrow.Author.Rules.{rules}
 use Rattle.dictionary.proofs.index.insert.Goals as goal
 
 pub bounds-index-count-2 : goal.bounds-index-count-2

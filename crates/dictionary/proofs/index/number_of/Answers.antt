@@ -3,7 +3,6 @@ use native.Mathlib.Omega.{arith}
 use Rattle.dictionary.specs.Scan.{range}
 use Rattle.dictionary.proofs.Buckets.{bucket_below}
 use Rattle.dictionary.proofs.Insert.{numbered_old, numbered_new}
-use borrow.Author.Rules.{rules}
 use Rattle.dictionary.proofs.index.number_of.Goals as goal
 
 pub returns-then-place-count : goal.returns-then-place-count

@@ -30,38 +30,38 @@ overflow_add-next c = omega (arith, c.well_formed, (around_fits c.requires).out_
 pub overflow_add-next-2 : goal.overflow_add-next-2
 overflow_add-next-2 c = omega (arith, c.well_formed, (around_fits c.requires).out_label)
 
+pub copy_rows-end-requires : goal.copy_rows-end-requires
+copy_rows-end-requires c =
+    let f = around_fits c.requires in
+    record {
+      labels = record { read = omega (arith, c.at-taken.ensures, c.next.ensures, f.labelled, f.ends); written = omega (arith, c.at-taken.ensures, c.next.ensures, f.out_label) };
+      sizes = record { read = omega (arith, c.at-taken.ensures, c.next.ensures, f.sized, f.ends); written = omega (arith, c.at-taken.ensures, c.next.ensures, f.out_size) };
+    }
+
 pub copy-requires : goal.copy-requires
-copy-requires c = let f = around_fits c.requires in
-    record { read = omega (arith, c.at-taken.ensures, c.next.ensures, f.labelled, f.ends); written = omega (arith, c.at-taken.ensures, c.next.ensures, f.out_label) }
-
-pub copy-requires-2 : goal.copy-requires-2
-copy-requires-2 c = let f = around_fits c.requires in
-    record { read = omega (arith, c.at-taken.ensures, c.next.ensures, f.sized, f.ends); written = omega (arith, c.at-taken.ensures, c.next.ensures, f.out_size) }
-
-pub copy-requires-3 : goal.copy-requires-3
-copy-requires-3 c = let f = around_fits c.requires in
+copy-requires c =
+    let f = around_fits c.requires in
     let p = c.requires in
-    record { read = omega (arith, f.labelled, p.low, p.high); written = omega (arith, f.out_label, c.copy.auto.out) }
+    record { read = omega (arith, f.labelled, p.low, p.high); written = omega (arith, f.out_label) }
 
 pub copy_above-requires : goal.copy_above-requires
 copy_above-requires c = let f = around_fits c.requires in
     let p = c.requires in
     record {
       read = omega (arith, f.sized, p.low, p.high);
-      written = omega (arith, f.out_size, c.copy-2.auto.out);
+      written = omega (arith, f.out_size, c.copy_rows-end.auto.out_size);
       each = λ u i j. rw c.at-taken.ensures.0 (f.each u i j);
     }
 
-pub overflow_add-result : goal.overflow_add-result
-overflow_add-result c = omega (arith, c.well_formed, c.at-taken.ensures, c.next.ensures, (around_fits c.requires).out_label)
-
 pub returns : goal.returns
-returns c = let a = c.args in
+returns c =
+    let a = c.args in
     let taken = c.at-taken.ensures.0 in
     let end = c.next.ensures in
     let left : ℕ = a.hole - a.start in
+    let copied = c.copy_rows-end.ensures in
     around_is c.requires
-    (c.copy-3.ensures ∙ ap (λ (l : List ℕ). sets l a.to (along (number a.label.now) a.start left)) (rw (taken, end) at c.copy.ensures))
+    (c.copy.ensures ∙ ap (λ (l : List ℕ). sets l a.to (along (number a.label.now) a.start left)) (rw (taken, end) at copied.labels))
     ((rw taken at c.copy_above.ensures)
-    ∙ ap (λ (l : List ℕ). sets l a.to (along (resized a.size.now a.hole (get_or a.size.now a.hole 0) a.filled) a.start left)) (rw (taken, end) at c.copy-2.ensures))
-    (rw (taken, end))
+    ∙ ap (λ (l : List ℕ). sets l a.to (along (resized a.size.now a.hole (get_or a.size.now a.hole 0) a.filled) a.start left)) (rw (taken, end) at copied.sizes))
+    (rw (taken, end) at copied.end)

@@ -1,7 +1,6 @@
+use Rattle.std.proofs.Common.{arith}
 use Rattle.instance.proofs.Pieces.{sequence_fits, sequence_made}
 use Rattle.instance.proofs.Values.{its, sequence_pre}
-use native.Mathlib.Omega.{arith}
-use borrow.Author.Rules.{rules}
 use Rattle.instance.proofs.value.sequence.Goals as goal
 
 pub at-start-requires : goal.at-start-requires
@@ -14,24 +13,22 @@ pub past-requires : goal.past-requires
 past-requires c = rw (c.at-start.ensures.0, c.at-count.ensures.0) (sequence_pre c.requires.some.2 c.requires.some.3)
 
 pub overflow_sub-rows : goal.overflow_sub-rows
-overflow_sub-rows c = let q = rw (c.at-start.ensures.0, c.at-count.ensures.0) at c.past.ensures in
+overflow_sub-rows c =
+    let q = rw (c.at-start.ensures.0, c.at-count.ensures.0) at c.past.ensures in
     omega (arith, c.at-start.ensures, (sequence_fits c.requires q).0)
 
-pub copy-requires : goal.copy-requires
-copy-requires c = let q = rw (c.at-start.ensures.0, c.at-count.ensures.0) at c.past.ensures in
+pub copy_rows-requires : goal.copy_rows-requires
+copy_rows-requires c =
+    let q = rw (c.at-start.ensures.0, c.at-count.ensures.0) at c.past.ensures in
     let f = sequence_fits c.requires q in
-    record { read = omega (arith, c.at-start.ensures, f.0, f.1); written = omega (arith, c.at-start.ensures, f.3) }
-
-pub copy-requires-2 : goal.copy-requires-2
-copy-requires-2 c = let q = rw (c.at-start.ensures.0, c.at-count.ensures.0) at c.past.ensures in
-    let f = sequence_fits c.requires q in
-    record { read = omega (arith, c.at-start.ensures, f.0, f.2); written = omega (arith, c.at-start.ensures, f.4) }
-
-pub overflow_add-result : goal.overflow_add-result
-overflow_add-result c = let q = rw (c.at-start.ensures.0, c.at-count.ensures.0) at c.past.ensures in
-    omega (arith, c.well_formed, c.at-start.ensures, (sequence_fits c.requires q).3)
+    record {
+      labels = record { read = omega (arith, c.at-start.ensures, f.0, f.1); written = omega (arith, c.at-start.ensures, f.3) };
+      sizes = record { read = omega (arith, c.at-start.ensures, f.0, f.2); written = omega (arith, c.at-start.ensures, f.4) };
+    }
 
 pub returns : goal.returns
-returns c = let e = c.at-start.ensures.0 in
+returns c =
+    let e = c.at-start.ensures.0 in
     let q = rw (e, c.at-count.ensures.0) at c.past.ensures in
-    sequence_made q (rw e) (rw e at c.copy.ensures) (rw e at c.copy-2.ensures)
+    let copied = c.copy_rows.ensures in
+    sequence_made q (rw e at copied.end) (rw e at copied.labels) (rw e at copied.sizes)

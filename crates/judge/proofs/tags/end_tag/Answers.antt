@@ -3,7 +3,6 @@ use native.Mathlib.Omega.{arith}
 use Rattle.grammar.specs.Classes.{class_number}
 use Rattle.tokens.proofs.Spans.{name_yes, name_not}
 use Rattle.judge.proofs.Turns.{end_differs, end_closes, end_other}
-use borrow.Author.Rules.{rules}
 use Rattle.judge.proofs.tags.end_tag.Goals as goal
 
 pub same_end-end-requires : goal.same_end-end-requires

@@ -1,7 +1,6 @@
 use mathlib.Core.Path.{sym, ◌∙◌}
 use native.Mathlib.Omega.{arith}
 use Rattle.judge.specs.Tags.{second_root, root, inner_start, inner_end}
-use borrow.Author.Rules.{rules}
 use Rattle.judge.proofs.tags.stands.Goals as goal
 
 pub returns-then-rows-gt0 : goal.returns-then-rows-gt0

@@ -1,4 +1,3 @@
-use borrow.Author.Rules.{rules}
 use Rattle.labels.proofs.Labelling.{told_element, told_text}
 use Rattle.labels.proofs.fill.label_of.Goals as goal
 

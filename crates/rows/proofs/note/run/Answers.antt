@@ -1,6 +1,5 @@
 use mathlib.Core.Path.{sym, ◌∙◌}
 use Rattle.judge.proofs.Turns.{white_text, outer_run, inner_run, inner_space, white_only}
-use borrow.Author.Rules.{rules}
 use Rattle.rows.proofs.note.run.Goals as goal
 
 pub returns-then-byte_at-eq60 : goal.returns-then-byte_at-eq60
