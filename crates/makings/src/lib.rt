@@ -49,8 +49,8 @@ impl Lent {
 
 // How many rows it makes on the two lists, or the code of its refusal.
 fn make(
-    tree: Tree<'_>,
-    pattern: Pattern<'_>,
+    tree: &Tree<'_>,
+    pattern: &Pattern<'_>,
     record: &[u32],
     label: &mut [u32],
     size: &mut [u32],
@@ -70,7 +70,7 @@ fn make(
     }
 }
 
-fn is_tree(tree: Tree<'_>, made: &Lent, rows: usize) -> bool {
+fn is_tree(tree: &Tree<'_>, made: &Lent, rows: usize) -> bool {
     rows == tree.label.len()
         && rows == tree.size.len()
         && made.label.starts_with(tree.label)
@@ -87,8 +87,8 @@ fn print_kept(rt: &impl Print, made: &Lent, rows: usize) -> io::Result<()> {
 // The instance of a record that was listed.
 pub fn of_record(
     rt: &impl Print,
-    tree: Tree<'_>,
-    pattern: Pattern<'_>,
+    tree: &Tree<'_>,
+    pattern: &Pattern<'_>,
     record: &[u32],
 ) -> io::Result<()> {
     let mut made = Lent::new();
@@ -112,7 +112,7 @@ fn beginning(list: &[u32], many: usize) -> Bracketed<'_> {
 }
 
 // The instance of a record of the line.
-pub fn instance(rt: &(impl Print + AllocGlobal), tree: Tree<'_>, lists: &[u8]) -> io::Result<()> {
+pub fn instance(rt: &(impl Print + AllocGlobal), tree: &Tree<'_>, lists: &[u8]) -> io::Result<()> {
     let lists = read_lists(rt.alloc(), lists, NUMBERS)?;
     let Some([kind, name, size, record, labels, sizes]) = lists.as_deref() else {
         return unreadable(rt);
@@ -122,7 +122,7 @@ pub fn instance(rt: &(impl Print + AllocGlobal), tree: Tree<'_>, lists: &[u8]) -
     let sizes = room(sizes, &made.size);
     match make(
         tree,
-        Pattern { kind, name, size },
+        &Pattern { kind, name, size },
         record,
         &mut made.label[..labels],
         &mut made.size[..sizes],

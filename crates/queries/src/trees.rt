@@ -80,5 +80,5 @@ pub fn instance(rt: &(impl Print + AllocGlobal), lists: &[u8], tree: &[u8]) -> i
     let Some([label, size]) = tree.as_deref() else {
         return unreadable(rt);
     };
-    makings::instance(rt, Tree { label, size }, lists)
+    makings::instance(rt, &Tree { label, size }, lists)
 }
