@@ -1,19 +1,12 @@
-use native.Mathlib.Omega.{arith}
-use Rattle.document.proofs.Answers.{long_verdict, outside_verdict, accepted_verdict}
-use borrow.Author.Rules.{rules}
+use Rattle.judge.specs.Verdict.{long}
+use Rattle.document.proofs.Answers.{outside_verdict, noted_verdict}
 use Rattle.document.proofs.verdict.Goals as goal
 
 pub returns-then-document-gt-MOST_BYTES : goal.returns-then-document-gt-MOST_BYTES
-returns-then-document-gt-MOST_BYTES c = long_verdict c.if-document-gt-MOST_BYTES.true c.refusal.ensures
+returns-then-document-gt-MOST_BYTES c = long c.if-document-gt-MOST_BYTES.true
 
-pub outside-requires : goal.outside-requires
-outside-requires c = omega (arith, (rw c.in-Outside.is at c.note.ensures).within, c.if-document-gt-MOST_BYTES.false)
+pub returns-in-Ok : goal.returns-in-Ok
+returns-in-Ok c = noted_verdict c.if-document-gt-MOST_BYTES.false c.in-Ok.ensures
 
-pub accepted-requires : goal.accepted-requires
-accepted-requires c = (rw c.in-Rows.is at c.note.ensures).few
-
-pub returns-in-Outside : goal.returns-in-Outside
-returns-in-Outside c = outside_verdict c.if-document-gt-MOST_BYTES.false (rw c.in-Outside.is at c.note.ensures) c.outside.ensures
-
-pub returns-in-Rows : goal.returns-in-Rows
-returns-in-Rows c = accepted_verdict c.if-document-gt-MOST_BYTES.false (rw c.in-Rows.is at c.note.ensures) c.accepted.ensures
+pub returns-in-Err-Outside : goal.returns-in-Err-Outside
+returns-in-Err-Outside c = outside_verdict c.if-document-gt-MOST_BYTES.false (rw c.in-Err-Outside.field-0-is at c.in-Err-Outside.ensures) c.outside.ensures
