@@ -2,11 +2,13 @@
 #![tactic(auto)]
 
 ghost use Rattle.std.specs.Prelude.{◌≡◌, ◌<◌};
+ghost use Rattle.judge.specs.Answer as reader;
 ghost use Rattle.test.specs.Tested.{code_of, yes_of};
 ghost use Rattle.instance.specs.Instance.{code_given, rows_given};
 ghost use Rattle.answer.specs.Answers.{number};
 
 use instance::Made;
+use judge::refusal::Refusal;
 use lister::Listed;
 use test::Tested;
 
@@ -55,6 +57,23 @@ fn narrow(n: usize) -> u32
     ensures { result ≡ n }
 {
     n as u32
+}
+
+pub fn of_reader(answer: Result<u32, Refusal>) -> Reading
+    ensures { (result.code ≡ reader.code_of answer) × (result.place ≡ reader.place_of answer) × (result.rows ≡ reader.rows_of answer) }
+{
+    match answer {
+        Ok(rows) => Reading {
+            code: 0,
+            place: 0,
+            rows,
+        },
+        Err(refusal) => Reading {
+            code: u32::from(refusal),
+            place: refusal.place(),
+            rows: 0,
+        },
+    }
 }
 
 pub fn of_lister(answer: Listed) -> Listing
