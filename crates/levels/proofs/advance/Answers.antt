@@ -1,5 +1,4 @@
 use Rattle.levels.proofs.Columns.{moved}
-use borrow.Author.Rules.{rules}
 use Rattle.levels.proofs.advance.Goals as goal
 
 pub returns : goal.returns

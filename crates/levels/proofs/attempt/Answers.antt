@@ -1,4 +1,3 @@
-use borrow.Author.Tests.{not-true, not-false}
 use Rattle.levels.proofs.Tried.{try_judged, try_fails, try_asked, try_walked}
 use Rattle.levels.proofs.attempt.Goals as goal
 

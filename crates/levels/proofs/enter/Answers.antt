@@ -1,5 +1,4 @@
 use Rattle.levels.proofs.Columns.{inside, entered}
-use borrow.Author.Rules.{rules}
 use Rattle.levels.proofs.enter.Goals as goal
 
 pub advance-requires : goal.advance-requires

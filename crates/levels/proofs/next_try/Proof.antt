@@ -5,13 +5,6 @@ use borrow.Author.Rules.{rules}
 use Rattle.levels.proofs.Steps.{skip_pre, small, further_pre}
 use Rattle.levels.proofs.next_try.Statement.{statement}
 use Rattle.levels.proofs.next_try.Tie as tie
-use Rattle.levels.proofs.next_try.Reads as reads
-use Rattle.levels.proofs.next_try.Lts as lts
-use Rattle.choice.proofs.further.Reads as further-reads
-use Rattle.choice.proofs.skip.Reads as skip-reads
-use Rattle.levels.proofs.advance.Reads as advance-reads
-use Rattle.levels.proofs.spare.Reads as spare-reads
-use Rattle.levels.proofs.standing.Reads as standing-reads
 
 -- the numbers of the value that is tried
 numbers : (c : tie.After-skip-run) → let l = c.standing-l.result in (c.skip-run.result.count < l.left) × (l.next + l.left ≤ 2049)

@@ -1,5 +1,4 @@
 use Rattle.levels.proofs.Columns.{level_number, first_number}
-use borrow.Author.Rules.{rules}
 use Rattle.levels.proofs.standing.Goals as goal
 
 pub returns : goal.returns

@@ -1,9 +1,4 @@
-use borrow.Author.Rules.{rules}
-use native.Mathlib.Omega.{arith}
 use Rattle.paths.proofs.put.Goals as goal
-
-pub overflow_mul-path : goal.overflow_mul-path
-overflow_mul-path c = omega (arith, c.requires.0)
 
 pub returns : goal.returns
 returns c = rw c.number.ensures

@@ -1,4 +1,3 @@
-use borrow.Author.Rules.{rules}
 use borrow.Author.Tests.{not-true, not-false}
 use Rattle.record.proofs.Whole.{no_tree, no_pattern, record_pre, record_judged}
 use Rattle.record.proofs.good.Goals as goal
