@@ -271,7 +271,7 @@ pub extern "C" fn khargovsun_spelling(
 {
     let part = dictionary::spelling::part_of(dictionary, document, label, start, length, row);
     Part {
-        source: part.source,
+        source: u32::from(part.source),
         start: part.start,
         length: part.length,
     }
