@@ -13,12 +13,7 @@ use problem::Problem;
 use tree::Tree;
 
 // The walk with the choices of the list: a variable that is asked for takes the second number that the list has for it.
-fn follow(
-    tree: &Tree,
-    pattern: &[u32; 1536],
-    list: &[u32],
-    found: &mut [u32; 32],
-) -> bool
+fn follow(tree: &Tree, pattern: &[u32; 1536], list: &[u32], found: &mut [u32; 32]) -> bool
     requires { FollowPre tree.now.label.now tree.now.size.now pattern.now list.now found.old }
     ensures { FollowPost tree.now.label.now tree.now.size.now pattern.now list.now result found.new }
 {
@@ -52,7 +47,6 @@ fn placed(problem: &Problem, record: &[u32]) -> bool
     requires { WalkablePre (lists problem.now) «record».now }
     ensures { PlacedPost (lists problem.now) «record».now result }
 {
-    let tree = problem.tree;
     let pattern = problem.pattern;
     let mut packed = [0u32; 1536];
     walk::pack(
@@ -63,7 +57,7 @@ fn placed(problem: &Problem, record: &[u32]) -> bool
         &mut packed,
     );
     let mut found = [0u32; 32];
-    follow(tree.label, tree.size, &packed, record, &mut found) && record::equal(&found, record)
+    follow(&problem.tree, &packed, record, &mut found) && record::equal(&found, record)
 }
 
 // Whether every variable's numbers obey its constraint, with the tables of the expressions.
