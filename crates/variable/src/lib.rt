@@ -37,13 +37,9 @@ pub fn individual(tree: &Tree, record: &mut [u32], x: usize, t: usize, n: usize)
         return Some(n + 1);
     }
     let a = tree::at(record, x + x);
-    if compare::alike(
-        tree,
-        a,
-        tree::next(tree.size, a),
-        t,
-        tree::next(tree.size, t),
-    ) {
+    let behind = tree::next(tree.size, a);
+    let after = tree::next(tree.size, t);
+    if compare::alike(tree, a, behind, t, after) {
         Some(n)
     } else {
         None
