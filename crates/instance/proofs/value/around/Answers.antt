@@ -6,11 +6,7 @@ use lib.Seq.{sets}
 use lib.ListN.{get_or}
 use mathlib.Core.List.{List}
 use mathlib.Core.Path.{ap, ◌∙◌}
-use borrow.Author.Rules.{rules}
 use Rattle.instance.proofs.value.around.Goals as goal
-
-pub overflow_sub-left : goal.overflow_sub-left
-overflow_sub-left c = c.requires.low
 
 pub at-taken-requires : goal.at-taken-requires
 at-taken-requires c = omega (arith, c.requires.high, (around_fits c.requires).sized)
