@@ -6,7 +6,6 @@ use mathlib.Core.Bool.{Bool}
 use mathlib.Core.List.{List, [], ◌∷◌, ◌++◌, append_assoc, append-nil}
 use lib.ListN.{length, get_or}
 use native.Mathlib.Omega.{arith}
-use native.Mathlib.Decide.{dec_le}
 use Rattle.meaning.specs.Forest.{Forest, Context, node}
 use Rattle.tree.specs.Places.{Next, ContextAt, at_hole, at_node}
 use Rattle.tree.specs.Helpers.{ChildPre, HolderPre, HolderPost}

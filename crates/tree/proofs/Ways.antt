@@ -10,7 +10,7 @@ use Rattle.meaning.specs.Forest.{Forest, rows, Context, hole, node}
 use Rattle.meaning.specs.Read.{forest_from_row}
 use Rattle.meaning.proofs.From.{from_zero}
 use Rattle.tree.specs.Places.{TermsAt, Next, Level, ContextAt, at_hole, at_node}
-use Rattle.tree.specs.Helpers.{Child, Ahead, HolderPre, HolderPost, ChildPre, ChildPost, ListPre, ListPost}
+use Rattle.tree.specs.Helpers.{Child, Ahead, ChildPre, ChildPost, ListPre, ListPost}
 use Rattle.tree.proofs.Terms.{terms_le, term_next, term_size, first_at}
 use Rattle.tree.proofs.Cuts.{from_inside, from_behind}
 

@@ -1,5 +1,4 @@
 use Rattle.constraint.proofs.Readings.{from_first}
-use borrow.Author.Rules.{rules}
 use Rattle.constraint.proofs.after_heads.Goals as goal
 
 pub returns : goal.returns

@@ -1,4 +1,4 @@
-use Rattle.std.proofs.Common.{◌≤◌, ◌-◌, ◌+◌, length}
+use Rattle.std.proofs.Common.{◌≤◌, ◌-◌, length}
 use Rattle.constraint.proofs.Names.{NamesMarked, NamedTo}
 use Rattle.constraint.proofs.all_named.Given as goal
 

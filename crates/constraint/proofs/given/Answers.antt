@@ -1,4 +1,4 @@
-use Rattle.std.proofs.Common.{refl, arith}
+use Rattle.std.proofs.Common.{refl}
 use Rattle.meaning.proofs.Answers.{says_no}
 use Rattle.constraint.proofs.Passed.{passed_one, passed_not, passed_all, other_length}
 use Rattle.constraint.proofs.given.Goals as goal

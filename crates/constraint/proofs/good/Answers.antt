@@ -1,6 +1,5 @@
 use Rattle.meaning.proofs.Answers.{says_no}
 use Rattle.constraint.proofs.Meant.{pattern_bad, table_bad, list_asked, list_judged}
-use borrow.Author.Rules.{rules}
 use Rattle.constraint.proofs.good.Goals as goal
 
 pub returns-then-not-checked : goal.returns-then-not-checked

@@ -1,6 +1,5 @@
 use native.Mathlib.Omega.{arith}
 use mathlib.Core.Path.{refl}
-use borrow.Author.Rules.{rules}
 use Rattle.constraint.proofs.Obeyed.{obeys_free, obeys_forbidden, obeys_read, heads_after, path_after, heads_asked, path_asked}
 use Rattle.constraint.proofs.Readings.{all_heads}
 use Rattle.constraint.proofs.obeys.Goals as goal

@@ -1,5 +1,4 @@
 use native.Mathlib.Omega.{arith}
-use borrow.Author.Rules.{rules}
 use Rattle.meaning.proofs.Answers.{says_no}
 use Rattle.constraint.proofs.Pairs.{without_expression, flag_above, kind_without, with_expression, may_not, may}
 use Rattle.constraint.proofs.paired.Goals as goal

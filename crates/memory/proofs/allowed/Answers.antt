@@ -1,6 +1,5 @@
 use Rattle.memory.proofs.Growing.{grow_free, grow_forbidden, grow_read, grow_path, grow_asked, path_asks}
 use mathlib.Core.Path.{sym, ◌∙◌}
-use borrow.Author.Rules.{rules}
 use Rattle.memory.proofs.allowed.Goals as goal
 
 pub chosen-choice-requires : goal.chosen-choice-requires

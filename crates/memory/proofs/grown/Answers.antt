@@ -1,5 +1,4 @@
 use Rattle.memory.proofs.Growing.{more_there, grown_read}
-use borrow.Author.Rules.{rules}
 use Rattle.memory.proofs.grown.Goals as goal
 
 pub read_on-mark-requires : goal.read_on-mark-requires

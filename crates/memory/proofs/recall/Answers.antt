@@ -1,6 +1,5 @@
 use native.Mathlib.Omega.{arith}
 use Rattle.memory.proofs.Growing.{recalled, begun}
-use borrow.Author.Rules.{rules}
 use Rattle.memory.proofs.recall.Goals as goal
 
 pub returns-then-count-b : goal.returns-then-count-b

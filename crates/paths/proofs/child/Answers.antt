@@ -1,4 +1,4 @@
-use Rattle.paths.proofs.Steps.{Looking, looks_on, looks_first, looks_pre, child_found}
+use Rattle.paths.proofs.Steps.{looks_on, looks_first, looks_pre, child_found}
 use Rattle.paths.proofs.child.Goals as goal
 use Rattle.paths.proofs.child.Goals.{then-b-from, else-b-from}
 

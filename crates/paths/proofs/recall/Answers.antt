@@ -1,4 +1,3 @@
-use borrow.Author.Rules.{rules}
 use Rattle.paths.proofs.Read.{recall_rows, recall_again, recall_new}
 use Rattle.paths.proofs.recall.Goals as goal
 

@@ -1,4 +1,3 @@
-use borrow.Author.Rules.{rules}
 use native.Mathlib.Omega.{arith}
 use Rattle.record.proofs.Judged.{context_out, context_above, context_in}
 use Rattle.record.proofs.context_fits.Goals as goal

@@ -1,4 +1,4 @@
-use Rattle.std.proofs.Common.{refl, arith}
+use Rattle.std.proofs.Common.{refl}
 use Rattle.record.proofs.Each.{read_pair, wrong_length, passed_none, passed_bad, passed_more, passed_all}
 use Rattle.record.proofs.fits.Goals as goal
 

@@ -1,6 +1,5 @@
-use Prim.Native.Nat.{◌-◌}
 use native.Mathlib.Omega.{arith}
-use Rattle.tree.proofs.Counts.{Counted, counted_none, counted_next, counted_more, counted_all}
+use Rattle.tree.proofs.Counts.{counted_none, counted_next, counted_more, counted_all}
 use Rattle.tree.proofs.count.Goals as goal
 
 pub loop-u-init : goal.loop-u-init

@@ -1,6 +1,5 @@
 use Prim.Native.Nat.{◌-◌}
-use native.Mathlib.Omega.{arith}
-use Rattle.tree.proofs.Counts.{Counted, counted_none, counted_next, counted_more, counted_all}
+use Rattle.tree.proofs.Counts.{Counted}
 use Rattle.tree.proofs.count.Given as goal
 
 abbrev pub invariant-loop-u : goal.invariant-loop-u

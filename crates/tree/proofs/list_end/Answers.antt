@@ -1,7 +1,5 @@
-use Prim.Native.Nat.{◌-◌}
-use lib.ListN.{length}
 use native.Mathlib.Omega.{arith}
-use Rattle.tree.proofs.Ways.{Down, down_first, down_next, down_found, down_inside, down_behind}
+use Rattle.tree.proofs.Ways.{down_first, down_next, down_found, down_inside, down_behind}
 use Rattle.tree.proofs.list_end.Goals as goal
 
 pub loop-u-init : goal.loop-u-init

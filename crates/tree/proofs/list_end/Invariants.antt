@@ -1,7 +1,6 @@
 use Prim.Native.Nat.{◌-◌}
 use lib.ListN.{length}
-use native.Mathlib.Omega.{arith}
-use Rattle.tree.proofs.Ways.{Down, down_first, down_next, down_found, down_inside, down_behind}
+use Rattle.tree.proofs.Ways.{Down}
 use Rattle.tree.proofs.list_end.Given as goal
 
 abbrev pub invariant-loop-u : goal.invariant-loop-u

@@ -1,6 +1,5 @@
 use Rattle.instance.proofs.Rows.{adds_symbol, adds_function_row, reads_variable, individual_row, adds_individual_row, past_row, sequence_row, adds_sequence_row, context_row, adds_context_row}
 use native.Mathlib.Omega.{arith}
-use borrow.Author.Rules.{rules}
 use Rattle.instance.proofs.counting.row_adds.Goals as goal
 
 pub returns-then-k-eq-SYMBOL : goal.returns-then-k-eq-SYMBOL

@@ -1,8 +1,4 @@
-use Rattle.instance.proofs.Sums.{Summed, summed_none, row_pre, summed_more, summed_all}
-use lib.ListN.{length}
-use native.Mathlib.Omega.{arith}
-use Prim.Native.Nat.{◌-◌}
-use borrow.Author.Rules.{rules}
+use Rattle.instance.proofs.Sums.{summed_none, row_pre, summed_more, summed_all}
 use Rattle.instance.proofs.counting.rows_of.Goals as goal
 
 pub loop-row-init : goal.loop-row-init
@@ -10,9 +6,6 @@ loop-row-init c = summed_none
 
 pub row_adds-rows-requires : goal.row_adds-rows-requires
 row_adds-rows-requires c = row_pre c.requires c.loop-row-test.true
-
-pub overflow_add-rows : goal.overflow_add-rows
-overflow_add-rows c = omega (arith, c.loop-row.invariant, c.row_adds-rows.ensures.few, c.requires.few)
 
 pub loop-row-preserved : goal.loop-row-preserved
 loop-row-preserved c = summed_more c.loop-row.invariant c.loop-row-test.true c.row_adds-rows.ensures

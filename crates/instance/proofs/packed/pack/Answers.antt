@@ -1,5 +1,4 @@
 use Rattle.instance.proofs.Packs.{packed_is}
-use borrow.Author.Rules.{rules}
 use Rattle.instance.proofs.packed.pack.Goals as goal
 
 pub returns : goal.returns

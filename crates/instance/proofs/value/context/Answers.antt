@@ -1,6 +1,5 @@
 use Rattle.instance.proofs.Pieces.{context_reads, context_fits, context_made}
 use native.Mathlib.Omega.{arith}
-use borrow.Author.Rules.{rules}
 use Rattle.instance.proofs.value.context.Goals as goal
 
 pub at-start-requires : goal.at-start-requires

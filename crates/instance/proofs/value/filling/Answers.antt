@@ -1,6 +1,5 @@
 use Rattle.instance.proofs.Pieces.{filling_fits, filling_is}
 use native.Mathlib.Omega.{arith}
-use borrow.Author.Rules.{rules}
 use Rattle.instance.proofs.value.filling.Goals as goal
 
 pub at-start-requires : goal.at-start-requires

@@ -2,7 +2,6 @@ use Rattle.instance.proofs.Pieces.{symbol_made, function_fits, function_made}
 use native.Mathlib.Omega.{arith}
 use mathlib.Core.Path.{refl, ap, ◌∙◌, sym}
 use lib.ListN.{set}
-use borrow.Author.Rules.{rules}
 use Rattle.instance.proofs.value.head.Goals as goal
 
 pub returns-then-kind-eq-SYMBOL : goal.returns-then-kind-eq-SYMBOL

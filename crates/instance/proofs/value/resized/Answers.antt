@@ -1,6 +1,5 @@
 use mathlib.Core.Path.{sym}
 use native.Mathlib.Omega.{arith}
-use borrow.Author.Rules.{rules}
 use Rattle.instance.proofs.Above.{resized_above, resized_beside}
 use Rattle.instance.proofs.value.resized.Goals as goal
 
