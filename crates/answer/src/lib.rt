@@ -2,6 +2,7 @@
 #![tactic(auto)]
 
 ghost use Rattle.std.specs.Prelude.{◌≡◌, ◌<◌};
+ghost use Rattle.judge.specs.Answer as reader;
 ghost use Rattle.test.specs.Tested.{code_of, yes_of};
 ghost use Rattle.instance.specs.Instance.{code_given, rows_given};
 ghost use Rattle.lister.specs.Listed.{told};
@@ -48,6 +49,23 @@ pub struct Part {
     pub source: u32,
     pub start: u32,
     pub length: u32,
+}
+
+pub fn of_reader(answer: Result<u32, judge::refusal::Refusal>) -> Reading
+    ensures { (result.code ≡ reader.code_of answer) × (result.place ≡ reader.place_of answer) × (result.rows ≡ reader.rows_of answer) }
+{
+    match answer {
+        Ok(rows) => Reading {
+            code: 0,
+            place: 0,
+            rows,
+        },
+        Err(refusal) => Reading {
+            code: u32::from(refusal),
+            place: refusal.place(),
+            rows: 0,
+        },
+    }
 }
 
 pub fn of_lister(answer: Result<Found, Refusal>) -> Listing

@@ -33,7 +33,8 @@ pub fn shut(document: &[u8], class: &[u8; 512], end: usize) -> Result<Tag, usize
     Err(shut)
 }
 
-// The tag whose `<` stands before `at`.
+// The tag whose `<` stands before `at`. The rows read tags likewise, but several bytes at a time and with a name's length known: what is the
+// same in both is shared (`stands`, `shut`).
 fn start_tag(document: &[u8], class: &[u8; 512], at: usize) -> Result<Tag, usize>
     requires { Classed class.now × (at ≤ length document.now) }
     ensures { Started document.now at result }

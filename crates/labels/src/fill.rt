@@ -6,7 +6,7 @@ ghost use Rattle.grammar.specs.Told.{Tells};
 ghost use Rattle.labels.specs.Lists.{Long, Copied};
 ghost use Rattle.labels.specs.Labelling.{MayLabelRows, LabelsRows};
 
-// The first numbers of a list of our own into a lent one.
+// The first numbers of a list of our own into a lent one, which are wider: so no `copy_from_slice`.
 fn copy(from: &[u16; 2052], to: &mut [u32], count: usize)
     requires { (length from.now ≡ 2052) × (count ≤ 2052) × (count ≤ length to.old) }
     ensures { to.new ≡ take count from.now ++ drop count to.old }

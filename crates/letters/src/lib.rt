@@ -18,6 +18,7 @@ pub struct State {
     pub end: bool,
 }
 
+// The set x where a flag is on: a word for what both parts below say.
 fn gated(on: bool, x: u64) -> u64
     ensures { result ≡ gate on x }
 {
@@ -210,6 +211,7 @@ pub fn step(next: u64, tables: &[u64; 320], label: u32) -> State
     let mut left = next;
     let mut set: u64 = 0;
     let mut end = false;
+    // One turn for each bit that is set.
     while left != 0 {
         let p = u64::trailing_zeros(left) as usize;
         let at = 5 * p;

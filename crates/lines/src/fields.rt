@@ -1,5 +1,5 @@
 // A text's fields: the parts between the places of a separator. A text with no separator is one field.
-ghost use Rattle.std.specs.Prelude.{◌≡◌, ◌∷◌, ◌++◌, IfSome};
+ghost use Rattle.std.specs.Prelude.{◌≡◌, ◌≢◌, ◌∷◌, ◌++◌, EachIndex, IfNone, IfSome, slice_index};
 
 pub fn count(text: &[u8], separator: u8) -> usize {
     text.split(|byte| *byte == separator).count()
@@ -14,7 +14,9 @@ pub fn field(text: &[u8], separator: u8, number: usize) -> &[u8] {
 
 // What stands before the first separator, and what stands behind it.
 pub fn cut(text: &[u8], separator: u8) -> Option<(&[u8], &[u8])>
-    ensures { IfSome result (λ parts. text.now ≡ parts.0.now ++ separator ∷ parts.1.now) }
+    ensures whole { IfSome result (λ parts. text.now ≡ parts.0.now ++ separator ∷ parts.1.now) }
+    ensures first { IfSome result (λ parts. EachIndex parts.0.now (λ k. slice_index parts.0.now k ≢ separator)) }
+    ensures none { IfNone result (EachIndex text.now (λ k. slice_index text.now k ≢ separator)) }
 {
     let place = text.iter().position(|byte| *byte == separator)?;
     Some((&text[..place], &text[place + 1..]))

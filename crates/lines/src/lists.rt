@@ -90,3 +90,29 @@ pub fn read_lists(
     }
     Ok(Some(lists))
 }
+
+#[cfg(test)]
+mod tests {
+    use super::*;
+    use std::test::Fail;
+
+    // The room is for all lists together, and for just so many numbers.
+    #[test]
+    fn reads_lists(rt: HostRuntime) -> Result<(), Fail> {
+        let text = b"1 2*3 / / 7..5";
+        let lists = read_lists(rt.alloc(), text, 7)?;
+        let Some([first, second, third]) = lists.as_deref() else {
+            return Err(Fail::new("three lists in the room of their numbers"));
+        };
+        if first.as_slice() != [1, 2, 2, 2].as_slice()
+            || !second.is_empty()
+            || third.as_slice() != [7, 6, 5].as_slice()
+        {
+            return Err(Fail::new("the numbers of the three lists"));
+        }
+        if read_lists(rt.alloc(), text, 6)?.is_some() {
+            return Err(Fail::new("less room than the lists have numbers"));
+        }
+        Ok(())
+    }
+}

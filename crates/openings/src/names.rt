@@ -68,7 +68,7 @@ impl OpenNames {
 
     // Where the innermost open element's name starts, if one is open.
     pub fn innermost(&self) -> usize
-        requires { Keeping self.now.names self.now.levels self.now.kept }
+        requires { (length self.now.names ≡ 64) × (self.now.kept ≤ 64) }
         ensures { (result < 65536) × (0 < self.now.kept → result ≡ get_or self.now.names (self.now.kept - 1) 0) }
     {
         if self.kept == 0 {

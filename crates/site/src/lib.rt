@@ -33,11 +33,7 @@ pub extern "C" fn khargovsun_read(
     ensures { Read dictionary.now document.now label.old size.old start.old length.old label.new size.new start.new length.new result.code result.place result.rows }
 {
     let read = document::read(dictionary, document, label, size, start, length);
-    Reading {
-        code: read.code,
-        place: read.place,
-        rows: read.rows,
-    }
+    answer::of_reader(read)
 }
 
 #[unsafe(no_mangle)]
@@ -271,7 +267,7 @@ pub extern "C" fn khargovsun_spelling(
 {
     let part = dictionary::spelling::part_of(dictionary, document, label, start, length, row);
     Part {
-        source: part.source,
+        source: u32::from(part.source),
         start: part.start,
         length: part.length,
     }

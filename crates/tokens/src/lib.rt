@@ -112,7 +112,8 @@ pub fn name_end(document: &[u8], class: &[u8; 512], from: usize) -> usize
     document.len()
 }
 
-// The same, four bytes a turn, each with a branch of its own: where names come back, the processor guesses where they end.
+// The same, four bytes a turn, each with a branch of its own: where names come back, the processor guesses where they end. It walks by
+// four, and the bytes that are left are the other function's.
 pub fn long_name_end(document: &[u8], class: &[u8; 512], from: usize) -> usize
     requires { Classed class.now × (from ≤ length document.now) }
     ensures { Span (name_at document.now) document.now from result }
@@ -188,7 +189,8 @@ fn plain_count(document: &[u8], class: &[u8; 512], i: usize) -> usize
     u32::trailing_zeros(found) as usize
 }
 
-// Plain text, eight bytes at a time; what is longer than 64 bytes is likely to be much longer.
+// Plain text, eight bytes at a time; what is longer than 64 bytes is likely to be much longer. It walks by eight, up to the last eight or to
+// the byte that stops.
 fn plain_end(document: &[u8], class: &[u8; 512], from: usize) -> usize
     requires { Classed class.now × (from ≤ length document.now) }
     ensures { Passed (plain_at document.now) document.now from result }

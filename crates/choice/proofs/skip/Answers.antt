@@ -9,9 +9,6 @@ kind-requires c = (skip_room c.requires).1
 pub terms-requires : goal.terms-requires
 terms-requires c = (c.requires, sym c.kind.ensures ∙ c.if-kind-eq-SEQUENCE.true)
 
-pub returns-then-kind-eq-SEQUENCE : goal.returns-then-kind-eq-SEQUENCE
-returns-then-kind-eq-SEQUENCE c = c.terms.ensures
-
 pub overflow_add-p : goal.overflow_add-p
 overflow_add-p c = omega (arith, skip_room c.requires)
 

@@ -2,12 +2,6 @@ use native.Mathlib.Omega.{arith}
 use Rattle.choice.proofs.Runs.{whole_end, whole_pre, whole_past}
 use Rattle.choice.proofs.whole.Goals as goal
 
-pub overflow_add-limit : goal.overflow_add-limit
-overflow_add-limit c = omega (arith, c.requires.fewer, c.ranges.left)
-
-pub row-requires : goal.row-requires
-row-requires c = c.requires.inside
-
 pub next-row-requires : goal.next-row-requires
 next-row-requires c = rw c.row.ensures c.requires.row
 

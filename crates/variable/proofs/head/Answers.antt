@@ -2,9 +2,6 @@ use native.Mathlib.Omega.{arith}
 use Rattle.variable.proofs.Singles.{symbol_same, symbol_differs, function_room, function_first, function_next, function_same, function_differs}
 use Rattle.variable.proofs.head.Goals as goal
 
-pub at-requires : goal.at-requires
-at-requires c = c.requires.row
-
 pub returns-then-x-at : goal.returns-then-x-at
 returns-then-x-at c = symbol_same c.if-kind-eq-SYMBOL.true c.at.ensures.0 c.if-x-at.true
 
@@ -17,9 +14,6 @@ put-requires c = omega (arith, function_room c.if-kind-eq-SYMBOL.false c.require
 pub overflow_add-result : goal.overflow_add-result
 overflow_add-result c = omega (arith, function_room c.if-kind-eq-SYMBOL.false c.requires, c.if-x-n.true, c.well_formed)
 
-pub shape_of-record-then-x-n : goal.shape_of-record-then-x-n
-shape_of-record-then-x-n c = c.put.auto.«record»
-
 pub returns-then-x-n : goal.returns-then-x-n
 returns-then-x-n c = function_first c.if-kind-eq-SYMBOL.false c.requires.row c.if-x-n.true c.put.ensures
 
@@ -31,9 +25,6 @@ at-requires-2 c = omega (arith, function_room c.if-kind-eq-SYMBOL.false c.requir
 
 pub at-requires-3 : goal.at-requires-3
 at-requires-3 c = function_next c.if-kind-eq-SYMBOL.false c.if-x-n.false c.at-2.ensures.0 c.requires
-
-pub at-requires-4 : goal.at-requires-4
-at-requires-4 c = c.requires.row
 
 pub returns-then-at : goal.returns-then-at
 returns-then-at c = function_same c.if-kind-eq-SYMBOL.false c.if-x-n.false c.at-2.ensures.0 c.at-3.ensures.0 c.at-4.ensures.0 c.if-at.true

@@ -10,9 +10,6 @@ put-requires c = omega (arith, individual_room c.requires, c.if-x-n.true)
 pub overflow_add-result : goal.overflow_add-result
 overflow_add-result c = omega (arith, individual_room c.requires, c.if-x-n.true, c.well_formed)
 
-pub shape_of-record-then-x-n : goal.shape_of-record-then-x-n
-shape_of-record-then-x-n c = c.put.auto.«record»
-
 pub returns-then-x-n : goal.returns-then-x-n
 returns-then-x-n c = individual_first c.if-x-n.true c.put.ensures
 
