@@ -7,6 +7,7 @@ ghost use Rattle.choice.specs.Stops.{AtStop, LeastPost, ValuesPost, LandingPre, 
 ghost use Rattle.choice.specs.Runs.{HolesPost, NeighboursPre, NeighboursPost, WholePre, WholePost, LevelPre, SkipPost};
 
 use meaning::kinds::{SEQUENCE, SYMBOL};
+use tree::Tree;
 
 // Values that fail: how many, and the row at which the walk goes on with the next.
 #[derive(Drop)]
@@ -122,16 +123,16 @@ fn holes(label: &[u32], symbol: usize, row: usize, limit: usize) -> usize
 }
 
 // The neighbours from a row on that have another label.
-fn neighbours(label: &[u32], size: &[u32], symbol: usize, row: usize, limit: usize) -> Run
-    requires { NeighboursPre label.now size.now row limit }
-    ensures { NeighboursPost label.now size.now symbol row limit result.count result.row }
+fn neighbours(tree: &Tree, symbol: usize, row: usize, limit: usize) -> Run
+    requires { NeighboursPre tree.now.label.now tree.now.size.now row limit }
+    ensures { NeighboursPost tree.now.label.now tree.now.size.now symbol row limit result.count result.row }
 {
     let mut u = row;
     for count in 0..limit {
-        if tree::at(label, u) == symbol {
+        if tree::at(tree.label, u) == symbol {
             return Run { count, row: u };
         }
-        u = tree::next(size, u);
+        u = tree::next(tree.size, u);
     }
     Run {
         count: limit,
@@ -154,8 +155,7 @@ fn whole(size: &[u32], at: &[usize; 256], h: usize, u: usize, left: usize, limit
 
 // The values of a sequence variable that fail at once: those before a term with another label than the symbol behind it.
 fn terms(
-    label: &[u32],
-    size: &[u32],
+    tree: &Tree,
     pattern: &[u32; 1536],
     at: &[usize; 256],
     p: usize,
@@ -163,16 +163,16 @@ fn terms(
     left: usize,
     limit: usize,
 ) -> Run
-    requires { LevelPre label.now size.now pattern.now at.now p u left limit × (get_or pattern.now (6 * p) 0 ≡ 2) }
-    ensures { SkipPost label.now size.now pattern.now at.now p u left limit result.count result.row }
+    requires { LevelPre tree.now.label.now tree.now.size.now pattern.now at.now p u left limit × (get_or pattern.now (6 * p) 0 ≡ 2) }
+    ensures { SkipPost tree.now.label.now tree.now.size.now pattern.now at.now p u left limit result.count result.row }
 {
     let h = walk::holder(pattern, p);
     if p + 1 == walk::next(pattern, h) {
-        return whole(size, at, h, u, left, limit);
+        return whole(tree.size, at, h, u, left, limit);
     }
     if walk::kind(pattern, p + 1) == SYMBOL {
         let symbol = walk::name(pattern, p + 1);
-        return neighbours(label, size, symbol, u, limit);
+        return neighbours(tree, symbol, u, limit);
     }
     Run { count: 0, row: u }
 }
@@ -180,8 +180,7 @@ fn terms(
 // The next values of the variable at the pattern row p that fail at once, at most limit of the left ones; the walk goes on at the row
 // u with the first of these.
 pub fn skip(
-    label: &[u32],
-    size: &[u32],
+    tree: &Tree,
     pattern: &[u32; 1536],
     at: &[usize; 256],
     p: usize,
@@ -189,15 +188,15 @@ pub fn skip(
     left: usize,
     limit: usize,
 ) -> Run
-    requires { LevelPre label.now size.now pattern.now at.now p u left limit }
-    ensures { SkipPost label.now size.now pattern.now at.now p u left limit result.count result.row }
+    requires { LevelPre tree.now.label.now tree.now.size.now pattern.now at.now p u left limit }
+    ensures { SkipPost tree.now.label.now tree.now.size.now pattern.now at.now p u left limit result.count result.row }
 {
     if walk::kind(pattern, p) == SEQUENCE {
-        return terms(label, size, pattern, at, p, u, left, limit);
+        return terms(tree, pattern, at, p, u, left, limit);
     }
     if walk::kind(pattern, p + 1) == SYMBOL {
         let symbol = walk::name(pattern, p + 1);
-        let count = holes(label, symbol, u, limit);
+        let count = holes(tree.label, symbol, u, limit);
         let row = u + count;
         return Run { count, row };
     }

@@ -19,6 +19,7 @@ use expression::Table;
 use letters::State;
 use meaning::kinds::{FUNCTION, INDIVIDUAL, SEQUENCE};
 use pattern::Pattern;
+use tree::Tree;
 
 // Whether a variable of this kind may have these two numbers.
 fn paired(kind: u32, size: &[u32], first: u32, flag: u32) -> bool
@@ -101,56 +102,42 @@ pub struct Mark {
 
 // The reading goes on by so many heads. What has been read before is not read again: a choice that grows by one term reads one
 // more letter.
-pub fn read_on(label: &[u32], size: &[u32], tables: &[u64; 320], from: Mark, more: usize) -> Mark
-    requires { MorePre label.now size.now from.row more }
-    ensures { ReadOn label.now size.now tables.now from.row from.state.next from.state.end more result.row result.state.next result.state.end }
+pub fn read_on(tree: &Tree, tables: &[u64; 320], from: Mark, more: usize) -> Mark
+    requires { MorePre tree.now.label.now tree.now.size.now from.row more }
+    ensures { ReadOn tree.now.label.now tree.now.size.now tables.now from.row from.state.next from.state.end more result.row result.state.next result.state.end }
 {
     let mut row = from.row;
     let mut state = from.state;
     for _ in 0..more {
-        state = letters::step(state.next, tables, label[row]);
-        row = tree::next(size, row);
+        state = letters::step(state.next, tables, tree.label[row]);
+        row = tree::next(tree.size, row);
     }
     Mark { row, state }
 }
 
 // The reading of the heads of so many neighbours from the row a on, for the expression that starts at the row root.
-pub fn after_heads(
-    label: &[u32],
-    size: &[u32],
-    tables: &[u64; 320],
-    root: usize,
-    a: usize,
-    count: usize,
-) -> Mark
-    requires { HeadsPre label.now size.now root a count }
-    ensures { ReadTo label.now size.now tables.now root a count result.row result.state.next result.state.end }
+pub fn after_heads(tree: &Tree, tables: &[u64; 320], root: usize, a: usize, count: usize) -> Mark
+    requires { HeadsPre tree.now.label.now tree.now.size.now root a count }
+    ensures { ReadTo tree.now.label.now tree.now.size.now tables.now root a count result.row result.state.next result.state.end }
 {
     let begun = Mark {
         row: a,
         state: letters::begin(tables, root),
     };
-    read_on(label, size, tables, begun, count)
+    read_on(tree, tables, begun, count)
 }
 
 // The state after the labels on the path from the row a down to the row b, that of b left out.
-pub fn after_path(
-    label: &[u32],
-    size: &[u32],
-    tables: &[u64; 320],
-    root: usize,
-    a: usize,
-    b: usize,
-) -> State
-    requires { PathPre label.now size.now root a b }
-    ensures { (c : Context) → ContextAt label.now size.now a b c
+pub fn after_path(tree: &Tree, tables: &[u64; 320], root: usize, a: usize, b: usize) -> State
+    requires { PathPre tree.now.label.now tree.now.size.now root a b }
+    ensures { (c : Context) → ContextAt tree.now.label.now tree.now.size.now a b c
         → After tables.now root (path c) result.next result.end }
 {
     let mut state = letters::begin(tables, root);
     let mut down = a;
     while down != b {
-        state = letters::step(state.next, tables, label[down]);
-        down = tree::child(size, down, b);
+        state = letters::step(state.next, tables, tree.label[down]);
+        down = tree::child(tree.size, down, b);
     }
     state
 }
@@ -170,8 +157,7 @@ pub fn forbidden(flag: u32, kind: u32, a: usize, b: usize) -> bool
 
 // Whether the value that the numbers a and b mean for a variable of this kind obeys the constraint that start and flag give it.
 pub fn obeys(
-    label: &[u32],
-    size: &[u32],
+    tree: &Tree,
     tables: &[u64; 320],
     start: u32,
     flag: u32,
@@ -179,8 +165,8 @@ pub fn obeys(
     a: usize,
     b: usize,
 ) -> bool
-    requires { ObeysPre label.now size.now start flag kind a b }
-    ensures { ObeysPost label.now size.now tables.now start flag kind a b result }
+    requires { ObeysPre tree.now.label.now tree.now.size.now start flag kind a b }
+    ensures { ObeysPost tree.now.label.now tree.now.size.now tables.now start flag kind a b result }
 {
     if start == 0 {
         return true;
@@ -191,7 +177,7 @@ pub fn obeys(
     let above = start as usize;
     let root = above - 1;
     if kind == SEQUENCE {
-        return after_heads(label, size, tables, root, a, b).state.end;
+        return after_heads(tree, tables, root, a, b).state.end;
     }
-    after_path(label, size, tables, root, a, b).end
+    after_path(tree, tables, root, a, b).end
 }

@@ -6,12 +6,12 @@ ghost use Rattle.entry.specs.Resumed.{ResumePre, ResumePost};
 
 use meaning::endings::Ending;
 use search::{Found, Limits};
+use tree::Tree;
 use walk::Halt;
 
 // The search from its first walk on, before any choice.
 pub fn begin(
-    label: &[u32],
-    size: &[u32],
+    tree: &Tree,
     pattern: &[u32; 1536],
     tables: &[u64; 320],
     budget: u32,
@@ -19,17 +19,17 @@ pub fn begin(
     width: usize,
     out: &mut [u32],
 ) -> Found
-    requires { BeginPre label.now size.now pattern.now tables.now room width out.old }
-    ensures { BeginPost label.now size.now pattern.now tables.now budget room width out.old result out.new }
+    requires { BeginPre tree.now.label.now tree.now.size.now pattern.now tables.now room width out.old }
+    ensures { BeginPost tree.now.label.now tree.now.size.now pattern.now tables.now budget room width out.old result out.new }
 {
     let mut record = [0u32; 32];
     let mut at = [0usize; 256];
-    match walk::begin(label, size, pattern, &mut record, &mut at) {
+    match walk::begin(tree, pattern, &mut record, &mut at) {
         Err(Halt::Fail) => search::ended(Ending::All, 0, 0),
         Err(Halt::Need(w)) => {
             let mut levels = [0usize; 1536];
             let least = choice::least(pattern, w.place, w.start);
-            let values = choice::values(size, pattern, &at, w.place, w.start);
+            let values = choice::values(tree.size, pattern, &at, w.place, w.start);
             levels::enter(&mut levels, 0, w, least, values);
             let limits = Limits {
                 budget,
@@ -37,8 +37,7 @@ pub fn begin(
                 width,
             };
             search::go(
-                label,
-                size,
+                tree,
                 pattern,
                 tables,
                 limits,
@@ -61,8 +60,7 @@ pub fn begin(
 
 // The search from the levels that stand at a record, if it is that of a matcher.
 pub fn resume(
-    label: &[u32],
-    size: &[u32],
+    tree: &Tree,
     pattern: &[u32; 1536],
     tables: &[u64; 320],
     list: &[u32],
@@ -71,8 +69,8 @@ pub fn resume(
     width: usize,
     out: &mut [u32],
 ) -> Option<Found>
-    requires { ResumePre label.now size.now pattern.now tables.now list.now room width out.old }
-    ensures { ResumePost label.now size.now pattern.now tables.now list.now budget room width out.old out.new result }
+    requires { ResumePre tree.now.label.now tree.now.size.now pattern.now tables.now list.now room width out.old }
+    ensures { ResumePost tree.now.label.now tree.now.size.now pattern.now tables.now list.now budget room width out.old out.new result }
 {
     let limits = Limits {
         budget,
@@ -83,8 +81,7 @@ pub fn resume(
     let mut at = [0usize; 256];
     let mut levels = [0usize; 1536];
     let depth = page::reach(
-        label,
-        size,
+        tree,
         pattern,
         tables,
         list,
@@ -93,8 +90,7 @@ pub fn resume(
         &mut levels,
     )?;
     Some(search::go(
-        label,
-        size,
+        tree,
         pattern,
         tables,
         limits,

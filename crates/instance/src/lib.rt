@@ -50,8 +50,6 @@ pub fn instance(
     }
     let mut packed = [0u32; 768];
     pack(pattern.kind, pattern.name, pattern.size, &mut packed);
-    term(
-        tree.label, tree.size, &packed, record, 0, 0, out_label, out_size,
-    );
+    term(tree, &packed, record, 0, 0, out_label, out_size);
     Ok(rows)
 }

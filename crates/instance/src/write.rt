@@ -4,12 +4,12 @@ ghost use Rattle.instance.specs.Cycle.{TermAsks, TermGives, HeadedAsks};
 use super::packed::{kind, name, next};
 use super::value::{context, filling, head, individual, sequence};
 use meaning::kinds::{CONTEXT, INDIVIDUAL, SEQUENCE};
+use tree::Tree;
 
 // Writes the instance of the pattern term at the row, and answers the row behind it.
 #[cycle(headed_term)]
 pub fn term(
-    label: &[u32],
-    size: &[u32],
+    tree: &Tree,
     pattern: &[u32],
     record: &[u32],
     row: usize,
@@ -17,29 +17,28 @@ pub fn term(
     out_label: &mut [u32],
     out_size: &mut [u32],
 ) -> usize
-    requires { TermAsks label.now size.now pattern.now «record».now out_label.old out_size.old row to }
-    ensures { TermGives label.now size.now pattern.now «record».now out_label.old out_size.old row to result out_label.new out_size.new }
+    requires { TermAsks tree.now.label.now tree.now.size.now pattern.now «record».now out_label.old out_size.old row to }
+    ensures { TermGives tree.now.label.now tree.now.size.now pattern.now «record».now out_label.old out_size.old row to result out_label.new out_size.new }
 {
     let k = kind(pattern, row);
     if k == INDIVIDUAL {
         let variable = name(pattern, row);
-        return individual(label, size, record, variable, to, out_label, out_size);
+        return individual(tree, record, variable, to, out_label, out_size);
     }
     if k == CONTEXT {
         let x = name(pattern, row);
         let first = filling(record, x, to);
         let p = row + 1;
-        let end = term(label, size, pattern, record, p, first, out_label, out_size);
-        return context(label, size, record, x, to, first, end, out_label, out_size);
+        let end = term(tree, pattern, record, p, first, out_label, out_size);
+        return context(tree, record, x, to, first, end, out_label, out_size);
     }
-    headed(label, size, pattern, record, row, to, out_label, out_size)
+    headed(tree, pattern, record, row, to, out_label, out_size)
 }
 
 // The same where the term is a symbol or a function variable: its arguments, then its own row. A loop, so that the recursion is no deeper than the pattern.
 #[cycle(headed_term)]
 fn headed(
-    label: &[u32],
-    size: &[u32],
+    tree: &Tree,
     pattern: &[u32],
     record: &[u32],
     row: usize,
@@ -47,8 +46,8 @@ fn headed(
     out_label: &mut [u32],
     out_size: &mut [u32],
 ) -> usize
-    requires { HeadedAsks label.now size.now pattern.now «record».now out_label.old out_size.old row to }
-    ensures { TermGives label.now size.now pattern.now «record».now out_label.old out_size.old row to result out_label.new out_size.new }
+    requires { HeadedAsks tree.now.label.now tree.now.size.now pattern.now «record».now out_label.old out_size.old row to }
+    ensures { TermGives tree.now.label.now tree.now.size.now pattern.now «record».now out_label.old out_size.old row to result out_label.new out_size.new }
 {
     let last = next(pattern, row);
     let mut p = row + 1;
@@ -56,13 +55,15 @@ fn headed(
     while p != last {
         if kind(pattern, p) == SEQUENCE {
             let variable = name(pattern, p);
-            end = sequence(label, size, record, variable, end, out_label, out_size);
+            end = sequence(tree, record, variable, end, out_label, out_size);
             p += 1;
         } else {
-            end = term(label, size, pattern, record, p, end, out_label, out_size);
+            end = term(tree, pattern, record, p, end, out_label, out_size);
             p = next(pattern, p);
         }
     }
-    head(label, pattern, record, row, to, end, out_label, out_size);
+    head(
+        tree.label, pattern, record, row, to, end, out_label, out_size,
+    );
     end
 }

@@ -9,6 +9,7 @@ ghost use Rattle.levels.specs.Columns.{lefts, Inside, LevelAt, Moved, Entered};
 ghost use Rattle.levels.specs.Levels.{AttemptPre, AttemptPost};
 ghost use Rattle.levels.specs.Steps.{NextPre, NextPost, DeeperPre, DeeperPost};
 
+use tree::Tree;
 use walk::Halt;
 
 // A level: the pattern row of its variable, the variable, the row where it starts, the row at which the walk goes on with the next
@@ -103,8 +104,7 @@ fn spare(left: usize, budget: u32, tries: u32) -> usize
 
 // The level d goes on to its next value that does not fail at once, as far as the budget allows.
 pub fn next_try(
-    label: &[u32],
-    size: &[u32],
+    tree: &Tree,
     pattern: &[u32; 1536],
     at: &[usize; 256],
     levels: &mut [usize; 1536],
@@ -112,15 +112,15 @@ pub fn next_try(
     budget: u32,
     tries: u32,
 ) -> Try
-    requires { NextPre label.now size.now pattern.now at.now levels.old d budget tries }
-    ensures { NextPost label.now size.now pattern.now at.now levels.old d budget tries levels.new result.p result.x result.s result.u result.v result.left result.failed }
+    requires { NextPre tree.now.label.now tree.now.size.now pattern.now at.now levels.old d budget tries }
+    ensures { NextPost tree.now.label.now tree.now.size.now pattern.now at.now levels.old d budget tries levels.new result.p result.x result.s result.u result.v result.left result.failed }
 {
     let l = standing(levels, d);
     let limit = spare(l.left, budget, tries);
-    let run = choice::skip(label, size, pattern, at, l.place, l.row, l.left, limit);
+    let run = choice::skip(tree, pattern, at, l.place, l.row, l.left, limit);
     let value = l.next + run.count;
     let left = l.left - run.count - 1;
-    let row = choice::further(size, pattern, l.place, run.row, left);
+    let row = choice::further(tree.size, pattern, l.place, run.row, left);
     advance(levels, d, row, value + 1, left);
     Try {
         p: l.place,
@@ -156,8 +156,7 @@ pub fn deeper(
 
 // One try. The constraint is judged before the walk goes on.
 pub fn attempt(
-    label: &[u32],
-    size: &[u32],
+    tree: &Tree,
     pattern: &[u32; 1536],
     tables: &[u64; 320],
     record: &mut [u32; 32],
@@ -166,13 +165,13 @@ pub fn attempt(
     memory: &mut [usize; 1280],
     path: &mut [usize; 259],
 ) -> Result<usize, Halt>
-    requires { AttemptPre label.now size.now pattern.now tables.now «record».old at.old t.p t.x t.s t.u t.v
-        × Both label.now size.now tables.now (root_of pattern.now) memory.old path.old }
-    ensures { AttemptPost label.now size.now pattern.now tables.now «record».old at.old t.p t.x t.s t.u t.v result «record».new at.new
-        × Both label.now size.now tables.now (root_of pattern.now) memory.new path.new }
+    requires { AttemptPre tree.now.label.now tree.now.size.now pattern.now tables.now «record».old at.old t.p t.x t.s t.u t.v
+        × Both tree.now.label.now tree.now.size.now tables.now (root_of pattern.now) memory.old path.old }
+    ensures { AttemptPost tree.now.label.now tree.now.size.now pattern.now tables.now «record».old at.old t.p t.x t.s t.u t.v result «record».new at.new
+        × Both tree.now.label.now tree.now.size.now tables.now (root_of pattern.now) memory.new path.new }
 {
-    if !memory::allowed(label, size, pattern, tables, t.p, t.s, t.v, memory, path) {
+    if !memory::allowed(tree, pattern, tables, t.p, t.s, t.v, memory, path) {
         return Err(Halt::Fail);
     }
-    walk::take(label, size, pattern, record, at, t.p, t.x, t.s, t.u, t.v)
+    walk::take(tree, pattern, record, at, t.p, t.x, t.s, t.u, t.v)
 }

@@ -29,7 +29,6 @@ fn list_checked(variables: &Variables, problem: &Problem, budget: u32, out: &mut
     requires { Checked (lists problem.now) variables.now }
     ensures { Settled (lists problem.now) budget out.old (told (Ok result)) out.new }
 {
-    let tree = problem.tree;
     let pattern = problem.pattern;
     let table = problem.table;
     let mut tables = [0u64; 320];
@@ -45,7 +44,7 @@ fn list_checked(variables: &Variables, problem: &Problem, budget: u32, out: &mut
     let width = variables.count + variables.count;
     let room = room_for(out.len(), width);
     begin(
-        tree.label, tree.size, &packed, &tables, budget, room, width, out,
+        &problem.tree, &packed, &tables, budget, room, width, out,
     )
 }
 
@@ -98,7 +97,6 @@ pub fn list_after(
     if record.len() != width {
         return Err(Refusal::Record);
     }
-    let tree = problem.tree;
     let pattern = problem.pattern;
     let table = problem.table;
     let mut tables = [0u64; 320];
@@ -113,11 +111,11 @@ pub fn list_after(
     );
     let room = room_for(out.len(), width);
     match resume(
-        tree.label, tree.size, &packed, &tables, record, budget, room, width, out,
+        &problem.tree, &packed, &tables, record, budget, room, width, out,
     ) {
         None => {
             let kinds = checked.kinds;
-            Err(no_page(tree.size, &kinds, checked.count, record))
+            Err(no_page(problem.tree.size, &kinds, checked.count, record))
         }
         Some(found) => Ok(found),
     }

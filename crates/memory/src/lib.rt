@@ -8,6 +8,7 @@ ghost use Rattle.memory.specs.Memory.{kept, RecallPre, RecallPost, GrownPre, Gro
 use constraint::Mark;
 use letters::State;
 use meaning::kinds::SEQUENCE;
+use tree::Tree;
 
 // A reading of the heads of a sequence, and how many are read.
 #[derive(Drop)]
@@ -68,8 +69,7 @@ fn keep(memory: &mut [usize; 1280], choice: usize, mark: &Mark, a: usize, count:
 // Whether the heads of b neighbours from the row a on are a word of the expression at the row root: read on from what is
 // remembered of the choice.
 fn grown(
-    label: &[u32],
-    size: &[u32],
+    tree: &Tree,
     tables: &[u64; 320],
     root: usize,
     choice: usize,
@@ -77,12 +77,12 @@ fn grown(
     b: usize,
     memory: &mut [usize; 1280],
 ) -> bool
-    requires { GrownPre label.now size.now tables.now root choice a b memory.old }
-    ensures { GrownPost label.now size.now tables.now root choice a b memory.old result memory.new }
+    requires { GrownPre tree.now.label.now tree.now.size.now tables.now root choice a b memory.old }
+    ensures { GrownPost tree.now.label.now tree.now.size.now tables.now root choice a b memory.old result memory.new }
 {
     let was = recall(memory, tables, root, choice, a, b);
     let more = b - was.count;
-    let mark = constraint::read_on(label, size, tables, was.mark, more);
+    let mark = constraint::read_on(tree, tables, was.mark, more);
     keep(memory, choice, &mark, a, b);
     mark.state.end
 }
@@ -98,8 +98,7 @@ fn row_of(start: u32) -> usize
 
 // Whether the variable at the pattern row p may stand for the value that the numbers a and b mean, as `constraint::obeys` says.
 pub fn allowed(
-    label: &[u32],
-    size: &[u32],
+    tree: &Tree,
     pattern: &[u32; 1536],
     tables: &[u64; 320],
     p: usize,
@@ -108,8 +107,8 @@ pub fn allowed(
     memory: &mut [usize; 1280],
     path: &mut [usize; 259],
 ) -> bool
-    requires { GrowPre label.now size.now pattern.now tables.now p a b memory.old path.old }
-    ensures { GrowPost label.now size.now pattern.now tables.now p a b result memory.new path.new }
+    requires { GrowPre tree.now.label.now tree.now.size.now pattern.now tables.now p a b memory.old path.old }
+    ensures { GrowPost tree.now.label.now tree.now.size.now pattern.now tables.now p a b result memory.new path.new }
 {
     let choice = walk::chosen(pattern, p);
     let start = choice.start;
@@ -122,7 +121,7 @@ pub fn allowed(
     }
     let root = row_of(start);
     if kind == SEQUENCE {
-        return grown(label, size, tables, root, p, a, b, memory);
+        return grown(tree, tables, root, p, a, b, memory);
     }
-    paths::accepted(label, size, tables, root, p, a, b, path)
+    paths::accepted(tree, tables, root, p, a, b, path)
 }

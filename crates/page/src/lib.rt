@@ -4,6 +4,7 @@
 ghost use Rattle.page.specs.Page.{ChoosePre, ChoosePost, ReachPre, ReachPost};
 
 use levels::{Try, advance, attempt, enter};
+use tree::Tree;
 use walk::Halt;
 
 // The level d is for the variable at which the walk stopped, and stands behind the value that the record has for it, which is to be
@@ -51,8 +52,7 @@ fn choose(
 // Goes to the record of a matcher once, from the first walk on: a level for each of its choices, as the search left them there; how
 // many levels these are, if the record is that of a matcher.
 pub fn reach(
-    label: &[u32],
-    size: &[u32],
+    tree: &Tree,
     pattern: &[u32; 1536],
     tables: &[u64; 320],
     list: &[u32],
@@ -60,13 +60,13 @@ pub fn reach(
     at: &mut [usize; 256],
     levels: &mut [usize; 1536],
 ) -> Option<usize>
-    requires { ReachPre label.now size.now pattern.now tables.now list.now «record».old at.old levels.old }
-    ensures { ReachPost label.now size.now pattern.now tables.now list.now «record».new at.new levels.new result }
+    requires { ReachPre tree.now.label.now tree.now.size.now pattern.now tables.now list.now «record».old at.old levels.old }
+    ensures { ReachPost tree.now.label.now tree.now.size.now pattern.now tables.now list.now «record».new at.new levels.new result }
 {
     let mut memory = [0usize; 1280];
     let mut path = [0usize; 259];
     let mut depth = 0;
-    let mut o = walk::begin(label, size, pattern, record, at);
+    let mut o = walk::begin(tree, pattern, record, at);
     loop {
         match o {
             Err(Halt::Fail) => return None,
@@ -77,10 +77,9 @@ pub fn reach(
                 return None;
             }
             Err(Halt::Need(w)) => {
-                let t = choose(size, pattern, list, at, levels, depth, w)?;
+                let t = choose(tree.size, pattern, list, at, levels, depth, w)?;
                 o = attempt(
-                    label,
-                    size,
+                    tree,
                     pattern,
                     tables,
                     record,

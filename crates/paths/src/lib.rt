@@ -6,6 +6,8 @@ ghost use Rattle.std.specs.Prelude.{◌≡◌, ◌+◌, ◌<◌, ◌≤◌, leng
 ghost use Rattle.paths.specs.Paths.{ChildFromPre, ChildFromPost, HoldingPre, HoldingPost, RecallPre, RecallPost, AcceptedPre, AcceptedPost};
 ghost use Rattle.paths.specs.Paths as kept;
 
+use tree::Tree;
+
 // The place i of the path: its row, and the state before the row's label is read.
 fn put(path: &mut [usize; 259], i: usize, row: usize, next: u64, end: bool)
     requires { (i < 64) × (row < 4294967296) × (length path.old ≡ 259) }
@@ -71,8 +73,7 @@ fn recall(
 // Whether the labels on the path from the row a down to the row b, that of b left out, are a word of the expression at the row root,
 // for a choice.
 pub fn accepted(
-    label: &[u32],
-    size: &[u32],
+    tree: &Tree,
     tables: &[u64; 320],
     root: usize,
     choice: usize,
@@ -80,10 +81,10 @@ pub fn accepted(
     b: usize,
     path: &mut [usize; 259],
 ) -> bool
-    requires { AcceptedPre label.now size.now tables.now root choice a b path.old }
-    ensures { AcceptedPost label.now size.now tables.now root choice a b result path.new }
+    requires { AcceptedPre tree.now.label.now tree.now.size.now tables.now root choice a b path.old }
+    ensures { AcceptedPost tree.now.label.now tree.now.size.now tables.now root choice a b result path.new }
 {
-    let mut i = recall(size, tables, root, choice, a, b, path);
+    let mut i = recall(tree.size, tables, root, choice, a, b, path);
     loop {
         path[2] = i;
         let row = path[4 * i + 3];
@@ -91,13 +92,13 @@ pub fn accepted(
             return path[4 * i + 5] == 1;
         }
         if i == 63 {
-            return constraint::after_path(label, size, tables, root, a, b).end;
+            return constraint::after_path(tree, tables, root, a, b).end;
         }
         let next = path[4 * i + 4] as u64;
         let from = path[4 * i + 6];
-        let u = child(size, row, from, b);
+        let u = child(tree.size, row, from, b);
         path[4 * i + 6] = u;
-        let state = letters::step(next, tables, label[row]);
+        let state = letters::step(next, tables, tree.label[row]);
         i += 1;
         put(path, i, u, state.next, state.end);
     }

@@ -66,8 +66,7 @@ pub fn check(problem: &Problem) -> Result<Variables, Refusal>
 
 // Whether the variable x may stand for the value that the numbers a and b mean: what its constraint says.
 pub fn allowed(
-    label: &[u32],
-    size: &[u32],
+    tree: &Tree,
     tables: &[u64; 320],
     constraint: &[u32],
     kinds: &[u32; 16],
@@ -75,10 +74,10 @@ pub fn allowed(
     a: usize,
     b: usize,
 ) -> bool
-    requires { AllowedPre label.now size.now tables.now constraint.now kinds.now x a b }
-    ensures { AllowedPost label.now size.now tables.now constraint.now kinds.now x a b result }
+    requires { AllowedPre tree.now.label.now tree.now.size.now tables.now constraint.now kinds.now x a b }
+    ensures { AllowedPost tree.now.label.now tree.now.size.now tables.now constraint.now kinds.now x a b result }
 {
     let start = constraint[x + x];
     let flag = constraint[x + x + 1];
-    constraint::obeys(label, size, tables, start, flag, kinds[x], a, b)
+    constraint::obeys(tree, tables, start, flag, kinds[x], a, b)
 }

@@ -7,6 +7,7 @@ ghost use Rattle.search.specs.Search.{GoPre, GoPost};
 
 use levels::{attempt, deeper, next_try};
 use meaning::endings::Ending;
+use tree::Tree;
 use walk::Halt;
 
 // What the search comes to: the ending, how many records were written, and the tries.
@@ -45,8 +46,7 @@ pub struct Limits {
 
 // The search from levels that stand after some choices: the last level's next value is tried, and what the walk finds is noted.
 pub fn go(
-    label: &[u32],
-    size: &[u32],
+    tree: &Tree,
     pattern: &[u32; 1536],
     tables: &[u64; 320],
     limits: Limits,
@@ -56,9 +56,9 @@ pub fn go(
     start: usize,
     out: &mut [u32],
 ) -> Found
-    requires { GoPre label.now size.now pattern.now tables.now limits.room limits.width «record».old at.old (places levels.old) (variables levels.old) (starts levels.old) (rows levels.old) (nexts levels.old) (lefts levels.old) start out.old
+    requires { GoPre tree.now.label.now tree.now.size.now pattern.now tables.now limits.room limits.width «record».old at.old (places levels.old) (variables levels.old) (starts levels.old) (rows levels.old) (nexts levels.old) (lefts levels.old) start out.old
         × (length levels.old ≡ 1536) × (limits.budget < 4294967296) × (limits.room < 18446744073709551616) }
-    ensures { GoPost label.now size.now pattern.now tables.now limits.budget limits.room limits.width «record».old at.old (places levels.old) (variables levels.old) (starts levels.old) (rows levels.old) (nexts levels.old) (lefts levels.old) start out.old result out.new }
+    ensures { GoPost tree.now.label.now tree.now.size.now pattern.now tables.now limits.budget limits.room limits.width «record».old at.old (places levels.old) (variables levels.old) (starts levels.old) (rows levels.old) (nexts levels.old) (lefts levels.old) start out.old result out.new }
 {
     let budget = limits.budget;
     let room = limits.room;
@@ -76,11 +76,10 @@ pub fn go(
         if tries == budget {
             return ended(Ending::Budget, count, tries);
         }
-        let t = next_try(label, size, pattern, at, levels, depth - 1, budget, tries);
+        let t = next_try(tree, pattern, at, levels, depth - 1, budget, tries);
         tries = tries + t.failed + 1;
         match attempt(
-            label,
-            size,
+            tree,
             pattern,
             tables,
             record,
@@ -91,7 +90,7 @@ pub fn go(
         ) {
             Err(Halt::Fail) => {}
             Err(Halt::Need(w)) => {
-                deeper(size, pattern, at, levels, depth, t.p, t.u, t.left, w);
+                deeper(tree.size, pattern, at, levels, depth, t.p, t.u, t.left, w);
                 depth += 1;
             }
             Ok(_) => {

@@ -10,20 +10,15 @@ ghost use Rattle.test.specs.Inside.{WalkablePre, PlacedPost, ConstrainedPre, Obe
 use meaning::Refusal;
 use pattern::Variables;
 use problem::Problem;
+use tree::Tree;
 
 // The walk with the choices of the list: a variable that is asked for takes the second number that the list has for it.
-fn follow(
-    label: &[u32],
-    size: &[u32],
-    pattern: &[u32; 1536],
-    list: &[u32],
-    found: &mut [u32; 32],
-) -> bool
-    requires { FollowPre label.now size.now pattern.now list.now found.old }
-    ensures { FollowPost label.now size.now pattern.now list.now result found.new }
+fn follow(tree: &Tree, pattern: &[u32; 1536], list: &[u32], found: &mut [u32; 32]) -> bool
+    requires { FollowPre tree.now.label.now tree.now.size.now pattern.now list.now found.old }
+    ensures { FollowPost tree.now.label.now tree.now.size.now pattern.now list.now result found.new }
 {
     let mut at = [0usize; 256];
-    let mut o = walk::begin(label, size, pattern, found, &mut at);
+    let mut o = walk::begin(tree, pattern, found, &mut at);
     loop {
         match o {
             Err(walk::Halt::Fail) => return false,
@@ -37,11 +32,11 @@ fn follow(
                 if v < lo {
                     return false;
                 }
-                if choice::values(size, pattern, &at, p, t) <= v - lo {
+                if choice::values(tree.size, pattern, &at, p, t) <= v - lo {
                     return false;
                 }
-                let u = choice::landing(size, pattern, p, t, v);
-                o = walk::take(label, size, pattern, found, &mut at, p, x, t, u, v);
+                let u = choice::landing(tree.size, pattern, p, t, v);
+                o = walk::take(tree, pattern, found, &mut at, p, x, t, u, v);
             }
         }
     }
@@ -52,7 +47,6 @@ fn placed(problem: &Problem, record: &[u32]) -> bool
     requires { WalkablePre (lists problem.now) «record».now }
     ensures { PlacedPost (lists problem.now) «record».now result }
 {
-    let tree = problem.tree;
     let pattern = problem.pattern;
     let mut packed = [0u32; 1536];
     walk::pack(
@@ -63,7 +57,7 @@ fn placed(problem: &Problem, record: &[u32]) -> bool
         &mut packed,
     );
     let mut found = [0u32; 32];
-    follow(tree.label, tree.size, &packed, record, &mut found) && record::equal(&found, record)
+    follow(&problem.tree, &packed, record, &mut found) && record::equal(&found, record)
 }
 
 // Whether every variable's numbers obey its constraint, with the tables of the expressions.
@@ -71,13 +65,11 @@ fn all_obey(problem: &Problem, tables: &[u64; 320], variables: &Variables, recor
     requires { AllPre (lists problem.now) tables.now variables.now «record».now }
     ensures { AllPost (lists problem.now) tables.now variables.now «record».now result }
 {
-    let tree = problem.tree;
     for x in 0..variables.count {
         let a = record[x + x] as usize;
         let b = record[x + x + 1] as usize;
         if !problem::allowed(
-            tree.label,
-            tree.size,
+            &problem.tree,
             tables,
             problem.constraint,
             &variables.kinds,

@@ -114,16 +114,16 @@ pub fn good(tree: &Tree) -> bool
 }
 
 // Whether k rows from a on are those from t on.
-pub fn same(label: &[u32], size: &[u32], a: usize, t: usize, k: usize) -> bool
-    requires { SamePre label.now size.now a t k }
-    ensures { Says result (SameRows label.now size.now a t k) }
+pub fn same(tree: &Tree, a: usize, t: usize, k: usize) -> bool
+    requires { SamePre tree.now.label.now tree.now.size.now a t k }
+    ensures { Says result (SameRows tree.now.label.now tree.now.size.now a t k) }
 {
     // Row by row: most terms that are compared are small, and two slices of few numbers take `==` half as long again.
     for i in 0..k {
-        if label[a + i] != label[t + i] {
+        if tree.label[a + i] != tree.label[t + i] {
             return false;
         }
-        if size[a + i] != size[t + i] {
+        if tree.size[a + i] != tree.size[t + i] {
             return false;
         }
     }

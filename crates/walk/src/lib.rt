@@ -9,6 +9,7 @@ ghost use Rattle.walk.specs.Onward.{UpPre, UpPost, ResumePre, ResumePost, BeginP
 ghost use Rattle.walk.specs.Taken.{TakePre, TakePost};
 
 use meaning::kinds::{CONTEXT, INDIVIDUAL, SEQUENCE};
+use tree::Tree;
 use variable::Step;
 
 // Where a walk stops: the row of the pattern with a variable that has to be chosen, the variable, and the row of the tree where it starts.
@@ -165,8 +166,7 @@ pub fn row(at: &[usize; 256], p: usize) -> usize
 // The pattern term at row p against the term at row t, where n variables are bound.
 #[cycle(args_term)]
 fn term(
-    label: &[u32],
-    size: &[u32],
+    tree: &Tree,
     pattern: &[u32; 1536],
     record: &mut [u32; 32],
     at: &mut [usize; 256],
@@ -174,37 +174,36 @@ fn term(
     t: usize,
     n: usize,
 ) -> Result<usize, Halt>
-    requires { TermPre label.now size.now pattern.now «record».old at.old p t n }
-    ensures { TermPost label.now size.now pattern.now «record».old at.old p t n result «record».new at.new }
+    requires { TermPre tree.now.label.now tree.now.size.now pattern.now «record».old at.old p t n }
+    ensures { TermPost tree.now.label.now tree.now.size.now pattern.now «record».old at.old p t n result «record».new at.new }
 {
     come(at, p, t);
     let k = kind(pattern, p);
     let x = name(pattern, p);
     if k == INDIVIDUAL {
-        return variable::individual(label, size, record, x, t, n).ok_or(Halt::Fail);
+        return variable::individual(tree, record, x, t, n).ok_or(Halt::Fail);
     }
     if k == CONTEXT {
-        return match variable::context(label, size, record, x, t, n) {
+        return match variable::context(tree, record, x, t, n) {
             Step::Fail => Err(Halt::Fail),
             Step::Need => Err(Halt::Need(Stop {
                 place: p,
                 variable: x,
                 start: t,
             })),
-            Step::Go(u) => term(label, size, pattern, record, at, p + 1, u, n),
+            Step::Go(u) => term(tree, pattern, record, at, p + 1, u, n),
         };
     }
-    let m = variable::head(label, record, k, x, t, n).ok_or(Halt::Fail)?;
+    let m = variable::head(tree.label, record, k, x, t, n).ok_or(Halt::Fail)?;
     args(
-        label,
-        size,
+        tree,
         pattern,
         record,
         at,
         p + 1,
         next(pattern, p),
         t + 1,
-        tree::next(size, t),
+        tree::next(tree.size, t),
         m,
     )
 }
@@ -212,8 +211,7 @@ fn term(
 // The pattern's arguments from row p up to pe against the terms from row t up to te, where n variables are bound. A loop, so that the recursion is no deeper than the pattern.
 #[cycle(args_term)]
 fn args(
-    label: &[u32],
-    size: &[u32],
+    tree: &Tree,
     pattern: &[u32; 1536],
     record: &mut [u32; 32],
     at: &mut [usize; 256],
@@ -223,8 +221,8 @@ fn args(
     te: usize,
     n: usize,
 ) -> Result<usize, Halt>
-    requires { ListPre label.now size.now pattern.now «record».old at.old p pe t te n }
-    ensures { ListPost label.now size.now pattern.now «record».old at.old p pe t te n result «record».new at.new }
+    requires { ListPre tree.now.label.now tree.now.size.now pattern.now «record».old at.old p pe t te n }
+    ensures { ListPost tree.now.label.now tree.now.size.now pattern.now «record».old at.old p pe t te n result «record».new at.new }
 {
     let mut q = p;
     let mut u = t;
@@ -232,7 +230,7 @@ fn args(
     while q != pe {
         if kind(pattern, q) == SEQUENCE {
             let x = name(pattern, q);
-            match variable::sequence(label, size, record, x, u, te, m) {
+            match variable::sequence(tree, record, x, u, te, m) {
                 Step::Fail => return Err(Halt::Fail),
                 Step::Need => {
                     come(at, q, u);
@@ -251,9 +249,9 @@ fn args(
             if u == te {
                 return Err(Halt::Fail);
             }
-            m = term(label, size, pattern, record, at, q, u, m)?;
+            m = term(tree, pattern, record, at, q, u, m)?;
             q = next(pattern, q);
-            u = tree::next(size, u);
+            u = tree::next(tree.size, u);
         }
     }
     if u == te {
@@ -265,16 +263,15 @@ fn args(
 // What is left of the walk behind the pattern term at row p: the rest of the list that it stands in, then of the list that its holder
 // stands in, and so on up to the root. A context holds one term, so that nothing is left of its list.
 fn up(
-    label: &[u32],
-    size: &[u32],
+    tree: &Tree,
     pattern: &[u32; 1536],
     record: &mut [u32; 32],
     at: &mut [usize; 256],
     p: usize,
     n: usize,
 ) -> Result<usize, Halt>
-    requires { UpPre label.now size.now pattern.now «record».old at.old p n }
-    ensures { UpPost label.now size.now pattern.now «record».old at.old p n result «record».new at.new }
+    requires { UpPre tree.now.label.now tree.now.size.now pattern.now «record».old at.old p n }
+    ensures { UpPost tree.now.label.now tree.now.size.now pattern.now «record».old at.old p n result «record».new at.new }
 {
     let mut q = p;
     let mut m = n;
@@ -286,15 +283,14 @@ fn up(
             let t = row(at, q);
             let g = row(at, h);
             m = args(
-                label,
-                size,
+                tree,
                 pattern,
                 record,
                 at,
                 next(pattern, q),
                 next(pattern, h),
-                tree::next(size, t),
-                tree::next(size, g),
+                tree::next(tree.size, t),
+                tree::next(tree.size, g),
                 m,
             )?;
             q = h;
@@ -306,8 +302,7 @@ fn up(
 // The walk goes on from the variable at the pattern row p, the last of n that are bound: u is the row behind a sequence's terms,
 // or the row of a context's hole.
 pub fn resume(
-    label: &[u32],
-    size: &[u32],
+    tree: &Tree,
     pattern: &[u32; 1536],
     record: &mut [u32; 32],
     at: &mut [usize; 256],
@@ -315,34 +310,32 @@ pub fn resume(
     u: usize,
     n: usize,
 ) -> Result<usize, Halt>
-    requires { ResumePre label.now size.now pattern.now «record».old at.old p u n }
-    ensures { ResumePost label.now size.now pattern.now «record».old at.old p u n result «record».new at.new }
+    requires { ResumePre tree.now.label.now tree.now.size.now pattern.now «record».old at.old p u n }
+    ensures { ResumePost tree.now.label.now tree.now.size.now pattern.now «record».old at.old p u n result «record».new at.new }
 {
     if kind(pattern, p) == SEQUENCE {
         let h = holder(pattern, p);
         let g = row(at, h);
         let m = args(
-            label,
-            size,
+            tree,
             pattern,
             record,
             at,
             p + 1,
             next(pattern, h),
             u,
-            tree::next(size, g),
+            tree::next(tree.size, g),
             n,
         )?;
-        return up(label, size, pattern, record, at, h, m);
+        return up(tree, pattern, record, at, h, m);
     }
-    let m = term(label, size, pattern, record, at, p + 1, u, n)?;
-    up(label, size, pattern, record, at, p, m)
+    let m = term(tree, pattern, record, at, p + 1, u, n)?;
+    up(tree, pattern, record, at, p, m)
 }
 
 // The variable x at the pattern row p, which starts at the row s, takes the value v, and the walk goes on at the row u.
 pub fn take(
-    label: &[u32],
-    size: &[u32],
+    tree: &Tree,
     pattern: &[u32; 1536],
     record: &mut [u32; 32],
     at: &mut [usize; 256],
@@ -352,23 +345,22 @@ pub fn take(
     u: usize,
     v: usize,
 ) -> Result<usize, Halt>
-    requires { TakePre label.now size.now pattern.now «record».old at.old p x s u v }
-    ensures { TakePost label.now size.now pattern.now «record».old at.old p x s u v result «record».new at.new }
+    requires { TakePre tree.now.label.now tree.now.size.now pattern.now «record».old at.old p x s u v }
+    ensures { TakePost tree.now.label.now tree.now.size.now pattern.now «record».old at.old p x s u v result «record».new at.new }
 {
     variable::put(record, x, s, v);
-    resume(label, size, pattern, record, at, p, u, x + 1)
+    resume(tree, pattern, record, at, p, u, x + 1)
 }
 
 // The walk from the root, before any choice.
 pub fn begin(
-    label: &[u32],
-    size: &[u32],
+    tree: &Tree,
     pattern: &[u32; 1536],
     record: &mut [u32; 32],
     at: &mut [usize; 256],
 ) -> Result<usize, Halt>
-    requires { BeginPre label.now size.now pattern.now «record».old at.old }
-    ensures { BeginPost label.now size.now pattern.now «record».old at.old result «record».new at.new }
+    requires { BeginPre tree.now.label.now tree.now.size.now pattern.now «record».old at.old }
+    ensures { BeginPost tree.now.label.now tree.now.size.now pattern.now «record».old at.old result «record».new at.new }
 {
-    term(label, size, pattern, record, at, 0, 0, 0)
+    term(tree, pattern, record, at, 0, 0, 0)
 }

@@ -19,17 +19,17 @@ overflow_add-x c = omega (arith, individual_room c.requires, c.well_formed)
 pub at-a-requires : goal.at-a-requires
 at-a-requires c = omega (arith, individual_room c.requires)
 
-pub next-requires : goal.next-requires
-next-requires c = (individual_next c.if-x-n.false c.at-a.ensures.0 c.requires).sized
+pub next-behind-requires : goal.next-behind-requires
+next-behind-requires c = (individual_next c.if-x-n.false c.at-a.ensures.0 c.requires).sized
 
-pub next-requires-2 : goal.next-requires-2
-next-requires-2 c = (term_next c.requires.tree.2).sized
+pub next-after-requires : goal.next-after-requires
+next-after-requires c = (term_next c.requires.tree.2).sized
 
 pub alike-requires : goal.alike-requires
-alike-requires c = individual_alike_pre c.if-x-n.false c.at-a.ensures.0 c.next.ensures c.next-2.ensures c.requires
+alike-requires c = individual_alike_pre c.if-x-n.false c.at-a.ensures.0 c.next-behind.ensures c.next-after.ensures c.requires
 
 pub returns-then-alike : goal.returns-then-alike
-returns-then-alike c = individual_same c.if-x-n.false c.at-a.ensures.0 c.next.ensures c.next-2.ensures c.alike.ensures (search rules)
+returns-then-alike c = individual_same c.if-x-n.false c.at-a.ensures.0 c.next-behind.ensures c.next-after.ensures c.alike.ensures (search rules)
 
 pub returns-else-alike : goal.returns-else-alike
-returns-else-alike c = individual_differs c.if-x-n.false c.at-a.ensures.0 c.next.ensures c.next-2.ensures c.alike.ensures (search rules)
+returns-else-alike c = individual_differs c.if-x-n.false c.at-a.ensures.0 c.next-behind.ensures c.next-after.ensures c.alike.ensures (search rules)

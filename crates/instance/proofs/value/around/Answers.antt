@@ -57,7 +57,7 @@ returns c =
     let left : ℕ = a.hole - a.start in
     let copied = c.copy_rows-end.ensures in
     around_is c.requires
-    (c.copy.ensures ∙ ap (λ (l : List ℕ). sets l a.to (along (number a.label.now) a.start left)) (rw (taken, end) at copied.labels))
+    (c.copy.ensures ∙ ap (λ (l : List ℕ). sets l a.to (along (number a.tree.now.label.now) a.start left)) (rw (taken, end) at copied.labels))
     ((rw taken at c.copy_above.ensures)
-    ∙ ap (λ (l : List ℕ). sets l a.to (along (resized a.size.now a.hole (get_or a.size.now a.hole 0) a.filled) a.start left)) (rw (taken, end) at copied.sizes))
+    ∙ ap (λ (l : List ℕ). sets l a.to (along (resized a.tree.now.size.now a.hole (get_or a.tree.now.size.now a.hole 0) a.filled) a.start left)) (rw (taken, end) at copied.sizes))
     (rw (taken, end) at copied.end)

@@ -28,10 +28,10 @@ use Rattle.instance.proofs.write.+headed_term.Tie.{close}
 
 -- twice the rows of the pattern term, and one more for `term`, which calls `headed` at the same row
 abbrev μ-headed : Measures 6 headed-kinds.ps ℕ
-μ-headed κs a = 2 * get_or (sizes_of a.1.1.0.now) a.1.1.1.1.0 0
+μ-headed κs a = 2 * get_or (sizes_of a.1.0.now) a.1.1.1.0 0
 
 abbrev μ-term : Measures 6 term-kinds.ps ℕ
-μ-term κs a = 2 * get_or (sizes_of a.1.1.0.now) a.1.1.1.1.0 0 + 1
+μ-term κs a = 2 * get_or (sizes_of a.1.0.now) a.1.1.1.0 0 + 1
 
 abbrev headed_at : ℕ → In 6 headed-kinds.ps
 headed_at t = and 6 headed-kinds.ps (is 6 headed-kinds.ps μ-headed t) headed.Pre
@@ -46,11 +46,11 @@ abbrev term_below : ℕ → In 6 term-kinds.ps
 term_below t = and 6 term-kinds.ps (falls 6 term-kinds.ps ◌<◌ μ-term t) term.Pre
 
 abbrev headed_inv_loop : headed-lts.invariant-loop-p
-headed_inv_loop label size pattern «record» row to out-label₀ out-size₀ last p₀ end₀ out_label out_size p end =
-    Writing label size pattern (names_of pattern) (sizes_of pattern) «record» out-label₀ out-size₀ (row + 1) last (to + 1) out_label out_size p end
+headed_inv_loop tree pattern «record» row to out-label₀ out-size₀ last p₀ end₀ out_label out_size p end =
+    Writing tree.label.now tree.size.now pattern (names_of pattern) (sizes_of pattern) «record» out-label₀ out-size₀ (row + 1) last (to + 1) out_label out_size p end
 
 abbrev headed-μ-loop : headed-lts.decreases-loop-p
-headed-μ-loop label size pattern «record» row to out-label₀ out-size₀ last p₀ end₀ out_label out_size p end = last - p
+headed-μ-loop tree pattern «record» row to out-label₀ out-size₀ last p₀ end₀ out_label out_size p end = last - p
 
 -- what the callees of `headed` ask and give
 abbrev headed_claims : ℕ → headed-lts.Claims
@@ -91,7 +91,7 @@ term_claims t = (
 -- the term has a head, and its arguments end before the row that was computed
 at_head : (t : ℕ) (c : headed-lts.After-next-last (headed_claims t) (headed_at t) headed.Post headed_inv_loop headed-μ-loop) →
     let a = c.args in
-    AtHead a.label.now a.size.now a.pattern.now (names_of a.pattern.now) (sizes_of a.pattern.now) a.«record».now a.out_label.now a.out_size.now a.row a.to c.next-last.result
+    AtHead a.tree.now.label.now a.tree.now.size.now a.pattern.now (names_of a.pattern.now) (sizes_of a.pattern.now) a.«record».now a.out_label.now a.out_size.now a.row a.to c.next-last.result
 at_head t c = record { asked = c.requires.1; next = c.next-last.ensures }
 
 -- an argument's row
@@ -105,14 +105,14 @@ argument_row t c = list_row c.loop-p.invariant.left.some.4 c.loop-p-test.true
 at_sequence : (t : ℕ) (c : headed-lts.After-name-variable (headed_claims t) (headed_at t) headed.Post headed_inv_loop headed-μ-loop) →
     let a = c.args in
     let l = c.loop-p in
-    AtSequence a.label.now a.size.now a.pattern.now (names_of a.pattern.now) (sizes_of a.pattern.now) a.«record».now l.out_label l.out_size l.p c.next-last.result l.end c.name-variable.result
+    AtSequence a.tree.now.label.now a.tree.now.size.now a.pattern.now (names_of a.pattern.now) (sizes_of a.pattern.now) a.«record».now l.out_label l.out_size l.p c.next-last.result l.end c.name-variable.result
 at_sequence t c = record { pre = c.loop-p.invariant.left; more = c.loop-p-test.true; kind = sym c.kind.ensures ∙ c.if-kind-eq-SEQUENCE.true; name = c.name-variable.ensures.0 }
 
 -- the argument is a term
 at_term : (t : ℕ) (c : headed-lts.Else-kind-eq-SEQUENCE (headed_claims t) (headed_at t) headed.Post headed_inv_loop headed-μ-loop) →
     let a = c.args in
     let l = c.loop-p in
-    AtTerm a.label.now a.size.now a.pattern.now (names_of a.pattern.now) (sizes_of a.pattern.now) a.«record».now l.out_label l.out_size l.p c.next-last.result l.end
+    AtTerm a.tree.now.label.now a.tree.now.size.now a.pattern.now (names_of a.pattern.now) (sizes_of a.pattern.now) a.«record».now l.out_label l.out_size l.p c.next-last.result l.end
 at_term t c = record { pre = c.loop-p.invariant.left; more = c.loop-p-test.true; kind = λ e. c.if-kind-eq-SEQUENCE.false (c.kind.ensures ∙ e) }
 
 headed_next_requires : (t : ℕ) → headed-lts.Need-next-last-requires (headed_claims t) (headed_at t) headed.Post headed_inv_loop headed-μ-loop
@@ -168,7 +168,7 @@ headed_loop_again_2 t c =
 headed_head_requires : (t : ℕ) → headed-lts.Need-head-requires (headed_claims t) (headed_at t) headed.Post headed_inv_loop headed-μ-loop
 headed_head_requires t c κs =
     let v = c.loop-p.invariant in
-    head_pre (at_head t c.before.before.before.before) (writing_done v c.loop-p-test.false) v.labelled v.sized
+    head_pre (at_head t c.before.before.before.before.before) (writing_done v c.loop-p-test.false) v.labelled v.sized
 
 headed_same_length : (t : ℕ) → headed-lts.Need-shape_of-out_label (headed_claims t) (headed_at t) headed.Post headed_inv_loop headed-μ-loop
 headed_same_length t c = c.head.auto.out_label ∙ c.loop-p.invariant.labelled
@@ -177,12 +177,12 @@ headed_same_length_2 : (t : ℕ) → headed-lts.Need-shape_of-out_size (headed_c
 headed_same_length_2 t c = c.head.auto.out_size ∙ c.loop-p.invariant.sized
 
 headed_returns : (t : ℕ) → headed-lts.Need-returns (headed_claims t) (headed_at t) headed.Post headed_inv_loop headed-μ-loop
-headed_returns t c = head_post (at_head t c.before.before.before.before.before.before.before.before.before) (writing_done c.loop-p.invariant c.loop-p-test.false) c.head.ensures
+headed_returns t c = head_post (at_head t c.before.before.before.before.before.before.before.before.before.before) (writing_done c.loop-p.invariant c.loop-p-test.false) c.head.ensures
 
 -- the term is a context variable
 at_context : (t : ℕ) (c : term-lts.After-name-x (term_claims t) (term_at t) term.Post) →
     let a = c.args in
-    AtContext a.label.now a.size.now a.pattern.now (names_of a.pattern.now) (sizes_of a.pattern.now) a.«record».now a.out_label.now a.out_size.now a.row a.to c.name-x.result
+    AtContext a.tree.now.label.now a.tree.now.size.now a.pattern.now (names_of a.pattern.now) (sizes_of a.pattern.now) a.«record».now a.out_label.now a.out_size.now a.row a.to c.name-x.result
 at_context t c = record { pre = c.requires.1; kind = sym c.kind-k.ensures ∙ c.if-k-eq-CONTEXT.true; name = c.name-x.ensures.0 }
 
 term_kind_requires : (t : ℕ) → term-lts.Need-kind-k-requires (term_claims t) (term_at t) term.Post
