@@ -53,7 +53,7 @@ fn refused() -> Checked
 // Whether the row has one argument, not a sequence variable.
 fn one_argument(pattern: &Pattern, row: usize) -> bool
     requires row_in { row < length pattern.now.kind.now }
-    requires lengths { SameLengths pattern.now }
+    requires lengths { length pattern.now.size.now ≡ length pattern.now.kind.now }
     ensures { Says result (OneArgumentAt pattern.now.kind.now pattern.now.size.now row) }
 {
     let first = row + 1;
@@ -72,7 +72,7 @@ fn one_argument(pattern: &Pattern, row: usize) -> bool
 // Whether the row's kind is one, and allows its size.
 fn sized(pattern: &Pattern, row: usize) -> bool
     requires row_in { row < length pattern.now.kind.now }
-    requires lengths { SameLengths pattern.now }
+    requires lengths { length pattern.now.size.now ≡ length pattern.now.kind.now }
     ensures { Says result (SizedAt pattern.now.kind.now pattern.now.size.now row) }
 {
     match pattern.kind[row] {
