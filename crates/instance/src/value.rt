@@ -18,6 +18,8 @@ pub fn copy(list: &[u32], from: usize, count: usize, out: &mut [u32], to: usize)
 }
 
 // Copies so many rows, to the rows from `to` on, and answers the row behind them.
+// The two lists that are written stay two parameters, here and in all that call it: into a struct of two `&mut` a function could put other
+// lists, so that each clause had to say besides that it holds the same two (their ghost names) and that they are as long as before.
 fn copy_rows(
     tree: &Tree,
     from: usize,

@@ -65,13 +65,11 @@ fn all_obey(problem: &Problem, tables: &[u64; 320], variables: &Variables, recor
     requires { AllPre (lists problem.now) tables.now variables.now «record».now }
     ensures { AllPost (lists problem.now) tables.now variables.now «record».now result }
 {
-    let tree = problem.tree;
     for x in 0..variables.count {
         let a = record[x + x] as usize;
         let b = record[x + x + 1] as usize;
         if !problem::allowed(
-            tree.label,
-            tree.size,
+            &problem.tree,
             tables,
             problem.constraint,
             &variables.kinds,
