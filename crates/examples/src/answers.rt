@@ -1,26 +1,30 @@
 // One function for each word: it hands the line's lists to the check or the test of that name. None where there are more lists or fewer than it takes.
+use expression::Table;
+use meaning::Refusal;
+use pattern::Pattern;
+use problem::Problem;
 use std::io;
-use test::Tested;
+use tree::Tree;
 
 fn tree(lists: &[Vec<u32>]) -> Option<bool> {
     let [label, size] = lists else {
         return None;
     };
-    Some(tree::good(label, size))
+    Some(tree::good(&Tree { label, size }))
 }
 
 fn pattern(lists: &[Vec<u32>]) -> Option<bool> {
     let [kind, name, size] = lists else {
         return None;
     };
-    Some(pattern::check(kind, name, size).good)
+    Some(pattern::check(&Pattern { kind, name, size }).good)
 }
 
 fn expression(lists: &[Vec<u32>]) -> Option<bool> {
     let [kind, name, size] = lists else {
         return None;
     };
-    Some(expression::good(kind, name, size))
+    Some(expression::good(&Table { kind, name, size }))
 }
 
 fn constraint(lists: &[Vec<u32>]) -> Option<bool> {
@@ -36,19 +40,28 @@ fn constraint(lists: &[Vec<u32>]) -> Option<bool> {
     else {
         return None;
     };
-    Some(constraint::good(
-        kind, name, size, table_kind, table_name, table_size, constraint,
-    ))
+    let pattern = Pattern { kind, name, size };
+    let table = Table {
+        kind: table_kind,
+        name: table_name,
+        size: table_size,
+    };
+    Some(constraint::good(&pattern, &table, constraint))
 }
 
 fn record(lists: &[Vec<u32>]) -> Option<bool> {
     let [label, size, kind, name, pattern_size, record] = lists else {
         return None;
     };
-    Some(record::good(label, size, kind, name, pattern_size, record))
+    let pattern = Pattern {
+        kind,
+        name,
+        size: pattern_size,
+    };
+    Some(record::good(&Tree { label, size }, &pattern, record))
 }
 
-fn test(lists: &[Vec<u32>]) -> Option<Tested> {
+fn test(lists: &[Vec<u32>]) -> Option<Result<bool, Refusal>> {
     let [
         label,
         size,
@@ -64,18 +77,21 @@ fn test(lists: &[Vec<u32>]) -> Option<Tested> {
     else {
         return None;
     };
-    Some(test::test(
-        label,
-        size,
-        kind,
-        name,
-        pattern_size,
-        table_kind,
-        table_name,
-        table_size,
+    let problem = Problem {
+        tree: Tree { label, size },
+        pattern: Pattern {
+            kind,
+            name,
+            size: pattern_size,
+        },
+        table: Table {
+            kind: table_kind,
+            name: table_name,
+            size: table_size,
+        },
         constraint,
-        record,
-    ))
+    };
+    Some(test::test(&problem, record))
 }
 
 pub fn unreadable(rt: &impl Print) -> io::Result<()> {
@@ -90,11 +106,11 @@ fn checked(rt: &impl Print, good: Option<bool>) -> io::Result<()> {
     }
 }
 
-fn tested(rt: &impl Print, answer: Option<Tested>) -> io::Result<()> {
+fn tested(rt: &impl Print, answer: Option<Result<bool, Refusal>>) -> io::Result<()> {
     match answer {
-        Some(Tested::Refused(problem)) => println!(rt; ": refused {problem}"),
-        Some(Tested::Yes) => println!(rt; ": yes"),
-        Some(Tested::No) => println!(rt; ": no"),
+        Some(Err(refusal)) => println!(rt; ": refused {}", u32::from(refusal)),
+        Some(Ok(true)) => println!(rt; ": yes"),
+        Some(Ok(false)) => println!(rt; ": no"),
         None => unreadable(rt),
     }
 }

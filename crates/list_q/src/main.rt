@@ -1,40 +1,44 @@
 // Reads a document from standard input and lists Q on it: context 0 over f(sequence 1), with the dictionary g, f, h, a, b.
 #![tactic(auto)]
 
+use expression::Table;
+use pattern::Pattern;
+use problem::Problem;
 use std::io;
 use std::io::Read;
+use tree::Tree;
 
 // The most rows that a document has.
 const ROWS: usize = 2048;
 
-fn list_q(rt: &impl Print, label: &[u32], size: &[u32]) -> io::Result<()> {
-    let kind = [4, 0, 2];
-    // f is an element of number 1: label 2.
-    let name = [0, 2, 1];
-    let pattern_size = [3, 2, 1];
-    let constraint = [0; 4];
+fn list_q(rt: &impl Print, tree: Tree<'_>) -> io::Result<()> {
+    let problem = Problem {
+        tree,
+        pattern: Pattern {
+            kind: &[4, 0, 2],
+            // f is an element of number 1: label 2.
+            name: &[0, 2, 1],
+            size: &[3, 2, 1],
+        },
+        table: Table {
+            kind: &[],
+            name: &[],
+            size: &[],
+        },
+        constraint: &[0; 4],
+    };
     // Room for 64 records. Q has two variables, so a record is four numbers.
     let mut out = [[0; 4]; 64];
-    let listed = lister::list(
-        label,
-        size,
-        &kind,
-        &name,
-        &pattern_size,
-        &[],
-        &[],
-        &[],
-        &constraint,
-        1000,
-        out.as_flattened_mut(),
-    );
-    for [start, hole, first, count] in out.iter().take(listed.records) {
-        println!(rt; "{start} {hole} {first} {count}")?;
+    match lister::list(&problem, 1000, out.as_flattened_mut()) {
+        Err(refusal) => println!(rt; "{} 0 0 0", u32::from(refusal)),
+        Ok(found) => {
+            for [start, hole, first, count] in out.iter().take(found.records) {
+                println!(rt; "{start} {hole} {first} {count}")?;
+            }
+            let ending = u32::from(found.ending);
+            println!(rt; "0 {ending} {} {}", found.records, found.tries)
+        }
     }
-    println!(rt;
-        "{} {} {} {}",
-        listed.code, listed.ending, listed.records, listed.tries
-    )
 }
 
 fn answer(rt: &impl Print, document: &[u8]) -> io::Result<()> {
@@ -42,20 +46,24 @@ fn answer(rt: &impl Print, document: &[u8]) -> io::Result<()> {
     let mut size = [0; ROWS];
     let mut start = [0; ROWS];
     let mut length = [0; ROWS];
-    let read = document::read(
+    match document::read(
         b"g\nf\nh\na\nb\n",
         document,
         &mut label,
         &mut size,
         &mut start,
         &mut length,
-    );
-    let code = read.code;
-    if code != 0 {
-        return println!(rt; "refused {code} {}", read.place);
+    ) {
+        Err(refusal) => println!(rt; "refused {} {}", u32::from(refusal), refusal.place()),
+        Ok(rows) => {
+            let rows = rows as usize;
+            let tree = Tree {
+                label: &label[..rows],
+                size: &size[..rows],
+            };
+            list_q(rt, tree)
+        }
     }
-    let rows = read.rows as usize;
-    list_q(rt, &label[..rows], &size[..rows])
 }
 
 // Reads once and drops what came. Is there more?

@@ -1,12 +1,17 @@
 -- The promises settle the answers of the list and of a page, and the lent list afterwards.
 use Prim.Native.Nat.{ℕ}
-use mathlib.Core.Path.{◌≡◌, ap, ◌∙◌, sym}
+use mathlib.Core.Path.{◌≡◌, refl, ap, ◌∙◌, sym}
 use mathlib.Core.Logic.{inl, inr}
+use mathlib.Core.Bool.{cond}
 use mathlib.Core.List.{List}
+use lib.Dec.{eqb}
 use native.Mathlib.Omega.{arith}
 use native.Mathlib.Decide.{ℕ_discrete}
 use Rattle.std.specs.Prelude.{Result, Ok, Err}
 use Rattle.meaning.specs.Calls.{accept}
+use Rattle.meaning.specs.Ending.{number}
+use Rattle.meaning.specs.declared.endings.Ending.{Ending}
+use Rattle.meaning.specs.declared.endings.Ending.TheVariants.{All, Room, Budget}
 use Rattle.meaning.specs.declared.refusal.Refusal.{Refusal}
 use Rattle.meaning.specs.Record.{IsRecord}
 use Rattle.constraint.specs.Obeys.{Allowed}
@@ -20,9 +25,23 @@ use Rattle.catalogue.proofs.Pages.{one_page}
 use Rattle.lister.specs.Listed.{Listed, told, Settled}
 use Rattle.lister.specs.Page.{RecordCodes, PageCodes, PageSettled}
 
+-- the ending of a number
+abbrev of_number : ℕ → Ending
+of_number n = cond (eqb n 0) All (cond (eqb n 1) Room Budget)
+
+of_its_number : (a : Ending) → of_number (number a) ≡ a
+of_its_number All = refl
+of_its_number Room = refl
+of_its_number Budget = refl
+
+one_ending : (a b : Ending) → number a ≡ number b → a ≡ b
+one_ending a b e = sym (of_its_number a) ∙ ap of_number e ∙ of_its_number b
+
 -- no two answers have the same numbers
 pub one_told : (r s : Result Found Refusal) → told r ≡ told s → r ≡ s
-one_told (Ok f) (Ok g) e = ap Ok (λ i. record { ending = (e i).ending; records = (e i).records; tries = (e i).tries })
+one_told (Ok f) (Ok g) e =
+    let same : f.ending ≡ g.ending = one_ending f.ending g.ending (ap (λ (l : Listed). l.ending) e) in
+    ap Ok (λ i. record { ending = same i; records = (e i).records; tries = (e i).tries })
 one_told (Ok f) (Err d) e = absurd (code_some d (sym (ap (λ (l : Listed). l.code) e)))
 one_told (Err d) (Ok g) e = absurd (code_some d (ap (λ (l : Listed). l.code) e))
 one_told (Err d) (Err k) e = ap Err (one_refusal d k (ap (λ (l : Listed). l.code) e))

@@ -43,9 +43,7 @@ fn list_checked(variables: &Variables, problem: &Problem, budget: u32, out: &mut
     );
     let width = variables.count + variables.count;
     let room = room_for(out.len(), width);
-    begin(
-        &problem.tree, &packed, &tables, budget, room, width, out,
-    )
+    begin(&problem.tree, &packed, &tables, budget, room, width, out)
 }
 
 // The list, of a tree that has been judged: where many problems are asked of one tree, it is judged once.
@@ -111,7 +109,14 @@ pub fn list_after(
     );
     let room = room_for(out.len(), width);
     match resume(
-        &problem.tree, &packed, &tables, record, budget, room, width, out,
+        &problem.tree,
+        &packed,
+        &tables,
+        record,
+        budget,
+        room,
+        width,
+        out,
     ) {
         None => {
             let kinds = checked.kinds;

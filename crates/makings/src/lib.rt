@@ -4,32 +4,18 @@
 pub mod parts;
 pub mod printing;
 
-use instance::Made;
 use lines::lists::{BEFORE, read_lists, unchanged};
 use parts::room;
+use pattern::Pattern;
 use printing::{Bracketed, unreadable};
 use std::io;
+use tree::Tree;
 
 // So many numbers fit the lists of a line.
 const NUMBERS: usize = 2048;
 
 // A little more than the most rows of an instance.
 const ROWS: usize = 2100;
-
-// A tree's lists.
-#[derive(Clone, Copy)]
-pub struct Tree<'a> {
-    pub label: &'a [u32],
-    pub size: &'a [u32],
-}
-
-// A pattern's lists.
-#[derive(Clone, Copy)]
-pub struct Pattern<'a> {
-    pub kind: &'a [u32],
-    pub name: &'a [u32],
-    pub size: &'a [u32],
-}
 
 // The lists that the instance maker is lent.
 #[derive(Drop)]
@@ -44,29 +30,6 @@ impl Lent {
             label: [BEFORE; ROWS],
             size: [BEFORE; ROWS],
         }
-    }
-}
-
-// How many rows it makes on the two lists, or the code of its refusal.
-fn make(
-    tree: &Tree<'_>,
-    pattern: &Pattern<'_>,
-    record: &[u32],
-    label: &mut [u32],
-    size: &mut [u32],
-) -> Result<usize, u32> {
-    match instance::instance(
-        tree.label,
-        tree.size,
-        pattern.kind,
-        pattern.name,
-        pattern.size,
-        record,
-        label,
-        size,
-    ) {
-        Made::Refused(code) => Err(code),
-        Made::Rows(rows) => Ok(rows),
     }
 }
 
@@ -92,8 +55,8 @@ pub fn of_record(
     record: &[u32],
 ) -> io::Result<()> {
     let mut made = Lent::new();
-    match make(tree, pattern, record, &mut made.label, &mut made.size) {
-        Err(code) => print!(rt; " refused {code}"),
+    match instance::instance(tree, pattern, record, &mut made.label, &mut made.size) {
+        Err(refusal) => print!(rt; " refused {}", u32::from(refusal)),
         Ok(rows) => {
             print!(rt; " rows {rows}")?;
             print_kept(rt, &made, rows)?;
@@ -120,15 +83,15 @@ pub fn instance(rt: &(impl Print + AllocGlobal), tree: &Tree<'_>, lists: &[u8]) 
     let mut made = Lent::new();
     let labels = room(labels, &made.label);
     let sizes = room(sizes, &made.size);
-    match make(
+    match instance::instance(
         tree,
         &Pattern { kind, name, size },
         record,
         &mut made.label[..labels],
         &mut made.size[..sizes],
     ) {
-        Err(code) => {
-            print!(rt; " {code} 0")?;
+        Err(refusal) => {
+            print!(rt; " {} 0", u32::from(refusal))?;
             print_kept(rt, &made, 0)
         }
         Ok(rows) => {

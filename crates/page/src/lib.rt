@@ -78,16 +78,7 @@ pub fn reach(
             }
             Err(Halt::Need(w)) => {
                 let t = choose(tree.size, pattern, list, at, levels, depth, w)?;
-                o = attempt(
-                    tree,
-                    pattern,
-                    tables,
-                    record,
-                    at,
-                    t,
-                    &mut memory,
-                    &mut path,
-                );
+                o = attempt(tree, pattern, tables, record, at, t, &mut memory, &mut path);
                 depth += 1;
             }
         }

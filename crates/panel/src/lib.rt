@@ -12,7 +12,6 @@ use answer::Listing;
 use meaning::Refusal;
 use portion::Reach;
 use problem::Problem;
-use tree::at;
 
 // What is asked: the tree and the tables of all problems, laid end to end; for each problem how long its parts of the tables are, its budget,
 // and its share of the entries that are lent.

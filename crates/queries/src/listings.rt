@@ -1,48 +1,18 @@
 // A problem on a tree: what the lister answers, and the instance of each record.
+use expression::Table;
 use lines::lists::{BEFORE, read_lists, unchanged};
 use makings::parts::{only, room};
 use makings::printing::{Bracketed, unreadable};
-use makings::{Pattern, Tree};
+use pattern::Pattern;
+use problem::Problem;
 use std::io;
+use tree::Tree;
 
 // So many numbers fit the lists of a problem.
 const NUMBERS: usize = 2048;
 
 // The longest list that is lent for the records.
 const RECORDS: usize = 4096;
-
-// An expression table's lists.
-#[derive(Clone, Copy)]
-struct Table<'a> {
-    kind: &'a [u32],
-    name: &'a [u32],
-    size: &'a [u32],
-}
-
-// A problem's lists.
-#[derive(Clone, Copy)]
-struct Problem<'a> {
-    tree: Tree<'a>,
-    pattern: Pattern<'a>,
-    table: Table<'a>,
-    constraint: &'a [u32],
-}
-
-fn listed(problem: &Problem<'_>, budget: u32, out: &mut [u32]) -> lister::Listed {
-    lister::list(
-        problem.tree.label,
-        problem.tree.size,
-        problem.pattern.kind,
-        problem.pattern.name,
-        problem.pattern.size,
-        problem.table.kind,
-        problem.table.name,
-        problem.table.size,
-        problem.constraint,
-        budget,
-        out,
-    )
-}
 
 // Prints the records, each with its instance. Where a problem is not refused, the constraint list is as long as a record.
 fn print_records(
@@ -74,12 +44,17 @@ fn list_problem(
 ) -> io::Result<()> {
     let mut out = [BEFORE; RECORDS];
     let lent = room(wanted, &out);
-    let answer = listed(problem, only(budget).unwrap_or(0), &mut out[..lent]);
-    print!(rt;
-        " {} {} {} {}",
-        answer.code, answer.ending, answer.records, answer.tries
-    )?;
-    print_records(rt, problem, &out, answer.records)
+    match lister::list(problem, only(budget).unwrap_or(0), &mut out[..lent]) {
+        Ok(found) => {
+            let ending = u32::from(found.ending);
+            print!(rt; " 0 {ending} {} {}", found.records, found.tries)?;
+            print_records(rt, problem, &out, found.records)
+        }
+        Err(refusal) => {
+            print!(rt; " {} 0 0 0", u32::from(refusal))?;
+            print_records(rt, problem, &out, 0)
+        }
+    }
 }
 
 pub fn list(rt: &(impl Print + AllocGlobal), tree: Tree<'_>, problem: &[u8]) -> io::Result<()> {

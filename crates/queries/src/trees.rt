@@ -1,10 +1,10 @@
 // The tree of a line: its two lists, or a document.
 use crate::listings;
 use lines::lists::read_lists;
-use makings::Tree;
 use makings::printing::unreadable;
 use std::alloc::{AllocError, Global};
 use std::io;
+use tree::Tree;
 
 // So many numbers fit the lists of a tree.
 const NUMBERS: usize = 4200;
@@ -44,25 +44,24 @@ pub fn document(
     let mut size = [0u32; ROWS];
     let mut start = [0u32; ROWS];
     let mut length = [0u32; ROWS];
-    let read = document::read(
+    match document::read(
         dictionary,
         bytes,
         &mut label,
         &mut size,
         &mut start,
         &mut length,
-    );
-    let code = read.code;
-    if code != 0 {
-        let place = read.place;
-        return print!(rt; " refused {code} {place}");
+    ) {
+        Err(refusal) => print!(rt; " refused {} {}", u32::from(refusal), refusal.place()),
+        Ok(rows) => {
+            let rows = ROWS.min(rows as usize);
+            let tree = Tree {
+                label: &label[..rows],
+                size: &size[..rows],
+            };
+            listings::list(rt, tree, problem)
+        }
     }
-    let rows = ROWS.min(read.rows as usize);
-    let tree = Tree {
-        label: &label[..rows],
-        size: &size[..rows],
-    };
-    listings::list(rt, tree, problem)
 }
 
 // A problem on a tree's two lists.

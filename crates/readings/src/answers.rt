@@ -1,7 +1,7 @@
 // What the reader answers on one line, and whether it kept to its lists and agrees with the check.
 ghost use Rattle.std.specs.Prelude.{◌≤◌};
 
-use judge::Judged;
+use judge::refusal::Refusal;
 use lines::lists::{BEFORE, unchanged};
 use std::{fmt, io};
 
@@ -48,12 +48,16 @@ fn room(rooms: &[u8], number: usize) -> usize
 }
 
 // The check has no room limit, so that where the reader lacks room it must accept.
-fn agrees(read: &Judged, checked: u64) -> bool {
-    if read.code == 6 {
-        return checked >> 32 == 0;
+fn agrees(read: Result<u32, Refusal>, checked: u64) -> bool {
+    let code = checked >> 32;
+    let rest = checked % 4294967296;
+    match read {
+        Ok(rows) => code == 0 && rest == u64::from(rows),
+        Err(Refusal::NoRoom) => code == 0,
+        Err(refusal) => {
+            code == u64::from(u32::from(refusal)) && rest == u64::from(refusal.place())
+        }
     }
-    checked >> 32 == u64::from(read.code)
-        && checked % 4294967296 == u64::from(read.place) + u64::from(read.rows)
 }
 
 // The first numbers of a list, with a space in front of each.
@@ -97,16 +101,28 @@ fn print_lists(rt: &impl Print, lists: &Lent, rows: usize) -> io::Result<()> {
     }
 }
 
-fn print_answer(rt: &impl Print, read: Judged, checked: u64, lists: &Lent) -> io::Result<()> {
-    print!(rt;
-        ": code {} place {} rows {}",
-        read.code, read.place, read.rows
-    )?;
-    if !agrees(&read, checked) {
+fn print_answer(
+    rt: &impl Print,
+    read: Result<u32, Refusal>,
+    checked: u64,
+    lists: &Lent,
+) -> io::Result<()> {
+    let rows = read.unwrap_or(0);
+    match read {
+        Ok(_) => print!(rt; ": code 0 place 0 rows {rows}")?,
+        Err(refusal) => {
+            print!(rt;
+                ": code {} place {} rows 0",
+                u32::from(refusal),
+                refusal.place()
+            )?
+        }
+    }
+    if !agrees(read, checked) {
         print!(rt; ", check differs")?;
     }
-    let rows = read.rows as usize;
-    if read.code == 0 {
+    let rows = rows as usize;
+    if read.is_ok() {
         print_lists(rt, lists, rows)?;
     }
     // In a refusal the rows are 0.

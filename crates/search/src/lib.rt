@@ -78,16 +78,7 @@ pub fn go(
         }
         let t = next_try(tree, pattern, at, levels, depth - 1, budget, tries);
         tries = tries + t.failed + 1;
-        match attempt(
-            tree,
-            pattern,
-            tables,
-            record,
-            at,
-            t,
-            &mut memory,
-            &mut path,
-        ) {
+        match attempt(tree, pattern, tables, record, at, t, &mut memory, &mut path) {
             Err(Halt::Fail) => {}
             Err(Halt::Need(w)) => {
                 deeper(tree.size, pattern, at, levels, depth, t.p, t.u, t.left, w);

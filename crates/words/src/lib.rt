@@ -62,7 +62,7 @@ fn same_words(left: &[u8], at: usize, right: &[u8], from: usize, length: usize) 
     word(left, at + rest) == word(right, from + rest)
 }
 
-// Are the `length` bytes of `left` from `at` those of `right` from `from`?
+// Are the `length` bytes of `left` from `at` those of `right` from `from`? The `==` of slices alone makes the reader an eighth slower.
 pub fn same(left: &[u8], at: usize, right: &[u8], from: usize, length: usize) -> bool
     requires { (at + length ≤ lib.ListN.length left.now) × (from + length ≤ lib.ListN.length right.now) }
     ensures { Says result (Again left.now at right.now from length) }
