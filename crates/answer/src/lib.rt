@@ -11,6 +11,7 @@ ghost use Rattle.answer.specs.Answers.{number};
 use meaning::Refusal;
 use search::Found;
 
+// Codes and other numbers side by side, and no Result: these are the structs that C is given.
 #[repr(C)]
 #[derive(Drop)]
 pub struct Reading {

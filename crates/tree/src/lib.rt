@@ -15,7 +15,7 @@ pub struct Tree<'a> {
     pub size: &'a [u32],
 }
 
-// The number at i.
+// The number at i as a place, by one name: `s[i] as usize` in forty places would say no more, and each would ask again that i is in the list.
 pub fn at(s: &[u32], i: usize) -> usize
     requires { i < length s.now }
     ensures { (result ≡ get_or s.now i 0) × (result < 4294967296) }
