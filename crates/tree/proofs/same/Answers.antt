@@ -5,14 +5,14 @@ use Rattle.tree.proofs.same.Goals as goal
 pub loop-i-init : goal.loop-i-init
 loop-i-init c = record { each = below_none _ }
 
-pub returns-then-tree-a : goal.returns-then-tree-a
-returns-then-tree-a c = says_no (λ h. c.if-tree-a.true (grind (arith, h.each)))
+pub returns-then-label-a : goal.returns-then-label-a
+returns-then-label-a c = says_no (λ h. c.if-label-a.true (grind (arith, h.each)))
 
-pub returns-then-tree-a-2 : goal.returns-then-tree-a-2
-returns-then-tree-a-2 c = says_no (λ h. c.if-tree-a-2.true (h.each c.loop-i.i c.loop-i-test.true).1)
+pub returns-then-size-a : goal.returns-then-size-a
+returns-then-size-a c = says_no (λ h. c.if-size-a.true (h.each c.loop-i.i c.loop-i-test.true).1)
 
 pub loop-i-preserved : goal.loop-i-preserved
-loop-i-preserved c = record { each = below_more _ _ c.loop-i.invariant.each (c.if-tree-a.false, c.if-tree-a-2.false) }
+loop-i-preserved c = record { each = below_more _ _ c.loop-i.invariant.each (c.if-label-a.false, c.if-size-a.false) }
 
 pub returns : goal.returns
 returns c = says_yes (record { each = λ i h. c.loop-i.invariant.each i (omega arith) })
