@@ -2,10 +2,10 @@
 use Prim.Native.Nat.{ℕ, zero, suc}
 use mathlib.Core.Path.{◌≡◌, refl, sym, ap, ◌∙◌}
 use mathlib.Core.List.{List, ◌∷◌, map}
-use lib.ListN.{length, get_or, set, replicate, length-set, length-map, length-replicate, get_or-map}
+use lib.ListN.{length, get_or, set, replicate, length-set, length-map, get_or-map}
 use lib.Seq.{map-set, map-set_same}
 use Rattle.levels.specs.declared.Level.{Level}
-use Rattle.levels.specs.Columns.{places, variables, starts, rows, nexts, lefts, unentered, Inside, LevelAt, Moved, Entered}
+use Rattle.levels.specs.Columns.{places, variables, starts, rows, nexts, lefts, unentered, LevelAt, Moved, Entered}
 
 -- the columns are as long as there may be levels
 pub record ColumnsLong (G X St U Nx F : List ℕ) : Type 0 where

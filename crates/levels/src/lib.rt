@@ -5,7 +5,7 @@ ghost use Rattle.std.specs.Prelude.{◌≡◌, ◌+◌, ◌<◌, ◌≤◌, leng
 ghost use Rattle.catalogue.proofs.Back.{BackTo};
 ghost use Rattle.walk.specs.Packed.{root_of};
 ghost use Rattle.memory.specs.Memory.{Both};
-ghost use Rattle.levels.specs.Columns.{lefts, Inside, LevelAt, Moved, Entered};
+ghost use Rattle.levels.specs.Columns.{lefts, Inside, Moved, Entered};
 ghost use Rattle.levels.specs.Levels.{AttemptPre, AttemptPost};
 ghost use Rattle.levels.specs.Steps.{NextPre, NextPost, DeeperPre, DeeperPost};
 
