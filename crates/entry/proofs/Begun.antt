@@ -34,7 +34,8 @@ use Rattle.search.specs.declared.Found.{Found}
 use Rattle.levels.proofs.Going.{is_fixed, Asks, asks_stop, asks_values, asks_level}
 use Rattle.levels.proofs.First.{first_asked, first_marks, first_long, first_answered, first_asks}
 use Rattle.levels.proofs.Pauses.{pauses_none}
-use Rattle.levels.specs.Columns.{places, variables, starts, rows, nexts, lefts, Entered}
+use Rattle.levels.specs.declared.Level.{Level}
+use Rattle.levels.specs.Columns.{places, variables, starts, rows, nexts, lefts, unentered, Entered}
 use Rattle.levels.proofs.Columns.{first_level}
 use Rattle.entry.specs.Begun.{BeginAsked, BeginPre, BeginPost}
 
@@ -155,8 +156,8 @@ module _ {L S M tables : List ℕ} {room width : ℕ} {before : List ℕ} where
             let h = b.pre.some in
             record { record_long = walked_long; some = (h.0, h.1, h.2, h.3, h.4, none, asked h.5) }
 
-        -- the levels in one list
-        module _ {W : List ℕ} (w : Entered (replicate 1536 0) 0 p x s lo n W) where
+        -- the levels of the code
+        module _ {W : List Level} (w : Entered (replicate 256 unentered) 0 p x s lo n W) where
           pub go_asked : GoPre L S M tables room width R' A' (places W) (variables W) (starts W) (rows W) (nexts W) (lefts W) 1 before
           go_asked =
               let f = first_level w in

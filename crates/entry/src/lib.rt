@@ -27,7 +27,7 @@ pub fn begin(
     match walk::begin(tree, pattern, &mut record, &mut at) {
         Err(Halt::Fail) => search::ended(Ending::All, 0, 0),
         Err(Halt::Need(w)) => {
-            let mut levels = [0usize; 1536];
+            let mut levels = [levels::UNENTERED; 256];
             let least = choice::least(pattern, w.place, w.start);
             let values = choice::values(tree.size, pattern, &at, w.place, w.start);
             levels::enter(&mut levels, 0, w, least, values);
@@ -79,7 +79,7 @@ pub fn resume(
     };
     let mut record = [0u32; 32];
     let mut at = [0usize; 256];
-    let mut levels = [0usize; 1536];
+    let mut levels = [levels::UNENTERED; 256];
     let depth = page::reach(
         tree,
         pattern,

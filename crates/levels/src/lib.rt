@@ -5,7 +5,7 @@ ghost use Rattle.std.specs.Prelude.{◌≡◌, ◌+◌, ◌<◌, ◌≤◌, leng
 ghost use Rattle.catalogue.proofs.Back.{BackTo};
 ghost use Rattle.walk.specs.Packed.{root_of};
 ghost use Rattle.memory.specs.Memory.{Both};
-ghost use Rattle.levels.specs.Columns.{lefts, Inside, LevelAt, Moved, Entered};
+ghost use Rattle.levels.specs.Columns.{lefts, Inside, Moved, Entered};
 ghost use Rattle.levels.specs.Levels.{AttemptPre, AttemptPost};
 ghost use Rattle.levels.specs.Steps.{NextPre, NextPost, DeeperPre, DeeperPost};
 
@@ -14,8 +14,8 @@ use walk::Halt;
 
 // A level: the pattern row of its variable, the variable, the row where it starts, the row at which the walk goes on with the next
 // value, that value, and how many are left.
-#[derive(Drop)]
-struct Level {
+#[derive(Clone, Copy)]
+pub struct Level {
     pub place: usize,
     pub variable: usize,
     pub start: usize,
@@ -24,52 +24,49 @@ struct Level {
     pub left: usize,
 }
 
-// What stands at the level d.
-fn standing(levels: &[usize; 1536], d: usize) -> Level
-    requires { Inside levels.now d }
-    ensures { LevelAt levels.now d result.place result.variable result.start result.row result.next result.left }
-{
-    let at = 6 * d;
-    Level {
-        place: levels[at],
-        variable: levels[at + 1],
-        start: levels[at + 2],
-        row: levels[at + 3],
-        next: levels[at + 4],
-        left: levels[at + 5],
-    }
-}
+// A level before it is entered.
+pub const UNENTERED: Level = Level {
+    place: 0,
+    variable: 0,
+    start: 0,
+    row: 0,
+    next: 0,
+    left: 0,
+};
 
 // The level d goes on to its next value.
-pub fn advance(levels: &mut [usize; 1536], d: usize, row: usize, next: usize, left: usize)
+pub fn advance(levels: &mut [Level; 256], d: usize, row: usize, next: usize, left: usize)
     requires { Inside levels.old d }
     ensures { Moved levels.old d row next left levels.new }
 {
-    let at = 6 * d;
-    levels[at + 3] = row;
-    levels[at + 4] = next;
-    levels[at + 5] = left;
+    let level = &mut levels[d];
+    level.row = row;
+    level.next = next;
+    level.left = left;
 }
 
 // The level d is for the variable that the walk stopped at, with so many values from the least on.
-pub fn enter(levels: &mut [usize; 1536], d: usize, w: walk::Stop, least: usize, values: usize)
+pub fn enter(levels: &mut [Level; 256], d: usize, w: walk::Stop, least: usize, values: usize)
     requires { Inside levels.old d }
     ensures { Entered levels.old d w.place w.variable w.start least values levels.new }
 {
-    let at = 6 * d;
-    levels[at] = w.place;
-    levels[at + 1] = w.variable;
-    levels[at + 2] = w.start;
-    advance(levels, d, w.start, least, values);
+    levels[d] = Level {
+        place: w.place,
+        variable: w.variable,
+        start: w.start,
+        row: w.start,
+        next: least,
+        left: values,
+    };
 }
 
 // The depth with the levels taken off that have nothing left.
-pub fn back(levels: &[usize; 1536], depth: usize) -> usize
-    requires { (depth ≤ 256) × (length levels.now ≡ 1536) }
+pub fn back(levels: &[Level; 256], depth: usize) -> usize
+    requires { (depth ≤ 256) × (length levels.now ≡ 256) }
     ensures { BackTo (lefts levels.now) depth result }
 {
     for d in (1..=depth).rev() {
-        if levels[6 * (d - 1) + 5] != 0 {
+        if levels[d - 1].left != 0 {
             return d;
         }
     }
@@ -107,7 +104,7 @@ pub fn next_try(
     tree: &Tree,
     pattern: &[u32; 1536],
     at: &[usize; 256],
-    levels: &mut [usize; 1536],
+    levels: &mut [Level; 256],
     d: usize,
     budget: u32,
     tries: u32,
@@ -115,7 +112,7 @@ pub fn next_try(
     requires { NextPre tree.now.label.now tree.now.size.now pattern.now at.now levels.old d budget tries }
     ensures { NextPost tree.now.label.now tree.now.size.now pattern.now at.now levels.old d budget tries levels.new result.p result.x result.s result.u result.v result.left result.failed }
 {
-    let l = standing(levels, d);
+    let l = levels[d];
     let limit = spare(l.left, budget, tries);
     let run = choice::skip(tree, pattern, at, l.place, l.row, l.left, limit);
     let value = l.next + run.count;
@@ -139,7 +136,7 @@ pub fn deeper(
     size: &[u32],
     pattern: &[u32; 1536],
     at: &[usize; 256],
-    levels: &mut [usize; 1536],
+    levels: &mut [Level; 256],
     d: usize,
     q: usize,
     u: usize,

@@ -25,6 +25,7 @@ use Rattle.record.specs.Copied.{Copied}
 use Rattle.catalogue.proofs.Later.{later_start}
 use Rattle.levels.specs.Columns.{places, variables, starts, rows, nexts, lefts}
 use Rattle.levels.specs.Levels.{AttemptPre, AttemptPost}
+use Rattle.levels.specs.declared.Level.{Level}
 use Rattle.levels.specs.declared.Try.{Try}
 use Rattle.levels.proofs.Columns.{columns_long}
 use Rattle.levels.proofs.First.{first_asked, first_marks, first_long, first_answered, first_asks}
@@ -34,13 +35,13 @@ use Rattle.page.specs.Page.{ChoosePre, ChoosePost, outside, value, ReachAsked, R
 use Rattle.page.proofs.Stood.{Stood, stood_fails, stood_other, stood_record, stood_later, stood_stop, stood_deep, stood_read, stood_beyond, stood_landing, stood_further, stood_attempt, stood_tried}
 
 -- at the loop's head
-pub record OnTheWay (L S M tables list R A W : List ℕ) (o : Result ℕ Halt) (depth : ℕ) : Type 0 where
+pub record OnTheWay (L S M tables list R A : List ℕ) (W : List Level) (o : Result ℕ Halt) (depth : ℕ) : Type 0 where
   pub record_long : length R ≡ 32
-  pub levels_long : length W ≡ 1536
+  pub levels_long : length W ≡ 256
   pub each : {T : Term} {P : Pattern} {Q : List Kind} {es : List Expression} {cs : List Constraint} (a : ReachAsked L S M tables list T P Q es cs)
       → Stood a R A (places W) (variables W) (starts W) (rows W) (nexts W) (lefts W) o depth
 
-module _ {L S M tables list R A W : List ℕ} (pre : ReachPre L S M tables list R A W) where
+module _ {L S M tables list R A : List ℕ} {W : List Level} (pre : ReachPre L S M tables list R A W) where
   pub reach_begins : BeginPre L S M R A
   reach_begins = let s = pre.some in record { some = (s.0, s.1, s.2, first_asked s.5.search pre.record_long pre.rows_long) }
 
@@ -66,7 +67,7 @@ module _ {L S M tables list R A W : List ℕ} (pre : ReachPre L S M tables list 
             };
       }
 
-module _ {L S M tables list R A W : List ℕ} {o : Result ℕ Halt} {depth : ℕ} (t : OnTheWay L S M tables list R A W o depth) where
+module _ {L S M tables list R A : List ℕ} {W : List Level} {o : Result ℕ Halt} {depth : ℕ} (t : OnTheWay L S M tables list R A W o depth) where
   pub reach_fails : o ≡ (Err halt.Fail) → ReachPost L S M tables list R A W None
   reach_fails e = nowhere (λ T P Q es cs a i. stood_fails a (t.each a) e i)
 
@@ -112,23 +113,23 @@ module _ {L S M tables list R A W : List ℕ} {o : Result ℕ Halt} {depth : ℕ
             room = (at_room k).1;
             read = stood_read a s e;
             asked = λ lo m v left low values small high. (
-              stood_landing a s e low values (columns_long W) left small high,
-              λ u landing. stood_further a s e low values (columns_long W) left small high landing,
+              stood_landing a s e low values (columns_long W t.levels_long) left small high,
+              λ u landing. stood_further a s e low values (columns_long W t.levels_long) left small high landing,
             );
           }
 
-    module _ {W' : List ℕ} where
-      pub reach_beyond : ChoosePost S M A W list depth p x s W' None → {R' A' W'' : List ℕ} → ReachPost L S M tables list R' A' W'' None
+    module _ {W' : List Level} where
+      pub reach_beyond : ChoosePost S M A W list depth p x s W' None → {R' A' : List ℕ} {W'' : List Level} → ReachPost L S M tables list R' A' W'' None
       reach_beyond (outside low values out) =
           nowhere
           (λ T P Q es cs a i.
-          stood_beyond a (t.each a) e low values (columns_long W) out i)
+          stood_beyond a (t.each a) e low values (columns_long W t.levels_long) out i)
 
       -- the level stands behind the value that is tried
       pub reach_tries : {v : Try} → ChoosePost S M A W list depth p x s W' (Some v) → {T : Term} {P : Pattern} {Q : List Kind} {es : List Expression} {cs : List Constraint} → ReachAsked L S M tables list T P Q es cs
           → AttemptPre L S M tables R A v.p v.x v.s v.u v.v
       reach_tries (value {left = left} low values ev small high landing further entered moved) a =
-          stood_attempt a (t.each a) e low values (columns_long W) left small high landing t.record_long
+          stood_attempt a (t.each a) e low values (columns_long W t.levels_long) left small high landing t.record_long
 
       pub reach_again : {v : Try} {o' : Result ℕ Halt} {R' A' : List ℕ} → ChoosePost S M A W list depth p x s W' (Some v) → length R' ≡ 32 → AttemptPost L S M tables R A v.p v.x v.s v.u v.v o' R' A'
           → OnTheWay L S M tables list R' A' W' o' (depth + 1)
@@ -146,5 +147,5 @@ module _ {L S M tables list R A W : List ℕ} {o : Result ℕ Halt} {depth : ℕ
                   moved.new_lefts ∙ ap (λ (c : List ℕ). set c depth left) entered.new_lefts ∙ set-set (lefts W) depth _ left,
                   add-one depth,
                 )
-                (stood_tried a (t.each a) e low values (columns_long W) left small high landing t.record_long ev further post);
+                (stood_tried a (t.each a) e low values (columns_long W t.levels_long) left small high landing t.record_long ev further post);
           }

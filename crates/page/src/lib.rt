@@ -3,7 +3,7 @@
 
 ghost use Rattle.page.specs.Page.{ChoosePre, ChoosePost, ReachPre, ReachPost};
 
-use levels::{Try, advance, attempt, enter};
+use levels::{Level, Try, advance, attempt, enter};
 use tree::Tree;
 use walk::Halt;
 
@@ -14,7 +14,7 @@ fn choose(
     pattern: &[u32; 1536],
     list: &[u32],
     at: &[usize; 256],
-    levels: &mut [usize; 1536],
+    levels: &mut [Level; 256],
     d: usize,
     w: walk::Stop,
 ) -> Option<Try>
@@ -58,7 +58,7 @@ pub fn reach(
     list: &[u32],
     record: &mut [u32; 32],
     at: &mut [usize; 256],
-    levels: &mut [usize; 1536],
+    levels: &mut [Level; 256],
 ) -> Option<usize>
     requires { ReachPre tree.now.label.now tree.now.size.now pattern.now tables.now list.now «record».old at.old levels.old }
     ensures { ReachPost tree.now.label.now tree.now.size.now pattern.now tables.now list.now «record».new at.new levels.new result }

@@ -5,7 +5,7 @@ ghost use Rattle.std.proofs.Math.Seq.{paste};
 ghost use Rattle.levels.specs.Columns.{places, variables, starts, rows, nexts, lefts};
 ghost use Rattle.search.specs.Search.{GoPre, GoPost};
 
-use levels::{attempt, deeper, next_try};
+use levels::{Level, attempt, deeper, next_try};
 use meaning::endings::Ending;
 use tree::Tree;
 use walk::Halt;
@@ -52,12 +52,12 @@ pub fn go(
     limits: Limits,
     record: &mut [u32; 32],
     at: &mut [usize; 256],
-    levels: &mut [usize; 1536],
+    levels: &mut [Level; 256],
     start: usize,
     out: &mut [u32],
 ) -> Found
     requires { GoPre tree.now.label.now tree.now.size.now pattern.now tables.now limits.room limits.width «record».old at.old (places levels.old) (variables levels.old) (starts levels.old) (rows levels.old) (nexts levels.old) (lefts levels.old) start out.old
-        × (length levels.old ≡ 1536) × (limits.budget < 4294967296) × (limits.room < 18446744073709551616) }
+        × (length levels.old ≡ 256) × (limits.budget < 4294967296) × (limits.room < 18446744073709551616) }
     ensures { GoPost tree.now.label.now tree.now.size.now pattern.now tables.now limits.budget limits.room limits.width «record».old at.old (places levels.old) (variables levels.old) (starts levels.old) (rows levels.old) (nexts levels.old) (lefts levels.old) start out.old result out.new }
 {
     let budget = limits.budget;

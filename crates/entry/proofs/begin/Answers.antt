@@ -1,7 +1,8 @@
-use Prim.Native.Nat.{ℕ}
 use mathlib.Core.Path.{refl, ap, ◌∙◌}
 use lib.ListN.{length-replicate}
 use native.Mathlib.Omega.{arith}
+use Rattle.levels.specs.declared.Level.{Level}
+use Rattle.levels.specs.Columns.{unentered}
 use Rattle.std.specs.Prelude.{Err}
 use Rattle.entry.proofs.Begun.{begun, walk_asked, begun_fail, begun_full, begun_put, begun_done, at_stop, need_room, go_asked, begun_need}
 use Rattle.entry.proofs.begin.Goals as goal
@@ -16,12 +17,12 @@ pub values-values-requires : goal.values-values-requires
 values-values-requires c = at_stop (begun c.requires c.begin.ensures) (c.in-Err-Need.is ∙ ap Err c.in-Err-Need.field-0-is)
 
 pub enter-requires : goal.enter-requires
-enter-requires c = record { long = length-replicate {A = ℕ} 1536 0; few = omega arith }
+enter-requires c = record { long = length-replicate {A = Level} 256 unentered; few = omega arith }
 
 pub go-requires : goal.go-requires
 go-requires c = (
   go_asked (begun c.requires c.begin.ensures) (c.in-Err-Need.is ∙ ap Err c.in-Err-Need.field-0-is) c.least-least.ensures c.values-values.ensures c.enter.ensures,
-  c.enter.ensures.long ∙ length-replicate {A = ℕ} 1536 0,
+  c.enter.ensures.long ∙ length-replicate {A = Level} 256 unentered,
   omega (arith, c.ranges.budget),
   omega (arith, c.ranges.room),
 )

@@ -10,7 +10,7 @@ use Rattle.search.proofs.Turns.{going_start, going_depth, going_long, going_back
 use Rattle.search.proofs.go.Goals as goal
 
 pub loop-depth-init : goal.loop-depth-init
-loop-depth-init c = (going_start (columns_long c.args.levels.now) c.requires.0, record { sequences = blank _ _ _ _; contexts = paths.blank _ _ _ _ }, c.requires.1)
+loop-depth-init c = (going_start (columns_long c.args.levels.now c.requires.1) c.requires.0, record { sequences = blank _ _ _ _; contexts = paths.blank _ _ _ _ }, c.requires.1)
 
 pub back-depth-requires : goal.back-depth-requires
 back-depth-requires c = (going_depth c.loop-depth.invariant.0 c.requires.0, c.loop-depth.invariant.2)
@@ -25,39 +25,39 @@ pub next_try-t-requires : goal.next_try-t-requires
 next_try-t-requires c = next_pre (going_ready c.loop-depth.invariant.0 c.back-depth.ensures c.if-depth-eq0.false) c.requires.0 c.loop-depth.invariant.2 c.if-tries-budget.false
 
 pub overflow_add-tries : goal.overflow_add-tries
-overflow_add-tries c = omega (arith, charged (going_ready c.loop-depth.invariant.0 c.back-depth.ensures c.if-depth-eq0.false) c.requires.0 c.next_try-t.ensures, c.requires.2)
+overflow_add-tries c = omega (arith, charged (going_ready c.loop-depth.invariant.0 c.back-depth.ensures c.if-depth-eq0.false) c.requires.0 c.loop-depth.invariant.2 c.next_try-t.ensures, c.requires.2)
 
 pub attempt-requires : goal.attempt-requires
-attempt-requires c = (attempt_pre (going_ready c.loop-depth.invariant.0 c.back-depth.ensures c.if-depth-eq0.false) c.requires.0 c.next_try-t.ensures, c.loop-depth.invariant.1)
+attempt-requires c = (attempt_pre (going_ready c.loop-depth.invariant.0 c.back-depth.ensures c.if-depth-eq0.false) c.requires.0 c.loop-depth.invariant.2 c.next_try-t.ensures, c.loop-depth.invariant.1)
 
 pub loop-depth-preserved-in-Err-Fail : goal.loop-depth-preserved-in-Err-Fail
-loop-depth-preserved-in-Err-Fail c = (tried_fail (tried (going_ready c.loop-depth.invariant.0 c.back-depth.ensures c.if-depth-eq0.false) c.requires.0 c.next_try-t.ensures c.attempt.ensures.0) (c.in-Err-Fail.is ∙ ap Err c.in-Err-Fail.field-0-is), c.attempt.ensures.1, c.next_try-t.ensures.moved.long ∙ c.loop-depth.invariant.2)
+loop-depth-preserved-in-Err-Fail c = (tried_fail (tried (going_ready c.loop-depth.invariant.0 c.back-depth.ensures c.if-depth-eq0.false) c.requires.0 c.loop-depth.invariant.2 c.next_try-t.ensures c.attempt.ensures.0) (c.in-Err-Fail.is ∙ ap Err c.in-Err-Fail.field-0-is), c.attempt.ensures.1, c.next_try-t.ensures.moved.long ∙ c.loop-depth.invariant.2)
 
 pub deeper-requires : goal.deeper-requires
-deeper-requires c = deeper_pre (going_ready c.loop-depth.invariant.0 c.back-depth.ensures c.if-depth-eq0.false) c.requires.0 c.next_try-t.ensures c.attempt.ensures.0 (c.in-Err-Need.is ∙ ap Err c.in-Err-Need.field-0-is) c.loop-depth.invariant.2
+deeper-requires c = deeper_pre (going_ready c.loop-depth.invariant.0 c.back-depth.ensures c.if-depth-eq0.false) c.requires.0 c.loop-depth.invariant.2 c.next_try-t.ensures c.attempt.ensures.0 (c.in-Err-Need.is ∙ ap Err c.in-Err-Need.field-0-is)
 
 pub overflow_add-depth : goal.overflow_add-depth
-overflow_add-depth c = omega (arith, need_fits (tried (going_ready c.loop-depth.invariant.0 c.back-depth.ensures c.if-depth-eq0.false) c.requires.0 c.next_try-t.ensures c.attempt.ensures.0) (c.in-Err-Need.is ∙ ap Err c.in-Err-Need.field-0-is) c.requires.0)
+overflow_add-depth c = omega (arith, need_fits (tried (going_ready c.loop-depth.invariant.0 c.back-depth.ensures c.if-depth-eq0.false) c.requires.0 c.loop-depth.invariant.2 c.next_try-t.ensures c.attempt.ensures.0) (c.in-Err-Need.is ∙ ap Err c.in-Err-Need.field-0-is) c.requires.0)
 
 pub loop-depth-preserved-in-Err-Need : goal.loop-depth-preserved-in-Err-Need
 loop-depth-preserved-in-Err-Need c = (
-  entered (going_ready c.loop-depth.invariant.0 c.back-depth.ensures c.if-depth-eq0.false) c.requires.0 c.next_try-t.ensures c.attempt.ensures.0 (c.in-Err-Need.is ∙ ap Err c.in-Err-Need.field-0-is) c.deeper.ensures,
+  entered (going_ready c.loop-depth.invariant.0 c.back-depth.ensures c.if-depth-eq0.false) c.requires.0 c.loop-depth.invariant.2 c.next_try-t.ensures c.attempt.ensures.0 (c.in-Err-Need.is ∙ ap Err c.in-Err-Need.field-0-is) c.deeper.ensures,
   c.attempt.ensures.1,
   c.deeper.ensures.entered.long ∙ c.next_try-t.ensures.moved.long ∙ c.loop-depth.invariant.2,
 )
 
 pub returns-then-count-room : goal.returns-then-count-room
-returns-then-count-room c = rw (c.ended-then-count-room.ensures.0, c.ended-then-count-room.ensures.1, c.ended-then-count-room.ensures.2) (tried_full (tried (going_ready c.loop-depth.invariant.0 c.back-depth.ensures c.if-depth-eq0.false) c.requires.0 c.next_try-t.ensures c.attempt.ensures.0) c.in-Ok.is c.if-count-room.true)
+returns-then-count-room c = rw (c.ended-then-count-room.ensures.0, c.ended-then-count-room.ensures.1, c.ended-then-count-room.ensures.2) (tried_full (tried (going_ready c.loop-depth.invariant.0 c.back-depth.ensures c.if-depth-eq0.false) c.requires.0 c.loop-depth.invariant.2 c.next_try-t.ensures c.attempt.ensures.0) c.in-Ok.is c.if-count-room.true)
 
 pub overflow_mul-count : goal.overflow_mul-count
-overflow_mul-count c = omega (arith, put_asked (tried (going_ready c.loop-depth.invariant.0 c.back-depth.ensures c.if-depth-eq0.false) c.requires.0 c.next_try-t.ensures c.attempt.ensures.0) c.in-Ok.is c.requires.0 c.if-count-room.false, going_long c.loop-depth.invariant.0 c.requires.0, c.well_formed)
+overflow_mul-count c = omega (arith, put_asked (tried (going_ready c.loop-depth.invariant.0 c.back-depth.ensures c.if-depth-eq0.false) c.requires.0 c.loop-depth.invariant.2 c.next_try-t.ensures c.attempt.ensures.0) c.in-Ok.is c.requires.0 c.if-count-room.false, going_long c.loop-depth.invariant.0 c.requires.0, c.well_formed)
 
 pub put-requires : goal.put-requires
-put-requires c = let r = put_asked (tried (going_ready c.loop-depth.invariant.0 c.back-depth.ensures c.if-depth-eq0.false) c.requires.0 c.next_try-t.ensures c.attempt.ensures.0) c.in-Ok.is c.requires.0 c.if-count-room.false in
-    (r.0, (tried (going_ready c.loop-depth.invariant.0 c.back-depth.ensures c.if-depth-eq0.false) c.requires.0 c.next_try-t.ensures c.attempt.ensures.0).long, omega (arith, r.1))
+put-requires c = let r = put_asked (tried (going_ready c.loop-depth.invariant.0 c.back-depth.ensures c.if-depth-eq0.false) c.requires.0 c.loop-depth.invariant.2 c.next_try-t.ensures c.attempt.ensures.0) c.in-Ok.is c.requires.0 c.if-count-room.false in
+    (r.0, (tried (going_ready c.loop-depth.invariant.0 c.back-depth.ensures c.if-depth-eq0.false) c.requires.0 c.loop-depth.invariant.2 c.next_try-t.ensures c.attempt.ensures.0).long, omega (arith, r.1))
 
 pub overflow_add-count : goal.overflow_add-count
-overflow_add-count c = omega (arith, tried_counted (tried (going_ready c.loop-depth.invariant.0 c.back-depth.ensures c.if-depth-eq0.false) c.requires.0 c.next_try-t.ensures c.attempt.ensures.0) c.requires.0, c.if-count-room.false, c.requires.3)
+overflow_add-count c = omega (arith, tried_counted (tried (going_ready c.loop-depth.invariant.0 c.back-depth.ensures c.if-depth-eq0.false) c.requires.0 c.loop-depth.invariant.2 c.next_try-t.ensures c.attempt.ensures.0) c.requires.0, c.if-count-room.false, c.requires.3)
 
 pub loop-depth-preserved : goal.loop-depth-preserved
-loop-depth-preserved c = (rw c.put.ensures (tried_match (tried (going_ready c.loop-depth.invariant.0 c.back-depth.ensures c.if-depth-eq0.false) c.requires.0 c.next_try-t.ensures c.attempt.ensures.0) c.in-Ok.is c.if-count-room.false), c.attempt.ensures.1, c.next_try-t.ensures.moved.long ∙ c.loop-depth.invariant.2)
+loop-depth-preserved c = (rw c.put.ensures (tried_match (tried (going_ready c.loop-depth.invariant.0 c.back-depth.ensures c.if-depth-eq0.false) c.requires.0 c.loop-depth.invariant.2 c.next_try-t.ensures c.attempt.ensures.0) c.in-Ok.is c.if-count-room.false), c.attempt.ensures.1, c.next_try-t.ensures.moved.long ∙ c.loop-depth.invariant.2)

@@ -14,7 +14,7 @@ invariant-loop-depth l =
     Going
     (given l.tree.label.now l.tree.size.now l.pattern l.tables l.budget l.room l.width a.«record» a.at (places w) (variables w) (starts w) (rows w) (nexts w) (lefts w) l.start a.out)
     l.out l.«record» l.at (places l.levels) (variables l.levels) (starts l.levels) (rows l.levels) (nexts l.levels) (lefts l.levels) l.depth l.count l.tries
-    × Both l.tree.label.now l.tree.size.now l.tables (root_of l.pattern) l.memory l.path × (length l.levels ≡ 1536)
+    × Both l.tree.label.now l.tree.size.now l.tables (root_of l.pattern) l.memory l.path × (length l.levels ≡ 256)
 
 abbrev pub decreases-loop-depth : goal.decreases-loop-depth
 decreases-loop-depth l = l.budget - l.tries
