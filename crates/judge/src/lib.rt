@@ -3,7 +3,6 @@
 
 ghost use Rattle.std.specs.Prelude.{◌≡◌, ◌+◌, ◌≤◌, ◌<◌, max, length};
 ghost use Rattle.meaning.specs.Calls.{Says};
-ghost use Rattle.tokens.specs.Tokens.{Classed};
 ghost use Rattle.judge.specs.Answer.{code_of, place_of, rows_of};
 ghost use Rattle.judge.specs.Tags.{RunTo, Done, Last};
 ghost use Rattle.judge.specs.Verdict.{Verdict};
@@ -16,7 +15,7 @@ use limits::{DEEPEST, MOST_BYTES, MOST_ROWS};
 use openings::names::OpenNames;
 use refusal::{Refusal, outside};
 use tags::{Tag, next_tag};
-use tokens::class::{byte_at, table};
+use tokens::class::{Classes, byte_at};
 use tokens::{text_end, white_end};
 
 // Where a run ends, and how many rows it makes: none if it is white space only, else one.
@@ -27,18 +26,18 @@ pub struct Run {
 }
 
 // Byte by byte: the judge is asked only of documents beyond the limits, and what is called once is put in line.
-pub fn run_end(document: &[u8], class: &[u8; 512], depth: usize, start: usize) -> Run
-    requires { Classed class.now × (start ≤ length document.now) }
+pub fn run_end(document: &[u8], classes: &Classes, depth: usize, start: usize) -> Run
+    requires { start ≤ length document.now }
     ensures { RunTo document.now depth start result.end result.rows }
 {
-    let white = white_end(document, class, start);
+    let white = white_end(document, classes, start);
     if depth == 0 {
         return Run {
             end: white,
             rows: 0,
         };
     }
-    let end = text_end(document, class, start, white);
+    let end = text_end(document, classes, start, white);
     if white < end {
         return Run { end, rows: 1 };
     }
@@ -95,8 +94,8 @@ fn last(length: usize, at: usize, depth: usize, rows: usize, deep: usize) -> Res
 }
 
 // The pass. `names` has names of open elements, that of the innermost among them.
-fn pass(document: &[u8], class: &[u8; 512]) -> Result<u32, Refusal>
-    requires { Classed class.now × (length document.now ≤ 32768) }
+fn pass(document: &[u8], classes: &Classes) -> Result<u32, Refusal>
+    requires { length document.now ≤ 32768 }
     ensures { Verdict document.now (code_of result) (place_of result) (rows_of result) }
 {
     let mut names = OpenNames::new();
@@ -104,14 +103,14 @@ fn pass(document: &[u8], class: &[u8; 512]) -> Result<u32, Refusal>
     let mut seen = Seen { rows: 0, deep: 0 };
     let mut i: usize = 0;
     loop {
-        let text = run_end(document, class, depth, i);
+        let text = run_end(document, classes, depth, i);
         let at = text.end;
         seen = more(seen, text.rows, depth + text.rows);
         if byte_at(document, at) != b'<' {
             return last(document.len(), at, depth, seen.rows, seen.deep);
         }
         let name = names.innermost();
-        let tag = next_tag(document, class, name, depth, seen.rows, at).map_err(outside)?;
+        let tag = next_tag(document, classes, name, depth, seen.rows, at).map_err(outside)?;
         match tag {
             Tag::Opens(_, next) => {
                 names.open(depth, at + 1);
@@ -139,6 +138,6 @@ pub fn judge(document: &[u8]) -> Result<u32, Refusal>
     if MOST_BYTES < document.len() {
         return Err(Refusal::TooLong);
     }
-    let class = table();
-    pass(document, &class)
+    let classes = Classes::new();
+    pass(document, &classes)
 }

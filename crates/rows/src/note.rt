@@ -3,7 +3,6 @@ ghost use Rattle.std.specs.Prelude.{List, ◌≤◌};
 ghost use lib.ListN.{length};
 ghost use Rattle.grammar.specs.Grammar.{Bytes, Content};
 ghost use Rattle.grammar.specs.Machine.{Open};
-ghost use Rattle.tokens.specs.Tokens.{Classed};
 ghost use Rattle.judge.specs.Tags.{RunTo};
 ghost use Rattle.labels.specs.Lists.{Long};
 ghost use Rattle.rows.specs.Notes.{Notes};
@@ -14,7 +13,7 @@ use judge::limits::{DEEPEST, MOST_ROWS};
 use judge::tags::Tag;
 use judge::{Run, is_whole};
 use labels::note::{close, put};
-use tokens::class::{byte_at, table};
+use tokens::class::{Classes, byte_at};
 use tokens::{long_text_end, long_white_end};
 
 // Why no rows are noted: the place of code 3; or a document, if it is one, that is too deep or has too many rows.
@@ -25,11 +24,11 @@ pub enum Unread {
 }
 
 // The run that starts at `start`. What stands between tags is mostly white space.
-fn run(document: &[u8], class: &[u8; 512], depth: usize, start: usize) -> Run
-    requires { Classed class.now × (start ≤ length document.now) }
+fn run(document: &[u8], classes: &Classes, depth: usize, start: usize) -> Run
+    requires { start ≤ length document.now }
     ensures { RunTo document.now depth start result.end result.rows }
 {
-    let white = long_white_end(document, class, start);
+    let white = long_white_end(document, classes, start);
     if byte_at(document, white) == b'<' {
         return Run {
             end: white,
@@ -42,7 +41,7 @@ fn run(document: &[u8], class: &[u8; 512], depth: usize, start: usize) -> Run
             rows: 0,
         };
     }
-    let end = long_text_end(document, class, start, white);
+    let end = long_text_end(document, classes, start, white);
     if white < end {
         return Run { end, rows: 1 };
     }
@@ -62,7 +61,7 @@ enum Turn {
 // The tag whose `<` stands at `at`, behind `row` rows. `top` is the row of the innermost open element.
 fn read_tag(
     document: &[u8],
-    class: &[u8; 512],
+    classes: &Classes,
     starts: &mut [u16; 2052],
     lengths: &mut [u16; 2052],
     sizes: &mut [u16; 2052],
@@ -71,12 +70,12 @@ fn read_tag(
     row: usize,
     at: usize,
 ) -> Result<Turn, Unread>
-    requires { Classed class.now × ((o : List Open) × (f : Content) × (t : Bytes) × MayTag document.now starts.old lengths.old top depth row at o f t) }
+    requires { (o : List Open) × (f : Content) × (t : Bytes) × MayTag document.now starts.old lengths.old top depth row at o f t }
     ensures { (o : List Open) (f : Content) (t : Bytes) → MayTag document.now starts.old lengths.old top depth row at o f t → TagDone document.now starts.old lengths.old sizes.old depth row at o f t starts.new lengths.new sizes.new result }
 {
     let name = usize::from(starts[top]);
     let length = usize::from(lengths[top]);
-    let tag = next_tag(document, class, name, length, depth, row, at).map_err(Unread::Outside)?;
+    let tag = next_tag(document, classes, name, length, depth, row, at).map_err(Unread::Outside)?;
     match tag {
         Tag::Opens(end, next) => {
             if DEEPEST <= depth {
@@ -107,7 +106,7 @@ enum Ran {
 // only where it is counted.
 fn read_run(
     document: &[u8],
-    class: &[u8; 512],
+    classes: &Classes,
     starts: &mut [u16; 2052],
     lengths: &mut [u16; 2052],
     sizes: &mut [u16; 2052],
@@ -115,7 +114,7 @@ fn read_run(
     row: usize,
     i: usize,
 ) -> Result<Ran, Unread>
-    requires { Classed class.now × (lib.ListN.length document.now ≤ 32768) × (i ≤ lib.ListN.length document.now) × (depth ≤ 64) }
+    requires { (lib.ListN.length document.now ≤ 32768) × (i ≤ lib.ListN.length document.now) × (depth ≤ 64) }
     ensures { RunDone document.now starts.old lengths.old sizes.old depth row i starts.new lengths.new sizes.new result }
 {
     if MOST_ROWS < row {
@@ -124,7 +123,7 @@ fn read_run(
     if byte_at(document, i) == b'<' {
         return Ok(Ran::Tag(row, i));
     }
-    let text = run(document, class, depth, i);
+    let text = run(document, classes, depth, i);
     let at = text.end;
     let leaves = text.rows;
     put(starts, lengths, sizes, row, i, at - i);
@@ -144,7 +143,7 @@ fn read_run(
 // One turn: the run that starts at `i`, and the tag behind it.
 fn read_turn(
     document: &[u8],
-    class: &[u8; 512],
+    classes: &Classes,
     starts: &mut [u16; 2052],
     lengths: &mut [u16; 2052],
     sizes: &mut [u16; 2052],
@@ -153,14 +152,14 @@ fn read_turn(
     row: usize,
     i: usize,
 ) -> Result<Turn, Unread>
-    requires { Classed class.now × ((o : List Open) × (f : Content) × MayTurn document.now starts.old lengths.old sizes.old top depth row i o f) }
+    requires { (o : List Open) × (f : Content) × MayTurn document.now starts.old lengths.old sizes.old top depth row i o f }
     ensures { (o : List Open) (f : Content) → MayTurn document.now starts.old lengths.old sizes.old top depth row i o f → TurnDone document.now starts.old lengths.old sizes.old depth row i o f starts.new lengths.new sizes.new result }
 {
-    let run = read_run(document, class, starts, lengths, sizes, depth, row, i)?;
+    let run = read_run(document, classes, starts, lengths, sizes, depth, row, i)?;
     match run {
         Ran::Last(rows) => Ok(Turn::Ends(rows)),
         Ran::Tag(behind, at) => read_tag(
-            document, class, starts, lengths, sizes, top, depth, behind, at,
+            document, classes, starts, lengths, sizes, top, depth, behind, at,
         ),
     }
 }
@@ -168,12 +167,12 @@ fn read_turn(
 // The pass. `around` has the rows of the elements around the innermost open one, `top`.
 fn pass(
     document: &[u8],
-    class: &[u8; 512],
+    classes: &Classes,
     starts: &mut [u16; 2052],
     lengths: &mut [u16; 2052],
     sizes: &mut [u16; 2052],
 ) -> Result<usize, Unread>
-    requires { Classed class.now × (lib.ListN.length document.now ≤ 32768) × Long starts.old lengths.old sizes.old }
+    requires { (lib.ListN.length document.now ≤ 32768) × Long starts.old lengths.old sizes.old }
     ensures { Notes document.now starts.new lengths.new sizes.new result }
 {
     let mut around = [0u16; 64];
@@ -182,7 +181,9 @@ fn pass(
     let mut row: usize = 0;
     let mut i: usize = 0;
     loop {
-        let turn = read_turn(document, class, starts, lengths, sizes, top, depth, row, i)?;
+        let turn = read_turn(
+            document, classes, starts, lengths, sizes, top, depth, row, i,
+        )?;
         match turn {
             Turn::Ends(rows) => return Ok(rows),
             Turn::Opens(element, next) => {
@@ -217,6 +218,6 @@ pub fn note(
     requires { (lib.ListN.length document.now ≤ 32768) × Long starts.old lengths.old sizes.old }
     ensures { Notes document.now starts.new lengths.new sizes.new result }
 {
-    let class = table();
-    pass(document, &class, starts, lengths, sizes)
+    let classes = Classes::new();
+    pass(document, &classes, starts, lengths, sizes)
 }

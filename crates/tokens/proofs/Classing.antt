@@ -11,7 +11,7 @@ use Rattle.std.proofs.lemmas.List.{get_or_append_left, get_or-append_right, get_
 use lib.Seq.{get_or-set_same, get_or-set_other}
 use borrow.Author.Tests.{lt-ltb, ltb-true, ltb-false}
 use Rattle.grammar.specs.Classes.{class_number}
-use Rattle.tokens.specs.Tokens.{Coded, Spread, Classed, stop_number}
+use Rattle.tokens.specs.Tokens.{Coded, Spread, stop_number}
 
 -- a byte over 127 has no class
 pub no_class : (b : ℕ) → 127 < b → class_number b ≡ 0
@@ -53,6 +53,3 @@ stop_more {l} {k} {s} h p e = record {
     | no z ↦ get_or-set_other l (256 + k) (256 + j) s 0 (λ y. z (omega (arith, y))) ∙ h.done j (omega (arith, q, z))
   ];
 }
-
-pub stop_all : {l : List ℕ} {k : ℕ} → Stopping k l → 256 ≤ k → Classed l
-stop_all h p = record { each = h.spread.each; stops = λ j q. h.done j (omega (arith, p, q)) }

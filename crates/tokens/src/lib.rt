@@ -4,30 +4,30 @@
 ghost use Rattle.std.specs.Prelude.{◌≡◌, true, ℕ, ◌+◌, ◌-◌, ◌≤◌, ◌<◌, min, length, get_or, Bool, ◌&&◌, fold, drop, take};
 ghost use Rattle.grammar.specs.Classes.{white};
 ghost use Rattle.grammar.specs.Machine.{brackets};
-ghost use Rattle.tokens.specs.Tokens.{Classed, Passed, Span, SpanTo, bytes, digits, stop_at, white_at, name_at, plain, plain_at, is_text_at, same_at};
+ghost use Rattle.tokens.specs.Tokens.{Passed, Span, SpanTo, bytes, digits, stop_at, white_at, name_at, plain, plain_at, is_text_at, same_at};
 
 pub mod class;
 
-use class::{GREATER, IN_NAME, NONE, WHITE, byte_at, class_of, stops};
+use class::{Classes, GREATER, IN_NAME, NONE, WHITE, byte_at};
 
 // The first place before `limit` that is not white, or `limit`.
-fn white_to(document: &[u8], class: &[u8; 512], from: usize, limit: usize) -> usize
-    requires { Classed class.now × (from ≤ limit) × (limit ≤ length document.now) }
+fn white_to(document: &[u8], classes: &Classes, from: usize, limit: usize) -> usize
+    requires { (from ≤ limit) × (limit ≤ length document.now) }
     ensures { SpanTo (white_at document.now) document.now from limit result }
 {
     for i in from..limit {
-        if class_of(class, document[i]) != WHITE {
+        if classes.class_of(document[i]) != WHITE {
             return i;
         }
     }
     limit
 }
 
-pub fn white_end(document: &[u8], class: &[u8; 512], from: usize) -> usize
-    requires { Classed class.now × (from ≤ length document.now) }
+pub fn white_end(document: &[u8], classes: &Classes, from: usize) -> usize
+    requires { from ≤ length document.now }
     ensures { Span (white_at document.now) document.now from result }
 {
-    white_to(document, class, from, document.len())
+    white_to(document, classes, from, document.len())
 }
 
 // Bytes that are passed over many at a time. They are told by comparisons of the byte itself, since the compiler makes vectors of those and
@@ -88,24 +88,24 @@ fn blocks_end<M: Many>(document: &[u8], from: usize) -> usize
 }
 
 // White space between tags, which may be long; mostly it is short.
-pub fn long_white_end(document: &[u8], class: &[u8; 512], from: usize) -> usize
-    requires { Classed class.now × (from ≤ length document.now) }
+pub fn long_white_end(document: &[u8], classes: &Classes, from: usize) -> usize
+    requires { from ≤ length document.now }
     ensures { Span (white_at document.now) document.now from result }
 {
     let near = (from + 16).min(document.len());
-    let end = white_to(document, class, from, near);
+    let end = white_to(document, classes, from, near);
     if end < near {
         return end;
     }
-    white_end(document, class, blocks_end::<White>(document, end))
+    white_end(document, classes, blocks_end::<White>(document, end))
 }
 
-pub fn name_end(document: &[u8], class: &[u8; 512], from: usize) -> usize
-    requires { Classed class.now × (from ≤ length document.now) }
+pub fn name_end(document: &[u8], classes: &Classes, from: usize) -> usize
+    requires { from ≤ length document.now }
     ensures { Span (name_at document.now) document.now from result }
 {
     for i in from..document.len() {
-        if class_of(class, document[i]) < IN_NAME {
+        if classes.class_of(document[i]) < IN_NAME {
             return i;
         }
     }
@@ -114,27 +114,27 @@ pub fn name_end(document: &[u8], class: &[u8; 512], from: usize) -> usize
 
 // The same, four bytes a turn, each with a branch of its own: where names come back, the processor guesses where they end. It walks by
 // four, and the bytes that are left are the other function's.
-pub fn long_name_end(document: &[u8], class: &[u8; 512], from: usize) -> usize
-    requires { Classed class.now × (from ≤ length document.now) }
+pub fn long_name_end(document: &[u8], classes: &Classes, from: usize) -> usize
+    requires { from ≤ length document.now }
     ensures { Span (name_at document.now) document.now from result }
 {
     let mut i = from;
     while i + 4 <= document.len() {
-        if class_of(class, document[i]) < IN_NAME {
+        if classes.class_of(document[i]) < IN_NAME {
             return i;
         }
-        if class_of(class, document[i + 1]) < IN_NAME {
+        if classes.class_of(document[i + 1]) < IN_NAME {
             return i + 1;
         }
-        if class_of(class, document[i + 2]) < IN_NAME {
+        if classes.class_of(document[i + 2]) < IN_NAME {
             return i + 2;
         }
-        if class_of(class, document[i + 3]) < IN_NAME {
+        if classes.class_of(document[i + 3]) < IN_NAME {
             return i + 3;
         }
         i += 4;
     }
-    name_end(document, class, i)
+    name_end(document, classes, i)
 }
 
 // Do the bytes from the run's start up to k end with `]]`?
@@ -152,11 +152,11 @@ fn bracketed(document: &[u8], start: usize, k: usize) -> bool
     false
 }
 
-fn text_at(document: &[u8], class: &[u8; 512], start: usize, k: usize) -> bool
-    requires { Classed class.now × (start ≤ k) × (k < length document.now) }
+fn text_at(document: &[u8], classes: &Classes, start: usize, k: usize) -> bool
+    requires { (start ≤ k) × (k < length document.now) }
     ensures { result ≡ is_text_at document.now start k }
 {
-    let c = class_of(class, document[k]);
+    let c = classes.class_of(document[k]);
     if GREATER < c {
         return true;
     }
@@ -167,38 +167,38 @@ fn text_at(document: &[u8], class: &[u8; 512], start: usize, k: usize) -> bool
 }
 
 // Which of the 4 bytes from i on stop plain text: a binary digit for each, the first the lowest.
-fn four_stops(document: &[u8], class: &[u8; 512], i: usize) -> u32
-    requires { Classed class.now × (i + 4 ≤ length document.now) }
+fn four_stops(document: &[u8], classes: &Classes, i: usize) -> u32
+    requires { i + 4 ≤ length document.now }
     ensures { (result ≡ digits (stop_at document.now) i 4 0) × (result < 16) }
 {
-    let a = stops(class, document[i]);
-    let b = stops(class, document[i + 1]);
-    let c = stops(class, document[i + 2]);
-    let d = stops(class, document[i + 3]);
+    let a = classes.stops(document[i]);
+    let b = classes.stops(document[i + 1]);
+    let c = classes.stops(document[i + 2]);
+    let d = classes.stops(document[i + 3]);
     a + 2 * (b + 2 * (c + 2 * d))
 }
 
 // How many of the 8 bytes from i on are plain text, up to the first that is not.
-fn plain_count(document: &[u8], class: &[u8; 512], i: usize) -> usize
-    requires { Classed class.now × (i + 8 ≤ length document.now) }
+fn plain_count(document: &[u8], classes: &Classes, i: usize) -> usize
+    requires { i + 8 ≤ length document.now }
     ensures { (result ≤ 8) × ((k : ℕ) → k < result → plain_at document.now (i + k) ≡ true) }
 {
-    let near = four_stops(document, class, i);
-    let far = four_stops(document, class, i + 4);
+    let near = four_stops(document, classes, i);
+    let far = four_stops(document, classes, i + 4);
     let found = near + 16 * far + 256;
     u32::trailing_zeros(found) as usize
 }
 
 // Plain text, eight bytes at a time; what is longer than 64 bytes is likely to be much longer. It walks by eight, up to the last eight or to
 // the byte that stops.
-fn plain_end(document: &[u8], class: &[u8; 512], from: usize) -> usize
-    requires { Classed class.now × (from ≤ length document.now) }
+fn plain_end(document: &[u8], classes: &Classes, from: usize) -> usize
+    requires { from ≤ length document.now }
     ensures { Passed (plain_at document.now) document.now from result }
 {
     let near = (from + 64).min(document.len());
     let mut i = from;
     while i + 8 <= near {
-        let count = plain_count(document, class, i);
+        let count = plain_count(document, classes, i);
         if count < 8 {
             return i + count;
         }
@@ -208,12 +208,12 @@ fn plain_end(document: &[u8], class: &[u8; 512], from: usize) -> usize
 }
 
 // The run that starts at `start` is text up to `from`: the first place before `limit` where it is not, or `limit`.
-fn text_to(document: &[u8], class: &[u8; 512], start: usize, from: usize, limit: usize) -> usize
-    requires { Classed class.now × Passed (is_text_at document.now start) document.now start from × (from ≤ limit) × (limit ≤ length document.now) }
+fn text_to(document: &[u8], classes: &Classes, start: usize, from: usize, limit: usize) -> usize
+    requires { Passed (is_text_at document.now start) document.now start from × (from ≤ limit) × (limit ≤ length document.now) }
     ensures { SpanTo (is_text_at document.now start) document.now start limit result }
 {
     for i in from..limit {
-        if !text_at(document, class, start, i) {
+        if !text_at(document, classes, start, i) {
             return i;
         }
     }
@@ -221,27 +221,27 @@ fn text_to(document: &[u8], class: &[u8; 512], start: usize, from: usize, limit:
 }
 
 // The end of the run that starts at `start` and is text up to `from`.
-pub fn text_end(document: &[u8], class: &[u8; 512], start: usize, from: usize) -> usize
-    requires { Classed class.now × Passed (is_text_at document.now start) document.now start from }
+pub fn text_end(document: &[u8], classes: &Classes, start: usize, from: usize) -> usize
+    requires { Passed (is_text_at document.now start) document.now start from }
     ensures { Span (is_text_at document.now start) document.now start result }
 {
-    text_to(document, class, start, from, document.len())
+    text_to(document, classes, start, from, document.len())
 }
 
 // The same where a text is likely to follow. What stops plain text is mostly the `<` of a tag; behind another byte that does, one more is
 // likely: so a few go one by one.
-pub fn long_text_end(document: &[u8], class: &[u8; 512], start: usize, from: usize) -> usize
-    requires { Classed class.now × Passed (is_text_at document.now start) document.now start from }
+pub fn long_text_end(document: &[u8], classes: &Classes, start: usize, from: usize) -> usize
+    requires { Passed (is_text_at document.now start) document.now start from }
     ensures { Span (is_text_at document.now start) document.now start result }
 {
     let mut i = from;
     while i < document.len() {
-        let plain = plain_end(document, class, i);
+        let plain = plain_end(document, classes, i);
         if byte_at(document, plain) == b'<' {
             return plain;
         }
         let near = (plain + 16).min(document.len());
-        let end = text_to(document, class, start, plain, near);
+        let end = text_to(document, classes, start, plain, near);
         if end < near {
             return end;
         }
@@ -251,13 +251,13 @@ pub fn long_text_end(document: &[u8], class: &[u8; 512], start: usize, from: usi
 }
 
 // How far the name that starts at `name` stands again at `from`.
-pub fn same_end(document: &[u8], class: &[u8; 512], name: usize, from: usize) -> usize
-    requires { Classed class.now × (from ≤ length document.now) × (name < 65536) }
+pub fn same_end(document: &[u8], classes: &Classes, name: usize, from: usize) -> usize
+    requires { (from ≤ length document.now) × (name < 65536) }
     ensures { Span (same_at document.now name from) document.now from result }
 {
     for i in from..document.len() {
         let expected = byte_at(document, name + (i - from));
-        if class_of(class, expected) < IN_NAME || document[i] != expected {
+        if classes.class_of(expected) < IN_NAME || document[i] != expected {
             return i;
         }
     }

@@ -6,4 +6,4 @@ pub returns-then-document-gt-MOST_BYTES : goal.returns-then-document-gt-MOST_BYT
 returns-then-document-gt-MOST_BYTES c = long (omega arith)
 
 pub pass-requires : goal.pass-requires
-pass-requires c = (c.table-class.ensures, c.if-document-gt-MOST_BYTES.false)
+pass-requires c = c.if-document-gt-MOST_BYTES.false

@@ -6,4 +6,4 @@ pub returns-then-byte_at-eq60 : goal.returns-then-byte_at-eq60
 returns-then-byte_at-eq60 c = stops (passed_then c.loop-i.invariant c.plain_end-plain.ensures (plain_text _ _)) (less_stops _ _ _ (sym c.byte_at.ensures ∙ c.if-byte_at-eq60.true))
 
 pub text_to-end-requires : goal.text_to-end-requires
-text_to-end-requires c = (c.requires.0, passed_then c.loop-i.invariant c.plain_end-plain.ensures (plain_text _ _), omega arith, omega arith)
+text_to-end-requires c = (passed_then c.loop-i.invariant c.plain_end-plain.ensures (plain_text _ _), omega arith, omega arith)

@@ -7,7 +7,7 @@ use borrow.Author.Rules.{rules}
 use Rattle.tokens.proofs.plain_end.Goals as goal
 
 pub loop-i-init : goal.loop-i-init
-loop-i-init c = (omega (arith, c.min-near.ensures), passed_none _ _ _ c.requires.1)
+loop-i-init c = (omega (arith, c.min-near.ensures), passed_none _ _ _ c.requires)
 
 pub returns-then-count-lt8 : goal.returns-then-count-lt8
 returns-then-count-lt8 c = let l = c.loop-i.invariant in

@@ -12,16 +12,13 @@ pub overflow_sub-rest : goal.overflow_sub-rest
 overflow_sub-rest c = c.same_end-end.ensures.passed.from
 
 pub overflow_add-rest : goal.overflow_add-rest
-overflow_add-rest c = omega (arith, c.same_end-end.ensures.passed.within, c.requires.2)
-
-pub class_of-requires : goal.class_of-requires
-class_of-requires c = c.requires.0
+overflow_add-rest c = omega (arith, c.same_end-end.ensures.passed.within, c.requires.1)
 
 pub returns-then-class_of-gt-WHITE : goal.returns-then-class_of-gt-WHITE
 returns-then-class_of-gt-WHITE c = end_differs c.same_end-end.ensures (name_yes _ _ (c.class_of.ensures ∙ ap class_number c.byte_at.ensures) c.if-class_of-gt-WHITE.true)
 
 pub white_end-shut-requires : goal.white_end-shut-requires
-white_end-shut-requires c = (c.requires.0, c.same_end-end.ensures.passed.within)
+white_end-shut-requires c = c.same_end-end.ensures.passed.within
 
 pub returns-then-byte_at-eq62 : goal.returns-then-byte_at-eq62
 returns-then-byte_at-eq62 c = end_closes c.same_end-end.ensures (name_not _ _ (c.class_of.ensures ∙ ap class_number c.byte_at.ensures) c.if-class_of-gt-WHITE.false) c.white_end-shut.ensures (sym c.byte_at-2.ensures ∙ c.if-byte_at-eq62.true)

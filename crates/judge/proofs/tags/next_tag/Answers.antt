@@ -2,7 +2,7 @@ use Rattle.judge.proofs.Turns.{end_within, none_stands, start_stands, end_stands
 use Rattle.judge.proofs.tags.next_tag.Goals as goal
 
 pub end_tag-requires : goal.end_tag-requires
-end_tag-requires c = (c.requires.0, (end_within c.in-End.ensures).1, c.requires.2)
+end_tag-requires c = ((end_within c.in-End.ensures).1, c.requires.1)
 
 pub returns-in-Nothing : goal.returns-in-Nothing
 returns-in-Nothing c = none_stands c.in-Nothing.ensures

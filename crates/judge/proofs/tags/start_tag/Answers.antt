@@ -10,7 +10,7 @@ returns-then-class_of-lt-FIRST c = start_none (start_not _ _ (c.class_of.ensures
 
 pub name_end-requires : goal.name_end-requires
 name_end-requires c =
-    (c.requires.0, omega (arith, name_there c.args.document.now c.args.at (name_begins _ (c.class_of.ensures ∙ ap class_number c.byte_at.ensures) c.if-class_of-lt-FIRST.false)))
+    omega (arith, name_there c.args.document.now c.args.at (name_begins _ (c.class_of.ensures ∙ ap class_number c.byte_at.ensures) c.if-class_of-lt-FIRST.false))
 
 pub returns : goal.returns
 returns c = c.shut.ensures _ (name_begins _ (c.class_of.ensures ∙ ap class_number c.byte_at.ensures) c.if-class_of-lt-FIRST.false) c.name_end.ensures

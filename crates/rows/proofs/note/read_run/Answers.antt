@@ -10,7 +10,7 @@ returns-then-row-gt-MOST_ROWS c = many c.if-row-gt-MOST_ROWS.true
 
 pub returns-then-byte_at-eq60 : goal.returns-then-byte_at-eq60
 returns-then-byte_at-eq60 c =
-    at_once _ _ _ c.args.depth c.args.row c.args.i c.if-row-gt-MOST_ROWS.false c.requires.2 (sym c.byte_at.ensures ∙ c.if-byte_at-eq60.true) c.requires.3
+    at_once _ _ _ c.args.depth c.args.row c.args.i c.if-row-gt-MOST_ROWS.false c.requires.1 (sym c.byte_at.ensures ∙ c.if-byte_at-eq60.true) c.requires.2
 
 pub returns-then-not-is_whole : goal.returns-then-not-is_whole
 returns-then-not-is_whole c =

@@ -9,7 +9,7 @@ pub returns-then-depth-eq0 : goal.returns-then-depth-eq0
 returns-then-depth-eq0 c = outer_run c.if-depth-eq0.true c.long_white_end-white.ensures
 
 pub long_text_end-end-requires : goal.long_text_end-end-requires
-long_text_end-end-requires c = (c.requires.0, white_text c.long_white_end-white.ensures.passed)
+long_text_end-end-requires c = white_text c.long_white_end-white.ensures.passed
 
 pub returns-then-white-end : goal.returns-then-white-end
 returns-then-white-end c = inner_run c.if-depth-eq0.false c.long_white_end-white.ensures c.long_text_end-end.ensures c.if-white-end.true

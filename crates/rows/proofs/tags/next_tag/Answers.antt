@@ -2,7 +2,7 @@ use Rattle.judge.proofs.Turns.{end_within, none_stands, start_stands, end_stands
 use Rattle.rows.proofs.tags.next_tag.Goals as goal
 
 pub end_tag-requires : goal.end_tag-requires
-end_tag-requires c = let e = end_within c.in-End.ensures in (c.requires.0, e.1, c.requires.2, c.requires.3 e.0)
+end_tag-requires c = let e = end_within c.in-End.ensures in (e.1, c.requires.1, c.requires.2 e.0)
 
 pub returns-in-Nothing : goal.returns-in-Nothing
 returns-in-Nothing c = none_stands c.in-Nothing.ensures

@@ -11,7 +11,7 @@ returns-then-class_of-lt-FIRST c = start_none (start_not _ _ (c.class_of.ensures
 
 pub long_name_end-end-requires : goal.long_name_end-end-requires
 long_name_end-end-requires c =
-    (c.requires.0, omega (arith, name_there c.args.document.now c.args.at (name_begins _ (c.class_of.ensures ∙ ap class_number c.byte_at.ensures) c.if-class_of-lt-FIRST.false)))
+    omega (arith, name_there c.args.document.now c.args.at (name_begins _ (c.class_of.ensures ∙ ap class_number c.byte_at.ensures) c.if-class_of-lt-FIRST.false))
 
 pub returns-then-byte_at-eq62 : goal.returns-then-byte_at-eq62
 returns-then-byte_at-eq62 c =

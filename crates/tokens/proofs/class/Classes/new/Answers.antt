@@ -1,12 +1,9 @@
 use Rattle.std.proofs.Common.{arith}
-use Rattle.tokens.proofs.Classing.{stopping, stop_more, stop_all}
-use Rattle.tokens.proofs.class.table.Goals as goal
+use Rattle.tokens.proofs.Classing.{stopping, stop_more}
+use Rattle.tokens.proofs.class.Classes.new.Goals as goal
 
 pub loop-k-init : goal.loop-k-init
 loop-k-init c = stopping c.spread-class.ensures
 
 pub loop-k-preserved : goal.loop-k-preserved
 loop-k-preserved c = stop_more c.loop-k.invariant (omega arith) c.stop_of.ensures
-
-pub returns : goal.returns
-returns c = stop_all c.loop-k.invariant c.loop-k-test.false
