@@ -38,7 +38,7 @@ pub fn instance(
     if !record::fits(tree.size, &checked.kinds, checked.variables, record) {
         return Err(Refusal::Record);
     }
-    let rows = rows_of(tree.size, pattern.kind, pattern.name, record);
+    let rows = rows_of(tree.size, pattern, record);
     if MOST < rows {
         return Err(Refusal::TooLarge);
     }
@@ -49,7 +49,7 @@ pub fn instance(
         return Err(Refusal::NoRoom);
     }
     let mut packed = [0u32; 768];
-    pack(pattern.kind, pattern.name, pattern.size, &mut packed);
+    pack(pattern, &mut packed);
     term(tree, &packed, record, 0, 0, out_label, out_size);
     Ok(rows)
 }

@@ -3,6 +3,7 @@ ghost use Rattle.std.specs.Prelude.{◌≡◌, ◌+◌, ◌<◌, length, get_or}
 ghost use Rattle.instance.specs.Packed.{PackPre, Packed, names_of, sizes_of};
 
 use super::value::copy;
+use pattern::Pattern;
 
 // Where the names and where the sizes start; at most 256 rows stand before each.
 const NAMES: usize = 256;
@@ -10,13 +11,13 @@ const NAMES: usize = 256;
 const SIZES: usize = 512;
 
 // Copies the three lists, each to its place.
-pub fn pack(kind: &[u32], name: &[u32], size: &[u32], pattern: &mut [u32])
-    requires { PackPre kind.now name.now size.now pattern.old }
-    ensures { Packed kind.now name.now size.now pattern.new }
+pub fn pack(pattern: &Pattern, packed: &mut [u32])
+    requires { PackPre pattern.now.kind.now pattern.now.name.now pattern.now.size.now packed.old }
+    ensures { Packed pattern.now.kind.now pattern.now.name.now pattern.now.size.now packed.new }
 {
-    copy(kind, 0, kind.len(), pattern, 0);
-    copy(name, 0, name.len(), pattern, NAMES);
-    copy(size, 0, size.len(), pattern, SIZES);
+    copy(pattern.kind, 0, pattern.kind.len(), packed, 0);
+    copy(pattern.name, 0, pattern.name.len(), packed, NAMES);
+    copy(pattern.size, 0, pattern.size.len(), packed, SIZES);
 }
 
 // A pattern row's kind.

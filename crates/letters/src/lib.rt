@@ -9,6 +9,7 @@ ghost use Rattle.letters.specs.State.{StateOf, TablesOf};
 ghost use Rattle.letters.specs.Tables.{noted, five, Tabled};
 ghost use Rattle.letters.specs.Following.{first_in, null_in, next_in, end_in, gate, head_set, head_null, HeadRow, Shape, PartsAre, followed, ContsOf};
 
+use expression::Table;
 use expression::kinds::{CHOICE, CONCATENATION, EMPTY, SYMBOL};
 
 // The rows that may read the next letter, and whether the word may end here.
@@ -180,13 +181,13 @@ fn lay(name: &[u32; 64], heads: &[Head; 64], states: &[State; 64], tables: &mut 
 }
 
 // The tables of a good expression table, computed once for all words: five numbers a row, in one list.
-pub fn tables_of(kind: &[u32], name: &[u32], size: &[u32], tables: &mut [u64; 320])
-    requires { (length tables.old ≡ 320) × ((es : List Expression) × GoodTable kind.now name.now size.now es) }
-    ensures { (es : List Expression) → GoodTable kind.now name.now size.now es → TablesOf es tables.new }
+pub fn tables_of(table: &Table, tables: &mut [u64; 320])
+    requires { (length tables.old ≡ 320) × ((es : List Expression) × GoodTable table.now.kind.now table.now.name.now table.now.size.now es) }
+    ensures { (es : List Expression) → GoodTable table.now.kind.now table.now.name.now table.now.size.now es → TablesOf es tables.new }
 {
-    let heads = heads_of(kind, size);
-    let states = states_of(kind, size, &heads);
-    lay(&names_of(name), &heads, &states, tables);
+    let heads = heads_of(table.kind, table.size);
+    let states = states_of(table.kind, table.size, &heads);
+    lay(&names_of(table.name), &heads, &states, tables);
 }
 
 // The state before the first letter, for the expression that starts at the row `root`.

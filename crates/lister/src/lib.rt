@@ -29,18 +29,10 @@ fn list_checked(variables: &Variables, problem: &Problem, budget: u32, out: &mut
     requires { Checked (lists problem.now) variables.now }
     ensures { Settled (lists problem.now) budget out.old (told (Ok result)) out.new }
 {
-    let pattern = problem.pattern;
-    let table = problem.table;
     let mut tables = [0u64; 320];
-    letters::tables_of(table.kind, table.name, table.size, &mut tables);
+    letters::tables_of(&problem.table, &mut tables);
     let mut packed = [0u32; 1536];
-    walk::pack(
-        pattern.kind,
-        pattern.name,
-        pattern.size,
-        problem.constraint,
-        &mut packed,
-    );
+    walk::pack(&problem.pattern, problem.constraint, &mut packed);
     let width = variables.count + variables.count;
     let room = room_for(out.len(), width);
     begin(&problem.tree, &packed, &tables, budget, room, width, out)
@@ -95,18 +87,10 @@ pub fn list_after(
     if record.len() != width {
         return Err(Refusal::Record);
     }
-    let pattern = problem.pattern;
-    let table = problem.table;
     let mut tables = [0u64; 320];
-    letters::tables_of(table.kind, table.name, table.size, &mut tables);
+    letters::tables_of(&problem.table, &mut tables);
     let mut packed = [0u32; 1536];
-    walk::pack(
-        pattern.kind,
-        pattern.name,
-        pattern.size,
-        problem.constraint,
-        &mut packed,
-    );
+    walk::pack(&problem.pattern, problem.constraint, &mut packed);
     let room = room_for(out.len(), width);
     match resume(
         &problem.tree,

@@ -47,15 +47,8 @@ fn placed(problem: &Problem, record: &[u32]) -> bool
     requires { WalkablePre (lists problem.now) «record».now }
     ensures { PlacedPost (lists problem.now) «record».now result }
 {
-    let pattern = problem.pattern;
     let mut packed = [0u32; 1536];
-    walk::pack(
-        pattern.kind,
-        pattern.name,
-        pattern.size,
-        problem.constraint,
-        &mut packed,
-    );
+    walk::pack(&problem.pattern, problem.constraint, &mut packed);
     let mut found = [0u32; 32];
     follow(&problem.tree, &packed, record, &mut found) && record::equal(&found, record)
 }
@@ -88,9 +81,8 @@ fn obeyed(problem: &Problem, variables: &Variables, record: &[u32]) -> bool
     requires { ConstrainedPre (lists problem.now) variables.now «record».now }
     ensures { ObeyedPost (lists problem.now) variables.now «record».now result }
 {
-    let table = problem.table;
     let mut tables = [0u64; 320];
-    letters::tables_of(table.kind, table.name, table.size, &mut tables);
+    letters::tables_of(&problem.table, &mut tables);
     all_obey(problem, &tables, variables, record)
 }
 

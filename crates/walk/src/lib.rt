@@ -9,6 +9,7 @@ ghost use Rattle.walk.specs.Onward.{UpPre, UpPost, ResumePre, ResumePost, BeginP
 ghost use Rattle.walk.specs.Taken.{TakePre, TakePost};
 
 use meaning::kinds::{CONTEXT, INDIVIDUAL, SEQUENCE};
+use pattern::Pattern;
 use tree::Tree;
 use variable::Step;
 
@@ -74,18 +75,18 @@ fn holder_of(size: &[u32], packed: &[u32], row: usize) -> usize
 }
 
 // The pattern's lists in one, with each row's holder and constraint: a call with few slices costs less.
-pub fn pack(kind: &[u32], name: &[u32], size: &[u32], constraint: &[u32], packed: &mut [u32])
-    requires { PackPre kind.now name.now size.now packed.old }
-    ensures { Packed kind.now name.now size.now packed.new
-        × Bounds kind.now name.now constraint.now packed.new }
+pub fn pack(pattern: &Pattern, constraint: &[u32], packed: &mut [u32])
+    requires { PackPre pattern.now.kind.now pattern.now.name.now pattern.now.size.now packed.old }
+    ensures { Packed pattern.now.kind.now pattern.now.name.now pattern.now.size.now packed.new
+        × Bounds pattern.now.kind.now pattern.now.name.now constraint.now packed.new }
 {
-    for row in 0..kind.len() {
-        let holder = holder_of(size, packed, row) as u32;
-        let x = tree::at(name, row);
+    for row in 0..pattern.kind.len() {
+        let holder = holder_of(pattern.size, packed, row) as u32;
+        let x = tree::at(pattern.name, row);
         let r = PatternRow {
-            kind: kind[row],
-            name: name[row],
-            size: size[row],
+            kind: pattern.kind[row],
+            name: pattern.name[row],
+            size: pattern.size[row],
             holder,
             start: entry(constraint, x + x),
             flag: entry(constraint, x + x + 1),
