@@ -9,6 +9,7 @@ ghost use Rattle.levels.specs.Columns.{lefts, Inside, LevelAt, Moved, Entered};
 ghost use Rattle.levels.specs.Levels.{AttemptPre, AttemptPost};
 ghost use Rattle.levels.specs.Steps.{NextPre, NextPost, DeeperPre, DeeperPost};
 
+use memory::Memory;
 use tree::Tree;
 use walk::Halt;
 
@@ -162,7 +163,7 @@ pub fn attempt(
     record: &mut [u32; 32],
     at: &mut [usize; 256],
     t: Try,
-    memory: &mut [usize; 1280],
+    memory: &mut Memory,
     path: &mut [usize; 259],
 ) -> Result<usize, Halt>
     requires { AttemptPre tree.now.label.now tree.now.size.now pattern.now tables.now «record».old at.old t.p t.x t.s t.u t.v

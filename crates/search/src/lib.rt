@@ -7,6 +7,7 @@ ghost use Rattle.search.specs.Search.{GoPre, GoPost};
 
 use levels::{attempt, deeper, next_try};
 use meaning::endings::Ending;
+use memory::Memory;
 use tree::Tree;
 use walk::Halt;
 
@@ -63,7 +64,7 @@ pub fn go(
     let budget = limits.budget;
     let room = limits.room;
     let width = limits.width;
-    let mut memory = [0usize; 1280];
+    let mut memory = Memory::new();
     let mut path = [0usize; 259];
     let mut depth = start;
     let mut count: usize = 0;
