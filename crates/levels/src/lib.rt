@@ -10,6 +10,7 @@ ghost use Rattle.levels.specs.Levels.{AttemptPre, AttemptPost};
 ghost use Rattle.levels.specs.Steps.{NextPre, NextPost, DeeperPre, DeeperPost};
 
 use memory::Memory;
+use paths::Path;
 use tree::Tree;
 use walk::Halt;
 
@@ -164,7 +165,7 @@ pub fn attempt(
     at: &mut [usize; 256],
     t: Try,
     memory: &mut Memory,
-    path: &mut [usize; 259],
+    path: &mut Path,
 ) -> Result<usize, Halt>
     requires { AttemptPre tree.now.label.now tree.now.size.now pattern.now tables.now «record».old at.old t.p t.x t.s t.u t.v
         × Both tree.now.label.now tree.now.size.now tables.now (root_of pattern.now) memory.old path.old }

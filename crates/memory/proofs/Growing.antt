@@ -11,6 +11,7 @@ use Rattle.meaning.proofs.Laws.{drop_t}
 use Rattle.constraint.specs.Reading.{MorePre, ReadTo, ReadOn, ForbiddenPost}
 use Rattle.constraint.proofs.Readings.{Begun, no_head, all_heads}
 use Rattle.constraint.proofs.Obeyed.{obeys_free, obeys_forbidden, obeys_read, heads_after, path_after, heads_asked, path_asked}
+use Rattle.paths.specs.declared.Path.{Path}
 use Rattle.paths.specs.Paths.{AcceptedPre, AcceptedPost}
 use Rattle.walk.specs.Packed.{root_of}
 use Rattle.memory.specs.declared.Memory.{Memory}
@@ -50,8 +51,8 @@ module _ {L S tables : List ℕ} {root x a b : ℕ} {memory : Memory} (p : Grown
           rw y at (on.on root a count (was roots q r))
 
 -- JUDGED
-module _ {L S M tables : List ℕ} {x a b : ℕ} {memory : Memory} {path : List ℕ} (p : GrowPre L S M tables x a b memory path) where
-  abbrev Post : Bool → Memory → List ℕ → Type 0
+module _ {L S M tables : List ℕ} {x a b : ℕ} {memory : Memory} {path : Path} (p : GrowPre L S M tables x a b memory path) where
+  abbrev Post : Bool → Memory → Path → Type 0
   Post = GrowPost L S M tables x a b
 
   pub grow_free : get_or M (6 * x + 4) 0 ≡ 0 → Post true memory path
@@ -68,7 +69,7 @@ module _ {L S M tables : List ℕ} {x a b : ℕ} {memory : Memory} {path : List 
           remembers = record { sequences = g.remembers (root_of M) q p.remembers.sequences; contexts = p.remembers.contexts };
         }
 
-    pub grow_path : r ≡ false → get_or M (6 * x) 0 ≢ 2 → {root : ℕ} {end : Bool} {later : List ℕ} → root ≡ root_of M x → AcceptedPost L S tables root x a b end later → Post end memory later
+    pub grow_path : r ≡ false → get_or M (6 * x) 0 ≢ 2 → {root : ℕ} {end : Bool} {later : Path} → root ≡ root_of M x → AcceptedPost L S tables root x a b end later → Post end memory later
     grow_path n k q g =
         record {
           judged = obeys_read L S tables _ _ _ a b start f n q (path_after L S tables _ a b k g.after);

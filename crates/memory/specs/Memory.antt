@@ -3,6 +3,7 @@
 use Rattle.std.specs.Prelude.{ℕ, ◌+◌, ◌*◌, ◌<◌, ◌≤◌, ◌≡◌, Bool, List, Option, Some, None, length, get_or, set}
 use Rattle.constraint.specs.Reading.{HeadsPre, ReadTo, ObeysPre, ObeysPost}
 use Rattle.paths.specs.Paths as paths
+use Rattle.paths.specs.declared.Path.{Path}
 use Rattle.walk.specs.Packed.{root_of}
 use Rattle.memory.specs.declared.Kept.{Kept}
 use Rattle.memory.specs.declared.Memory.{Memory}
@@ -21,7 +22,7 @@ pub record Remembers (L S tables : List ℕ) (roots : ℕ → ℕ) (memory : Mem
   pub each : (x : ℕ) → x < 256 → Read L S tables (roots x) memory x
 
 -- what is remembered of sequences and of a path
-pub record Both (L S tables : List ℕ) (roots : ℕ → ℕ) (memory : Memory) (path : List ℕ) : Type 0 where
+pub record Both (L S tables : List ℕ) (roots : ℕ → ℕ) (memory : Memory) (path : Path) : Type 0 where
   pub sequences : Remembers L S tables roots memory
   pub contexts : paths.Remembers L S tables roots path
 
@@ -53,13 +54,13 @@ pub record GrownPost (L S tables : List ℕ) (root x a b : ℕ) (before : Memory
   pub remembers : (roots : ℕ → ℕ) → root ≡ roots x → Remembers L S tables roots before → Remembers L S tables roots memory
 
 -- the value that the numbers a and b mean is judged by the constraint of the choice p
-pub record GrowPre (L S M tables : List ℕ) (p a b : ℕ) (memory : Memory) (path : List ℕ) : Type 0 where
+pub record GrowPre (L S M tables : List ℕ) (p a b : ℕ) (memory : Memory) (path : Path) : Type 0 where
   pub asked : ObeysPre L S (get_or M (6 * p + 4) 0) (get_or M (6 * p + 5) 0) (get_or M (6 * p) 0) a b
   pub few : p < 256
   pub small : length L < 4294967296
   pub remembers : Both L S tables (root_of M) memory path
 
 -- the answer of `constraint::obeys`
-pub record GrowPost (L S M tables : List ℕ) (p a b : ℕ) (r : Bool) (memory : Memory) (path : List ℕ) : Type 0 where
+pub record GrowPost (L S M tables : List ℕ) (p a b : ℕ) (r : Bool) (memory : Memory) (path : Path) : Type 0 where
   pub judged : ObeysPost L S tables (get_or M (6 * p + 4) 0) (get_or M (6 * p + 5) 0) (get_or M (6 * p) 0) a b r
   pub remembers : Both L S tables (root_of M) memory path

@@ -8,6 +8,7 @@ ghost use Rattle.memory.specs.Memory.{kept, RecallPre, RecallPost, GrownPre, Gro
 use constraint::Mark;
 use letters::State;
 use meaning::kinds::SEQUENCE;
+use paths::Path;
 use tree::Tree;
 
 // What has been read of a choice's sequence: the row where the reading began, how many heads are read, the row where it stands, and
@@ -126,7 +127,7 @@ pub fn allowed(
     a: usize,
     b: usize,
     memory: &mut Memory,
-    path: &mut [usize; 259],
+    path: &mut Path,
 ) -> bool
     requires { GrowPre tree.now.label.now tree.now.size.now pattern.now tables.now p a b memory.old path.old }
     ensures { GrowPost tree.now.label.now tree.now.size.now pattern.now tables.now p a b result memory.new path.new }

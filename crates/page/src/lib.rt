@@ -5,6 +5,7 @@ ghost use Rattle.page.specs.Page.{ChoosePre, ChoosePost, ReachPre, ReachPost};
 
 use levels::{Try, advance, attempt, enter};
 use memory::Memory;
+use paths::Path;
 use tree::Tree;
 use walk::Halt;
 
@@ -65,7 +66,7 @@ pub fn reach(
     ensures { ReachPost tree.now.label.now tree.now.size.now pattern.now tables.now list.now «record».new at.new levels.new result }
 {
     let mut memory = Memory::new();
-    let mut path = [0usize; 259];
+    let mut path = Path::new();
     let mut depth = 0;
     let mut o = walk::begin(tree, pattern, record, at);
     loop {

@@ -8,6 +8,7 @@ ghost use Rattle.search.specs.Search.{GoPre, GoPost};
 use levels::{attempt, deeper, next_try};
 use meaning::endings::Ending;
 use memory::Memory;
+use paths::Path;
 use tree::Tree;
 use walk::Halt;
 
@@ -65,7 +66,7 @@ pub fn go(
     let room = limits.room;
     let width = limits.width;
     let mut memory = Memory::new();
-    let mut path = [0usize; 259];
+    let mut path = Path::new();
     let mut depth = start;
     let mut count: usize = 0;
     let mut tries: u32 = 0;
