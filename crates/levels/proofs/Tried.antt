@@ -17,6 +17,8 @@ use Rattle.constraint.specs.Obeys.{Constraint}
 use Rattle.constraint.specs.Reading.{ObeysPre, ObeysPost}
 use Rattle.problem.specs.Allowing.{AllowedPost}
 use Rattle.problem.proofs.Allows.{kind_number, allowed_asks, allowed_by}
+use Rattle.memory.specs.declared.Memory.{Memory}
+use Rattle.paths.specs.declared.Path.{Path}
 use Rattle.memory.specs.Memory.{Both, GrowPre}
 use Rattle.walk.specs.Packed.{root_of}
 use Rattle.walk.specs.Above.{Stands, before_terms, over_term}
@@ -62,7 +64,7 @@ module _ {L S M tables R A : List ℕ} {p x s u v : ℕ}
     says : {r : Bool} → ObeysPost L S tables (get_or M (6 * p + 4) 0) (get_or M (6 * p + 5) 0) (get_or M (6 * p) 0) s v r → AllowedPost L S tables w.C w.kinds x s v r
     says post = allowed_by x s v (rw (its_start, its_flag, its_kind) at post)
 
-  pub try_judged : {memory path : List ℕ} → Both L S tables (root_of M) memory path → GrowPre L S M tables p s v memory path
+  pub try_judged : {memory : Memory} {path : Path} → Both L S tables (root_of M) memory path → GrowPre L S M tables p s v memory path
   try_judged both =
       let h = pre.some in
       record {

@@ -9,6 +9,8 @@ ghost use Rattle.levels.specs.Columns.{lefts, Inside, Moved, Entered};
 ghost use Rattle.levels.specs.Levels.{AttemptPre, AttemptPost};
 ghost use Rattle.levels.specs.Steps.{NextPre, NextPost, DeeperPre, DeeperPost};
 
+use memory::Memory;
+use paths::Path;
 use tree::Tree;
 use walk::Halt;
 
@@ -159,8 +161,8 @@ pub fn attempt(
     record: &mut [u32; 32],
     at: &mut [usize; 256],
     t: Try,
-    memory: &mut [usize; 1280],
-    path: &mut [usize; 259],
+    memory: &mut Memory,
+    path: &mut Path,
 ) -> Result<usize, Halt>
     requires { AttemptPre tree.now.label.now tree.now.size.now pattern.now tables.now «record».old at.old t.p t.x t.s t.u t.v
         × Both tree.now.label.now tree.now.size.now tables.now (root_of pattern.now) memory.old path.old }

@@ -2,13 +2,39 @@
 // goes on from the last one's.
 #![tactic(auto)]
 
-ghost use Rattle.std.specs.Prelude.{◌≡◌, ◌<◌, ◌-◌, length};
+ghost use Rattle.std.specs.Prelude.{◌≡◌, ◌<◌, ◌-◌, length, replicate, None};
 ghost use Rattle.memory.specs.Memory.{kept, RecallPre, RecallPost, GrownPre, GrownPost, GrowPre, GrowPost};
 
 use constraint::Mark;
 use letters::State;
 use meaning::kinds::SEQUENCE;
+use paths::Path;
 use tree::Tree;
+
+// What has been read of a choice's sequence: the row where the reading began, how many heads are read, the row where it stands, and
+// its state.
+#[derive(Clone, Copy)]
+struct Kept {
+    start: usize,
+    count: usize,
+    row: usize,
+    state: State,
+}
+
+// For each choice the last reading of its sequence, if there was one.
+#[derive(Drop)]
+pub struct Memory {
+    kept: [Option<Kept>; 256],
+}
+
+impl Memory {
+    // Nothing is remembered.
+    pub fn new() -> Memory
+        ensures { result.kept ≡ replicate 256 None }
+    {
+        Memory { kept: [None; 256] }
+    }
+}
 
 // A reading of the heads of a sequence, and how many are read.
 #[derive(Drop)]
@@ -19,7 +45,7 @@ struct Recalled {
 
 // The reading of the choice that is remembered, where it began at the row a and is not beyond b; else one that begins.
 fn recall(
-    memory: &[usize; 1280],
+    memory: &Memory,
     tables: &[u64; 320],
     root: usize,
     choice: usize,
@@ -29,19 +55,15 @@ fn recall(
     requires { RecallPre root memory.now choice }
     ensures { RecallPost tables.now root memory.now choice a b result.mark.row result.mark.state.next result.count result.mark.state.end }
 {
-    let at = 5 * choice;
-    let row = memory[at];
-    let count = memory[at + 2];
-    if row != 0 {
-        if memory[at + 1] == a {
-            if count <= b {
-                let state = State {
-                    next: memory[at + 3] as u64,
-                    end: memory[at + 4] == 1,
-                };
+    if let Some(kept) = memory.kept[choice] {
+        if kept.start == a {
+            if kept.count <= b {
                 return Recalled {
-                    mark: Mark { row, state },
-                    count,
+                    mark: Mark {
+                        row: kept.row,
+                        state: kept.state,
+                    },
+                    count: kept.count,
                 };
             }
         }
@@ -54,16 +76,16 @@ fn recall(
 }
 
 // The reading of the choice is kept for the next value.
-fn keep(memory: &mut [usize; 1280], choice: usize, mark: &Mark, a: usize, count: usize)
-    requires { (choice < 256) × (length memory.old ≡ 1280) }
+fn keep(memory: &mut Memory, choice: usize, mark: &Mark, a: usize, count: usize)
+    requires { (choice < 256) × (length memory.old.kept ≡ 256) }
     ensures { memory.new ≡ kept memory.old choice mark.now.row a count mark.now.state.next mark.now.state.end }
 {
-    let at = 5 * choice;
-    memory[at] = mark.row;
-    memory[at + 1] = a;
-    memory[at + 2] = count;
-    memory[at + 3] = mark.state.next as usize;
-    memory[at + 4] = usize::from(mark.state.end);
+    memory.kept[choice] = Some(Kept {
+        start: a,
+        count,
+        row: mark.row,
+        state: mark.state,
+    });
 }
 
 // Whether the heads of b neighbours from the row a on are a word of the expression at the row root: read on from what is
@@ -75,7 +97,7 @@ fn grown(
     choice: usize,
     a: usize,
     b: usize,
-    memory: &mut [usize; 1280],
+    memory: &mut Memory,
 ) -> bool
     requires { GrownPre tree.now.label.now tree.now.size.now tables.now root choice a b memory.old }
     ensures { GrownPost tree.now.label.now tree.now.size.now tables.now root choice a b memory.old result memory.new }
@@ -104,8 +126,8 @@ pub fn allowed(
     p: usize,
     a: usize,
     b: usize,
-    memory: &mut [usize; 1280],
-    path: &mut [usize; 259],
+    memory: &mut Memory,
+    path: &mut Path,
 ) -> bool
     requires { GrowPre tree.now.label.now tree.now.size.now pattern.now tables.now p a b memory.old path.old }
     ensures { GrowPost tree.now.label.now tree.now.size.now pattern.now tables.now p a b result memory.new path.new }

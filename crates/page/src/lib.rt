@@ -4,6 +4,8 @@
 ghost use Rattle.page.specs.Page.{ChoosePre, ChoosePost, ReachPre, ReachPost};
 
 use levels::{Level, Try, advance, attempt, enter};
+use memory::Memory;
+use paths::Path;
 use tree::Tree;
 use walk::Halt;
 
@@ -63,8 +65,8 @@ pub fn reach(
     requires { ReachPre tree.now.label.now tree.now.size.now pattern.now tables.now list.now «record».old at.old levels.old }
     ensures { ReachPost tree.now.label.now tree.now.size.now pattern.now tables.now list.now «record».new at.new levels.new result }
 {
-    let mut memory = [0usize; 1280];
-    let mut path = [0usize; 259];
+    let mut memory = Memory::new();
+    let mut path = Path::new();
     let mut depth = 0;
     let mut o = walk::begin(tree, pattern, record, at);
     loop {

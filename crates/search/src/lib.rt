@@ -7,6 +7,8 @@ ghost use Rattle.search.specs.Search.{GoPre, GoPost};
 
 use levels::{Level, attempt, deeper, next_try};
 use meaning::endings::Ending;
+use memory::Memory;
+use paths::Path;
 use tree::Tree;
 use walk::Halt;
 
@@ -63,8 +65,8 @@ pub fn go(
     let budget = limits.budget;
     let room = limits.room;
     let width = limits.width;
-    let mut memory = [0usize; 1280];
-    let mut path = [0usize; 259];
+    let mut memory = Memory::new();
+    let mut path = Path::new();
     let mut depth = start;
     let mut count: usize = 0;
     let mut tries: u32 = 0;

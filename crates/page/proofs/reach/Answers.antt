@@ -8,7 +8,7 @@ use Rattle.page.proofs.Reaching.{reach_first, reach_fails, reach_other, reach_fo
 use Rattle.page.proofs.reach.Goals as goal
 
 pub loop-o-init : goal.loop-o-init
-loop-o-init c = (reach_first c.requires c.begin-o.ensures, record { sequences = blank _ _ _ _; contexts = paths.blank _ _ _ _ })
+loop-o-init c = (reach_first c.requires c.begin-o.ensures, record { sequences = blank _ _ _ _ c.new-memory.ensures; contexts = paths.blank _ _ _ _ c.new-path.ensures })
 
 pub returns-in-Err-Fail : goal.returns-in-Err-Fail
 returns-in-Err-Fail c = reach_fails c.loop-o.invariant.0 (c.in-Err-Fail.is ∙ ap Err (rw c.in-Err-Fail.is at c.in-Err-Fail.field-0-is))

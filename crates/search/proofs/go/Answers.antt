@@ -10,7 +10,7 @@ use Rattle.search.proofs.Turns.{going_start, going_depth, going_long, going_back
 use Rattle.search.proofs.go.Goals as goal
 
 pub loop-depth-init : goal.loop-depth-init
-loop-depth-init c = (going_start (columns_long c.args.levels.now c.requires.1) c.requires.0, record { sequences = blank _ _ _ _; contexts = paths.blank _ _ _ _ }, c.requires.1)
+loop-depth-init c = (going_start (columns_long c.args.levels.now c.requires.1) c.requires.0, record { sequences = blank _ _ _ _ c.new-memory.ensures; contexts = paths.blank _ _ _ _ c.new-path.ensures }, c.requires.1)
 
 pub back-depth-requires : goal.back-depth-requires
 back-depth-requires c = (going_depth c.loop-depth.invariant.0 c.requires.0, c.loop-depth.invariant.2)
