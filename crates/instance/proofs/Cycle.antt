@@ -1,6 +1,6 @@
 -- The cycle of terms: what each call asks follows from what was asked, and each return says what was to be said.
 use Prim.Native.Nat.{ℕ, suc, ◌+◌, ◌-◌, ◌<◌, ◌≤◌}
-use mathlib.Core.Path.{◌≡◌, refl, ◌∙◌}
+use mathlib.Core.Path.{◌≡◌, refl, ◌∙◌, sym}
 use mathlib.Core.Logic.{◌≢◌}
 use mathlib.Core.List.{List}
 use lib.ListN.{length, get_or}
@@ -55,6 +55,18 @@ pub record AtTerm (L S K N Z W OL OS : List ℕ) (p e t : ℕ) : Type 0 where
   pub pre : ArgumentsPre L S K N Z W OL OS p e t
   pub more : p ≢ e
   pub kind : get_or K p 0 ≢ 2
+
+-- what the kind that was read says of the row
+module _ {L S K N Z W OL OS : List ℕ} {p t k : ℕ} where
+  pub at_context : {x : ℕ} → TermPre L S K N Z W OL OS p t → k ≡ get_or K p 0 → k ≡ 4 → x ≡ get_or N p 0 → AtContext L S K N Z W OL OS p t x
+  at_context pre read is name = record { pre = pre; kind = sym read ∙ is; name = name }
+
+  module _ {e : ℕ} (pre : ArgumentsPre L S K N Z W OL OS p e t) (more : p ≢ e) (read : k ≡ get_or K p 0) where
+    pub at_sequence : {x : ℕ} → k ≡ 2 → x ≡ get_or N p 0 → AtSequence L S K N Z W OL OS p e t x
+    at_sequence is name = record { pre = pre; more = more; kind = sym read ∙ is; name = name }
+
+    pub at_term : k ≢ 2 → AtTerm L S K N Z W OL OS p e t
+    at_term is = record { pre = pre; more = more; kind = λ e. is (read ∙ e) }
 
 module _ {L S K N Z W OL OS : List ℕ} {p t : ℕ} where
   -- an individual variable
