@@ -12,6 +12,7 @@ use judge::judge;
 use judge::limits::MOST_BYTES;
 use judge::refusal::{Refusal, outside};
 use labels::fill::{copy_rows, label_rows};
+use labels::note::RowLists;
 use rows::note::{Unread, note};
 
 // Do so many rows fit all four lists?
@@ -35,10 +36,8 @@ fn read_rows(
     requires { (clear : List ℕ) × MayRead dictionary.now document.now names clear index.old }
     ensures { Read dictionary.now document.now label.old size.old start.old length.old label.new size.new start.new length.new (code_of result) (place_of result) (rows_of result) }
 {
-    let mut starts = [0u16; 2052];
-    let mut lengths = [0u16; 2052];
-    let mut sizes = [0u16; 2052];
-    let rows = match note(document, &mut starts, &mut lengths, &mut sizes) {
+    let mut notes = RowLists::new();
+    let rows = match note(document, &mut notes) {
         Ok(rows) => rows,
         Err(Unread::Outside(place)) => return Err(outside(place)),
         Err(Unread::Beyond) => return judge(document),
@@ -46,9 +45,9 @@ fn read_rows(
     if !fits(rows, label.len(), size.len(), start.len(), length.len()) {
         return Err(Refusal::NoRoom);
     }
-    copy_rows(&starts, &lengths, &sizes, start, length, size, rows);
+    copy_rows(&notes, start, length, size, rows);
     label_rows(
-        dictionary, document, names, index, label, &starts, &lengths, rows,
+        dictionary, document, names, index, label, &notes, rows,
     );
     Ok(rows as u32)
 }
@@ -80,10 +79,8 @@ fn verdict(document: &[u8]) -> Result<u32, Refusal>
     if MOST_BYTES < document.len() {
         return Err(Refusal::TooLong);
     }
-    let mut starts = [0u16; 2052];
-    let mut lengths = [0u16; 2052];
-    let mut sizes = [0u16; 2052];
-    match note(document, &mut starts, &mut lengths, &mut sizes) {
+    let mut notes = RowLists::new();
+    match note(document, &mut notes) {
         Ok(rows) => Ok(rows as u32),
         Err(Unread::Outside(place)) => Err(outside(place)),
         Err(Unread::Beyond) => judge(document),

@@ -6,6 +6,8 @@ ghost use Rattle.grammar.specs.Told.{Tells};
 ghost use Rattle.labels.specs.Lists.{Long, Copied};
 ghost use Rattle.labels.specs.Labelling.{MayLabelRows, LabelsRows};
 
+use super::note::RowLists;
+
 // The first numbers of a list of our own into a lent one, which are wider: so no `copy_from_slice`.
 fn copy(from: &[u16; 2052], to: &mut [u32], count: usize)
     requires { (length from.now ≡ 2052) × (count ≤ 2052) × (count ≤ length to.old) }
@@ -18,20 +20,18 @@ fn copy(from: &[u16; 2052], to: &mut [u32], count: usize)
 
 // The three lists of so many rows into lent ones.
 pub fn copy_rows(
-    starts: &[u16; 2052],
-    lengths: &[u16; 2052],
-    sizes: &[u16; 2052],
+    notes: &RowLists,
     start: &mut [u32],
     length: &mut [u32],
     size: &mut [u32],
     rows: usize,
 )
-    requires { Long starts.now lengths.now sizes.now × (rows ≤ 2052) × (rows ≤ lib.ListN.length start.old) × (rows ≤ lib.ListN.length length.old) × (rows ≤ lib.ListN.length size.old) }
-    ensures { Copied rows starts.now lengths.now sizes.now start.old length.old size.old start.new length.new size.new }
+    requires { Long notes.now.starts notes.now.lengths notes.now.sizes × (rows ≤ 2052) × (rows ≤ lib.ListN.length start.old) × (rows ≤ lib.ListN.length length.old) × (rows ≤ lib.ListN.length size.old) }
+    ensures { Copied rows notes.now.starts notes.now.lengths notes.now.sizes start.old length.old size.old start.new length.new size.new }
 {
-    copy(starts, start, rows);
-    copy(lengths, length, rows);
-    copy(sizes, size, rows);
+    copy(&notes.starts, start, rows);
+    copy(&notes.lengths, length, rows);
+    copy(&notes.sizes, size, rows);
 }
 
 // The label of a row whose spelling starts at `from` and has this number: twice the number for an element's, one more for a text's. The byte
@@ -55,17 +55,16 @@ pub fn label_rows(
     names: usize,
     index: &mut [u16],
     label: &mut [u32],
-    starts: &[u16; 2052],
-    lengths: &[u16; 2052],
+    notes: &RowLists,
     rows: usize,
 )
-    requires { (known : List (List ℕ)) × (sorts : List Sort) × (spellings : List (List ℕ)) × MayLabelRows dictionary.now document.now names index.old label.old starts.now lengths.now rows known sorts spellings }
-    ensures { LabelsRows dictionary.now document.now names index.old label.old starts.now lengths.now rows label.new }
+    requires { (known : List (List ℕ)) × (sorts : List Sort) × (spellings : List (List ℕ)) × MayLabelRows dictionary.now document.now names index.old label.old notes.now.starts notes.now.lengths rows known sorts spellings }
+    ensures { LabelsRows dictionary.now document.now names index.old label.old notes.now.starts notes.now.lengths rows label.new }
 {
     let mut count = names;
     for row in 0..rows {
-        let from = usize::from(starts[row]);
-        let to = from + usize::from(lengths[row]);
+        let from = usize::from(notes.starts[row]);
+        let to = from + usize::from(notes.lengths[row]);
         let found = dictionary::index::number_of(
             dictionary, document, names, index, count, from, to,
         );

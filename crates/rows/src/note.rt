@@ -12,7 +12,7 @@ use super::tags::next_tag;
 use judge::limits::{DEEPEST, MOST_ROWS};
 use judge::tags::Tag;
 use judge::{Run, is_whole};
-use labels::note::{close, put};
+use labels::note::RowLists;
 use tokens::class::{Classes, byte_at};
 use tokens::{long_text_end, long_white_end};
 
@@ -62,33 +62,31 @@ enum Turn {
 fn read_tag(
     document: &[u8],
     classes: &Classes,
-    starts: &mut [u16; 2052],
-    lengths: &mut [u16; 2052],
-    sizes: &mut [u16; 2052],
+    notes: &mut RowLists,
     top: usize,
     depth: usize,
     row: usize,
     at: usize,
 ) -> Result<Turn, Unread>
-    requires { (o : List Open) × (f : Content) × (t : Bytes) × MayTag document.now starts.old lengths.old top depth row at o f t }
-    ensures { (o : List Open) (f : Content) (t : Bytes) → MayTag document.now starts.old lengths.old top depth row at o f t → TagDone document.now starts.old lengths.old sizes.old depth row at o f t starts.new lengths.new sizes.new result }
+    requires { (o : List Open) × (f : Content) × (t : Bytes) × MayTag document.now notes.old.starts notes.old.lengths top depth row at o f t }
+    ensures { (o : List Open) (f : Content) (t : Bytes) → MayTag document.now notes.old.starts notes.old.lengths top depth row at o f t → TagDone document.now notes.old.starts notes.old.lengths notes.old.sizes depth row at o f t notes.new.starts notes.new.lengths notes.new.sizes result }
 {
-    let name = usize::from(starts[top]);
-    let length = usize::from(lengths[top]);
+    let name = usize::from(notes.starts[top]);
+    let length = usize::from(notes.lengths[top]);
     let tag = next_tag(document, classes, name, length, depth, row, at).map_err(Unread::Outside)?;
     match tag {
         Tag::Opens(end, next) => {
             if DEEPEST <= depth {
                 return Err(Unread::Beyond);
             }
-            put(starts, lengths, sizes, row, at + 1, end - (at + 1));
+            notes.put(row, at + 1, end - (at + 1));
             Ok(Turn::Opens(row, next))
         }
         Tag::Empty(end, next) => {
             if DEEPEST <= depth {
                 return Err(Unread::Beyond);
             }
-            put(starts, lengths, sizes, row, at + 1, end - (at + 1));
+            notes.put(row, at + 1, end - (at + 1));
             Ok(Turn::Empty(row, next))
         }
         Tag::Closes(next) => Ok(Turn::Closes(row, next)),
@@ -107,15 +105,13 @@ enum Ran {
 fn read_run(
     document: &[u8],
     classes: &Classes,
-    starts: &mut [u16; 2052],
-    lengths: &mut [u16; 2052],
-    sizes: &mut [u16; 2052],
+    notes: &mut RowLists,
     depth: usize,
     row: usize,
     i: usize,
 ) -> Result<Ran, Unread>
     requires { (lib.ListN.length document.now ≤ 32768) × (i ≤ lib.ListN.length document.now) × (depth ≤ 64) }
-    ensures { RunDone document.now starts.old lengths.old sizes.old depth row i starts.new lengths.new sizes.new result }
+    ensures { RunDone document.now notes.old.starts notes.old.lengths notes.old.sizes depth row i notes.new.starts notes.new.lengths notes.new.sizes result }
 {
     if MOST_ROWS < row {
         return Err(Unread::Beyond);
@@ -126,7 +122,7 @@ fn read_run(
     let text = run(document, classes, depth, i);
     let at = text.end;
     let leaves = text.rows;
-    put(starts, lengths, sizes, row, i, at - i);
+    notes.put(row, i, at - i);
     let row = row + leaves;
     if byte_at(document, at) != b'<' {
         if !is_whole(document.len(), at, depth, row) {
@@ -144,22 +140,20 @@ fn read_run(
 fn read_turn(
     document: &[u8],
     classes: &Classes,
-    starts: &mut [u16; 2052],
-    lengths: &mut [u16; 2052],
-    sizes: &mut [u16; 2052],
+    notes: &mut RowLists,
     top: usize,
     depth: usize,
     row: usize,
     i: usize,
 ) -> Result<Turn, Unread>
-    requires { (o : List Open) × (f : Content) × MayTurn document.now starts.old lengths.old sizes.old top depth row i o f }
-    ensures { (o : List Open) (f : Content) → MayTurn document.now starts.old lengths.old sizes.old top depth row i o f → TurnDone document.now starts.old lengths.old sizes.old depth row i o f starts.new lengths.new sizes.new result }
+    requires { (o : List Open) × (f : Content) × MayTurn document.now notes.old.starts notes.old.lengths notes.old.sizes top depth row i o f }
+    ensures { (o : List Open) (f : Content) → MayTurn document.now notes.old.starts notes.old.lengths notes.old.sizes top depth row i o f → TurnDone document.now notes.old.starts notes.old.lengths notes.old.sizes depth row i o f notes.new.starts notes.new.lengths notes.new.sizes result }
 {
-    let run = read_run(document, classes, starts, lengths, sizes, depth, row, i)?;
+    let run = read_run(document, classes, notes, depth, row, i)?;
     match run {
         Ran::Last(rows) => Ok(Turn::Ends(rows)),
         Ran::Tag(behind, at) => read_tag(
-            document, classes, starts, lengths, sizes, top, depth, behind, at,
+            document, classes, notes, top, depth, behind, at,
         ),
     }
 }
@@ -168,12 +162,10 @@ fn read_turn(
 fn pass(
     document: &[u8],
     classes: &Classes,
-    starts: &mut [u16; 2052],
-    lengths: &mut [u16; 2052],
-    sizes: &mut [u16; 2052],
+    notes: &mut RowLists,
 ) -> Result<usize, Unread>
-    requires { (lib.ListN.length document.now ≤ 32768) × Long starts.old lengths.old sizes.old }
-    ensures { Notes document.now starts.new lengths.new sizes.new result }
+    requires { (lib.ListN.length document.now ≤ 32768) × Long notes.old.starts notes.old.lengths notes.old.sizes }
+    ensures { Notes document.now notes.new.starts notes.new.lengths notes.new.sizes result }
 {
     let mut around = [0u16; 64];
     let mut top: usize = 0;
@@ -182,7 +174,7 @@ fn pass(
     let mut i: usize = 0;
     loop {
         let turn = read_turn(
-            document, classes, starts, lengths, sizes, top, depth, row, i,
+            document, classes, notes, top, depth, row, i,
         )?;
         match turn {
             Turn::Ends(rows) => return Ok(rows),
@@ -198,7 +190,7 @@ fn pass(
                 i = next;
             }
             Turn::Closes(behind, next) => {
-                close(sizes, top, behind);
+                notes.close(top, behind);
                 depth = depth - 1;
                 top = usize::from(around[depth]);
                 row = behind;
@@ -211,13 +203,11 @@ fn pass(
 // Three rows more than 2,048 have room, since a turn may put two before they are counted.
 pub fn note(
     document: &[u8],
-    starts: &mut [u16; 2052],
-    lengths: &mut [u16; 2052],
-    sizes: &mut [u16; 2052],
+    notes: &mut RowLists,
 ) -> Result<usize, Unread>
-    requires { (lib.ListN.length document.now ≤ 32768) × Long starts.old lengths.old sizes.old }
-    ensures { Notes document.now starts.new lengths.new sizes.new result }
+    requires { (lib.ListN.length document.now ≤ 32768) × Long notes.old.starts notes.old.lengths notes.old.sizes }
+    ensures { Notes document.now notes.new.starts notes.new.lengths notes.new.sizes result }
 {
     let classes = Classes::new();
-    pass(document, &classes, starts, lengths, sizes)
+    pass(document, &classes, notes)
 }

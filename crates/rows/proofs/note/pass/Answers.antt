@@ -68,4 +68,4 @@ loop-turn-smaller c = let k = c.loop-turn.invariant in let done = turn_closes k 
 
 pub loop-turn-preserved : goal.loop-turn-preserved
 loop-turn-preserved c = let k = c.loop-turn.invariant in let done = turn_closes k (rw c.in-Closes.is at (c.in_ok-turn.ensures _ _ (may_turn k c.requires.0))) in
-    rw c.close.ensures (done.kept c.from-top.ensures)
+    rw (c.close.ensures.0, c.close.ensures.1, c.close.ensures.2) (done.kept c.from-top.ensures)
