@@ -5,8 +5,8 @@ use Rattle.constraint.proofs.read_on.Goals as goal
 pub loop-init : goal.loop-init
 loop-init c = reading_begins _ _ _ _ _ _ _ c.requires
 
-pub bounds-tree-row : goal.bounds-tree-row
-bounds-tree-row c = (reading_row _ _ _ _ _ _ _ c.loop.invariant c.loop-test.true).0
+pub bounds-label-row : goal.bounds-label-row
+bounds-label-row c = (reading_row _ _ _ _ _ _ _ c.loop.invariant c.loop-test.true).0
 
 pub next-row-requires : goal.next-row-requires
 next-row-requires c = (reading_row _ _ _ _ _ _ _ c.loop.invariant c.loop-test.true).1
