@@ -1,4 +1,4 @@
-use Rattle.std.proofs.Common.{List, ℕ, ◌≡◌, ◌≤◌, length, arith, sym}
+use Rattle.std.proofs.Common.{List, ℕ, ◌≡◌, ◌≤◌, length, arith, sym, refl}
 use Rattle.std.proofs.lemmas.List.{length-take-le}
 use Rattle.document.proofs.Cases.{Cases, bad_dictionary, bad_document, without_room, filled, cases}
 use Rattle.list_q.proofs.answer.Goals as goal
@@ -12,13 +12,13 @@ fits (without_room g v h u) e = absurd (omega (arith, e))
 fits (filled g v h d w) e = (omega arith, omega arith)
 
 pub slice_bounds-label-end : goal.slice_bounds-label-end
-slice_bounds-label-end g c = omega (arith, fits (cases c.read-read.ensures) c.if-code-ne0.false)
+slice_bounds-label-end g c = omega (arith, fits (cases (rw c.in-Ok.is at c.read.ensures)) refl)
 
-pub slice_bounds-list_q-end : goal.slice_bounds-list_q-end
-slice_bounds-list_q-end g c = sym (length-take-le _ _ (omega (arith, fits (cases c.read-read.ensures) c.if-code-ne0.false)))
+pub slice_bounds-tree-end : goal.slice_bounds-tree-end
+slice_bounds-tree-end g c = sym (length-take-le _ _ (omega (arith, fits (cases (rw c.in-Ok.is at c.read.ensures)) refl)))
 
 pub slice_bounds-size-end : goal.slice_bounds-size-end
-slice_bounds-size-end g c = omega (arith, fits (cases c.read-read.ensures) c.if-code-ne0.false)
+slice_bounds-size-end g c = omega (arith, fits (cases (rw c.in-Ok.is at c.read.ensures)) refl)
 
-pub slice_bounds-list_q-end-2 : goal.slice_bounds-list_q-end-2
-slice_bounds-list_q-end-2 g c = sym (length-take-le _ _ (omega (arith, fits (cases c.read-read.ensures) c.if-code-ne0.false)))
+pub slice_bounds-tree-end-in-Ok : goal.slice_bounds-tree-end-in-Ok
+slice_bounds-tree-end-in-Ok g c = sym (length-take-le _ _ (omega (arith, fits (cases (rw c.in-Ok.is at c.read.ensures)) refl)))
