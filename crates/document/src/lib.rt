@@ -46,9 +46,7 @@ fn read_rows(
         return Err(Refusal::NoRoom);
     }
     copy_rows(&notes, start, length, size, rows);
-    label_rows(
-        dictionary, document, names, index, label, &notes, rows,
-    );
+    label_rows(dictionary, document, names, index, label, &notes, rows);
     Ok(rows as u32)
 }
 

@@ -34,10 +34,8 @@ use Rattle.meaning.proofs.Refusals.{code_some}
 use Rattle.instance.specs.Instance.{InstanceLists, lists_of, Instance, InstanceCodes, InstanceSettled}
 use Rattle.instance.specs.Places.{Ground, Written}
 use Rattle.instance.specs.Counting.{RowsPre, RowsPost}
-use Rattle.instance.specs.Packed.{PackPre, Packed}
-use Rattle.instance.specs.Cycle.{TermAsks, TermGives}
+use Rattle.instance.specs.Cycle.{TermPre, TermPost}
 use Rattle.instance.proofs.Writes.{sets_whole}
-use Rattle.instance.proofs.Packs.{packed_pre, packed_post}
 
 -- the values that the record means are those that are read off the tree
 read_of : {l : InstanceLists} {U : Term} (i : Instance l U) → U ≡ apply (read_off i.kinds (i.tree ◂ none) l.numbers) i.pattern
@@ -122,7 +120,7 @@ module _ {l : InstanceLists} {U : Term} (i : Instance l U) where
   ground = record { tree = tree_at i.good_tree; few = omega (arith, i.good_tree.few, (good_lengths i.good_tree).1); good = (means_read i.meant).0 }
 
   -- the pattern's lists are as long as its root's size
-  long : (length l.name ≡ length l.kind) × (get_or l.pattern_size 0 0 ≡ length l.kind) × (length l.pattern_size ≡ length l.kind)
+  long : (length l.name ≡ length l.kind) × (get_or l.pattern_size 0 0 ≡ length l.kind)
   unfolding sizes rows
   long =
       let P = i.pattern in
@@ -131,13 +129,7 @@ module _ {l : InstanceLists} {U : Term} (i : Instance l U) where
       let n = ap length g.names ∙ labels_rows (name_tree P) in
       let s = sym (sizes_rows (kind_tree P)) ∙ ap length (kind_sizes P) ∙ sizes_rows (name_tree P) in
       let z = ap (λ (xs : List ℕ). get_or xs 0 0) g.sized in
-      let m = ap length g.sized ∙ sizes_rows (name_tree P) in
-      (omega arith, omega arith, omega arith)
-
-  pub pack_pre : {M : List ℕ} → length M ≡ 768 → PackPre l.kind l.name l.pattern_size M
-  pack_pre r =
-      let f = i.good_pattern.few in
-      record { kinds = f; names = omega (arith, f, long.0); sizes = omega (arith, f, long.2); room = r }
+      (omega arith, omega arith)
 
   pub rows_pre : RowsPre l.size l.kind l.name l.numbers
   rows_pre =
@@ -151,22 +143,20 @@ module _ {l : InstanceLists} {U : Term} (i : Instance l U) where
   rows_is p =
       p.is l.label i.kinds (i.tree ◂ none) l.pattern_size i.pattern ground (good_placed i.good_pattern) long.1 ∙ sym (ap size (read_of i))
 
-  module _ {M : List ℕ} (m : Packed l.kind l.name l.pattern_size M) where
-    pub term_whole : {OL OS : List ℕ} → size U ≤ 2048 → size U ≤ length OL → size U ≤ length OS → TermAsks l.label l.size M l.numbers OL OS 0 0
-    term_whole h a b =
-        let z = ap size (read_of i) in
-        packed_pre m
-        (record {
-          some = (
-            i.kinds,
-            i.tree ◂ none,
-            i.pattern,
-            ground,
-            good_placed i.good_pattern,
-            record { labelled = omega arith; sized = omega arith; few = omega arith },
-          );
-        })
+  pub term_whole : {OL OS : List ℕ} → size U ≤ 2048 → size U ≤ length OL → size U ≤ length OS
+      → TermPre l.label l.size l.kind l.name l.pattern_size l.numbers OL OS 0 0
+  term_whole h a b =
+      let z = ap size (read_of i) in
+      record {
+        some = (
+          i.kinds,
+          i.tree ◂ none,
+          i.pattern,
+          ground,
+          good_placed i.good_pattern,
+          record { labelled = omega arith; sized = omega arith; few = omega arith },
+        );
+      }
 
-    pub written_whole : {OL OS NL NS : List ℕ} {r : ℕ} → TermGives l.label l.size M l.numbers OL OS 0 0 r NL NS → Written OL OS NL NS 0 (U ◂ none)
-    written_whole {OL} {OS} {NL} {NS} p =
-        rw (read_of i) ((packed_post m p).is i.kinds (i.tree ◂ none) i.pattern ground (good_placed i.good_pattern)).1
+  pub written_whole : {OL OS NL NS : List ℕ} {r : ℕ} → TermPost l.label l.size l.kind l.name l.pattern_size l.numbers OL OS 0 0 r NL NS → Written OL OS NL NS 0 (U ◂ none)
+  written_whole {OL} {OS} {NL} {NS} p = rw (read_of i) (p.is i.kinds (i.tree ◂ none) i.pattern ground (good_placed i.good_pattern)).1

@@ -4,13 +4,11 @@
 ghost use Rattle.instance.specs.Instance.{lists_of, InstanceSettled};
 
 mod counting;
-mod packed;
 mod value;
 mod write;
 
 use counting::rows_of;
 use meaning::Refusal;
-use packed::pack;
 use pattern::Pattern;
 use tree::Tree;
 use write::term;
@@ -48,8 +46,6 @@ pub fn instance(
     if out_size.len() < rows {
         return Err(Refusal::NoRoom);
     }
-    let mut packed = [0u32; 768];
-    pack(pattern, &mut packed);
-    term(tree, &packed, record, 0, 0, out_label, out_size);
+    term(tree, pattern, record, 0, 0, out_label, out_size);
     Ok(rows)
 }

@@ -3,14 +3,13 @@ ghost use Rattle.std.specs.Prelude.{◌≡◌, ◌+◌};
 ghost use Rattle.std.proofs.lemmas.List.Edits.{sets};
 ghost use Rattle.instance.specs.Places.{along, number, resized};
 ghost use Rattle.instance.specs.Pieces.{CopyPre, ResizedPre, AbovePre, AroundPre, AroundPost, IndividualPre, IndividualPost, SequencePre, SequencePost, FillingPre, FillingPost, ContextPre, ContextPost, HeadPre, HeadPost};
-ghost use Rattle.instance.specs.Packed.{names_of};
 
-use super::packed::{kind, name};
 use meaning::kinds::SYMBOL;
+use pattern::Pattern;
 use tree::Tree;
 
 // Copies so many numbers, to the places from `to` on.
-pub fn copy(list: &[u32], from: usize, count: usize, out: &mut [u32], to: usize)
+fn copy(list: &[u32], from: usize, count: usize, out: &mut [u32], to: usize)
     requires { CopyPre list.now out.old from count to }
     ensures { out.new ≡ sets out.old to (along (number list.now) from count) }
 {
@@ -161,7 +160,7 @@ pub fn context(
 // Writes the row of a symbol or a function variable, whose arguments end at `end`.
 pub fn head(
     label: &[u32],
-    pattern: &[u32],
+    pattern: &Pattern,
     record: &[u32],
     row: usize,
     to: usize,
@@ -169,15 +168,15 @@ pub fn head(
     out_label: &mut [u32],
     out_size: &mut [u32],
 )
-    requires { HeadPre label.now pattern.now (names_of pattern.now) «record».now out_label.old out_size.old row to end }
-    ensures { HeadPost label.now pattern.now (names_of pattern.now) «record».now out_label.old out_size.old row to end out_label.new out_size.new }
+    requires { HeadPre label.now pattern.now.kind.now pattern.now.name.now «record».now out_label.old out_size.old row to end }
+    ensures { HeadPost label.now pattern.now.kind.now pattern.now.name.now «record».now out_label.old out_size.old row to end out_label.new out_size.new }
 {
     out_size[to] = (end - to) as u32;
-    let name = name(pattern, row);
-    if kind(pattern, row) == SYMBOL {
-        out_label[to] = name as u32;
+    if pattern.kind[row] == SYMBOL {
+        out_label[to] = pattern.name[row];
         return;
     }
+    let name = pattern.name[row] as usize;
     let place = tree::at(record, name + name);
     out_label[to] = label[place];
 }

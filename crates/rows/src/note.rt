@@ -152,18 +152,12 @@ fn read_turn(
     let run = read_run(document, classes, notes, depth, row, i)?;
     match run {
         Ran::Last(rows) => Ok(Turn::Ends(rows)),
-        Ran::Tag(behind, at) => read_tag(
-            document, classes, notes, top, depth, behind, at,
-        ),
+        Ran::Tag(behind, at) => read_tag(document, classes, notes, top, depth, behind, at),
     }
 }
 
 // The pass. `around` has the rows of the elements around the innermost open one, `top`.
-fn pass(
-    document: &[u8],
-    classes: &Classes,
-    notes: &mut RowLists,
-) -> Result<usize, Unread>
+fn pass(document: &[u8], classes: &Classes, notes: &mut RowLists) -> Result<usize, Unread>
     requires { (lib.ListN.length document.now ≤ 32768) × Long notes.old.starts notes.old.lengths notes.old.sizes }
     ensures { Notes document.now notes.new.starts notes.new.lengths notes.new.sizes result }
 {
@@ -173,9 +167,7 @@ fn pass(
     let mut row: usize = 0;
     let mut i: usize = 0;
     loop {
-        let turn = read_turn(
-            document, classes, notes, top, depth, row, i,
-        )?;
+        let turn = read_turn(document, classes, notes, top, depth, row, i)?;
         match turn {
             Turn::Ends(rows) => return Ok(rows),
             Turn::Opens(element, next) => {
@@ -201,10 +193,7 @@ fn pass(
 }
 
 // Three rows more than 2,048 have room, since a turn may put two before they are counted.
-pub fn note(
-    document: &[u8],
-    notes: &mut RowLists,
-) -> Result<usize, Unread>
+pub fn note(document: &[u8], notes: &mut RowLists) -> Result<usize, Unread>
     requires { (lib.ListN.length document.now ≤ 32768) × Long notes.old.starts notes.old.lengths notes.old.sizes }
     ensures { Notes document.now notes.new.starts notes.new.lengths notes.new.sizes result }
 {

@@ -1,8 +1,7 @@
-use mathlib.Core.Path.{refl}
 use mathlib.Core.Logic.{inl, inr}
 use native.Mathlib.Omega.{arith}
 use Rattle.record.proofs.Whole.{record_pre, record_judged}
-use Rattle.instance.proofs.Whole.{found, refused_record, refused_rows, refused_room, made_whole, rows_pre, rows_is, pack_pre, term_whole, written_whole}
+use Rattle.instance.proofs.Whole.{found, refused_record, refused_rows, refused_room, made_whole, rows_pre, rows_is, term_whole, written_whole}
 use Rattle.instance.proofs.instance.Goals as goal
 
 pub fits-requires : goal.fits-requires
@@ -36,19 +35,14 @@ returns-then-out_size-rows c =
     let z = rows_is f.1 c.rows_of-rows.ensures in
     refused_room _ _ _ f.1 (omega (arith, c.if-rows-gt-MOST.false)) (inr (omega (arith, c.if-out_size-rows.true)))
 
-pub pack-requires : goal.pack-requires
-pack-requires c =
-    let f = found c.args.tree.now c.args.pattern.now c.args.«record».now (c.good.ensures.0 c.if-not-good.false) c.check-checked.ensures c.if-not-checked.false c.fits.ensures c.if-not-fits.false in
-    pack_pre f.1 refl
-
 pub term-requires : goal.term-requires
 term-requires c =
     let f = found c.args.tree.now c.args.pattern.now c.args.«record».now (c.good.ensures.0 c.if-not-good.false) c.check-checked.ensures c.if-not-checked.false c.fits.ensures c.if-not-fits.false in
     let z = rows_is f.1 c.rows_of-rows.ensures in
-    term_whole f.1 c.pack.ensures (omega (arith, c.if-rows-gt-MOST.false)) (omega (arith, c.if-out_label-rows.false)) (omega (arith, c.if-out_size-rows.false))
+    term_whole f.1 (omega (arith, c.if-rows-gt-MOST.false)) (omega (arith, c.if-out_label-rows.false)) (omega (arith, c.if-out_size-rows.false))
 
 pub returns : goal.returns
 returns c =
     let f = found c.args.tree.now c.args.pattern.now c.args.«record».now (c.good.ensures.0 c.if-not-good.false) c.check-checked.ensures c.if-not-checked.false c.fits.ensures c.if-not-fits.false in
     let z = rows_is f.1 c.rows_of-rows.ensures in
-    made_whole _ _ _ f.1 (omega (arith, c.if-rows-gt-MOST.false)) (omega (arith, c.if-out_label-rows.false)) (omega (arith, c.if-out_size-rows.false)) z (written_whole f.1 c.pack.ensures c.term.ensures)
+    made_whole _ _ _ f.1 (omega (arith, c.if-rows-gt-MOST.false)) (omega (arith, c.if-out_label-rows.false)) (omega (arith, c.if-out_size-rows.false)) z (written_whole f.1 c.term.ensures)
