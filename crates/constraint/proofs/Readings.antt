@@ -14,6 +14,7 @@ use Rattle.tree.specs.Places.{TermsAt, ContextAt}
 use Rattle.tree.specs.Helpers.{ChildPre, ChildPost}
 use Rattle.expression.specs.Expression.{Expression, In}
 use Rattle.expression.specs.Rows.{StartsAt}
+use Rattle.letters.specs.declared.Tables.{Tables}
 use Rattle.letters.specs.State.{StateOf, TablesOf}
 use Rattle.letters.proofs.Decide.{decides}
 use Rattle.constraint.specs.Obeys.{heads, path}
@@ -21,16 +22,16 @@ use Rattle.constraint.specs.Reading.{MorePre, ReadTo, ReadOn, PathPre, After}
 use Rattle.constraint.proofs.Words.{none_heads, heads_row, heads_rest, drop_more, heads_more, PathLeft, path_begin, path_row, path_child, path_read, path_end}
 
 -- what `begin` and `step` of `letters` ensure
-abbrev pub Begun : (tables : List ℕ) (root next : ℕ) (end : Bool) → Type 0
+abbrev pub Begun : (tables : Tables) (root next : ℕ) (end : Bool) → Type 0
 Begun tables root next end =
     (es : List Expression) (e : Expression) → TablesOf es tables → StartsAt es e root → StateOf tables e [] next end
 
-abbrev pub Stepped : (tables : List ℕ) (label before next : ℕ) (end : Bool) → Type 0
+abbrev pub Stepped : (tables : Tables) (label before next : ℕ) (end : Bool) → Type 0
 Stepped tables label before next end =
     (e : Expression) (word : List ℕ) (was : Bool) → StateOf tables e word before was → StateOf tables e (word ++ (label ∷ [])) next end
 
 -- the state after the empty word, after one more letter, and what its end says
-module _ {tables : List ℕ} {root : ℕ} where
+module _ {tables : Tables} {root : ℕ} where
   pub after_none : {next : ℕ} {end : Bool} → Begun tables root next end → After tables root [] next end
   after_none b = record { is = λ es e t s. b es e t s }
 
@@ -46,7 +47,7 @@ module _ {tables : List ℕ} {root : ℕ} where
   after_decides {es} {e} x t s = decides (x.is es e t s)
 
 -- the heads of neighbours
-module _ {L S tables : List ℕ} {root a : ℕ} where
+module _ {L S : List ℕ} {tables : Tables} {root a : ℕ} where
   pub no_head : {next : ℕ} {end : Bool} → Begun tables root next end → ReadTo L S tables root a 0 a next end
   unfolding drop_t
   no_head b = record { is = λ e f x h. (x, after_is (none_heads f) (after_none b)) }
@@ -61,7 +62,7 @@ module _ {L S tables : List ℕ} {root a : ℕ} where
       }
 
 -- a reading goes on
-module _ (L S tables : List ℕ) (start begun : ℕ) (was : Bool) (more : ℕ) where
+module _ (L S : List ℕ) (tables : Tables) (start begun : ℕ) (was : Bool) (more : ℕ) where
   -- so many are read, and the others stand from the row on
   pub record Reading (count row next : ℕ) (end : Bool) : Type 0 where
     pub there : MorePre L S row (more - count)
@@ -94,7 +95,7 @@ module _ (L S tables : List ℕ) (start begun : ℕ) (was : Bool) (more : ℕ) w
     reading_done y z = let e : count ≡ more = omega arith in rw e at h.read
 
 -- all heads from the first on
-module _ {L S tables : List ℕ} {root a count : ℕ} where
+module _ {L S : List ℕ} {tables : Tables} {root a count : ℕ} where
   pub from_first : {begun row next : ℕ} {was end : Bool} → Begun tables root begun was → ReadOn L S tables a begun was count row next end
       → ReadTo L S tables root a count row next end
   from_first b r = let z : 0 + count ≡ count = omega arith in rw z at (r.on root a 0 (no_head b))
@@ -103,7 +104,7 @@ module _ {L S tables : List ℕ} {root a count : ℕ} where
       → After tables root (heads (take_t count f)) next end
   all_heads r e f x h = (r.is e f x h).1
 
-module _ (L S tables : List ℕ) (root a : ℕ) where
+module _ (L S : List ℕ) (tables : Tables) (root a : ℕ) where
   -- some of the labels on the path are read, down to the row
   pub record PathRead (b row next : ℕ) (end : Bool) : Type 0 where
     pub read : List ℕ

@@ -16,7 +16,7 @@ ghost use Rattle.constraint.specs.Named.{AllNamed};
 ghost use Rattle.constraint.specs.Reading.{HeadsPre, MorePre, ReadTo, ReadOn, PathPre, After, ObeysPre, ObeysPost, ForbiddenPost};
 
 use expression::Table;
-use letters::State;
+use letters::{State, Tables};
 use meaning::kinds::{FUNCTION, INDIVIDUAL, SEQUENCE};
 use pattern::Pattern;
 use tree::Tree;
@@ -102,7 +102,7 @@ pub struct Mark {
 
 // The reading goes on by so many heads. What has been read before is not read again: a choice that grows by one term reads one
 // more letter.
-pub fn read_on(tree: &Tree, tables: &[u64; 320], from: Mark, more: usize) -> Mark
+pub fn read_on(tree: &Tree, tables: &Tables, from: Mark, more: usize) -> Mark
     requires { MorePre tree.now.label.now tree.now.size.now from.row more }
     ensures { ReadOn tree.now.label.now tree.now.size.now tables.now from.row from.state.next from.state.end more result.row result.state.next result.state.end }
 {
@@ -119,7 +119,7 @@ pub fn read_on(tree: &Tree, tables: &[u64; 320], from: Mark, more: usize) -> Mar
 }
 
 // The reading of the heads of so many neighbours from the row a on, for the expression that starts at the row root.
-pub fn after_heads(tree: &Tree, tables: &[u64; 320], root: usize, a: usize, count: usize) -> Mark
+pub fn after_heads(tree: &Tree, tables: &Tables, root: usize, a: usize, count: usize) -> Mark
     requires { HeadsPre tree.now.label.now tree.now.size.now root a count }
     ensures { ReadTo tree.now.label.now tree.now.size.now tables.now root a count result.row result.state.next result.state.end }
 {
@@ -131,7 +131,7 @@ pub fn after_heads(tree: &Tree, tables: &[u64; 320], root: usize, a: usize, coun
 }
 
 // The state after the labels on the path from the row a down to the row b, that of b left out.
-pub fn after_path(tree: &Tree, tables: &[u64; 320], root: usize, a: usize, b: usize) -> State
+pub fn after_path(tree: &Tree, tables: &Tables, root: usize, a: usize, b: usize) -> State
     requires { PathPre tree.now.label.now tree.now.size.now root a b }
     ensures { (c : Context) → ContextAt tree.now.label.now tree.now.size.now a b c
         → After tables.now root (path c) result.next result.end }
@@ -161,7 +161,7 @@ pub fn forbidden(flag: u32, kind: u32, a: usize, b: usize) -> bool
 // Whether the value that the numbers a and b mean for a variable of this kind obeys the constraint that start and flag give it.
 pub fn obeys(
     tree: &Tree,
-    tables: &[u64; 320],
+    tables: &Tables,
     start: u32,
     flag: u32,
     kind: u32,

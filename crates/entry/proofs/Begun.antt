@@ -38,9 +38,10 @@ use Rattle.levels.specs.declared.Level.{Level}
 use Rattle.levels.specs.Columns.{places, variables, starts, rows, nexts, lefts, unentered, Entered}
 use Rattle.levels.proofs.Columns.{first_level}
 use Rattle.entry.specs.Begun.{BeginAsked, BeginPre, BeginPost}
+use Rattle.letters.specs.declared.Tables.{Tables}
 
 -- the first walk was made: its answer o, the record R' and the rows A'
-pub record Begun (L S M tables : List ℕ)
+pub record Begun (L S M : List ℕ) (tables : Tables)
     (room width : ℕ) (before R' A' : List ℕ) (o : Result ℕ Halt) : Type 0 where
   pub R : List ℕ
   pub A : List ℕ
@@ -50,11 +51,11 @@ pub record Begun (L S M tables : List ℕ)
   pub walked : onward.BeginPost L S M R A o R' A'
 
 -- from a record of zeros
-pub begun : {L S M tables : List ℕ} {room width : ℕ} {before R' A' : List ℕ} {o : Result ℕ Halt} → BeginPre L S M tables room width before
+pub begun : {L S M : List ℕ} {tables : Tables} {room width : ℕ} {before R' A' : List ℕ} {o : Result ℕ Halt} → BeginPre L S M tables room width before
     → onward.BeginPost L S M (replicate 32 0) (replicate 256 0) o R' A' → Begun L S M tables room width before R' A' o
 begun pre walked = record { R = replicate 32 0; A = replicate 256 0; long = refl; rows_long = refl; pre = pre; walked = walked }
 
-module _ {L S M tables : List ℕ} {room width : ℕ} {before : List ℕ} where
+module _ {L S M : List ℕ} {tables : Tables} {room width : ℕ} {before : List ℕ} where
   fixed : {T : Term} {P : Pattern} {Q : List Kind} {es : List Expression} {cs : List Constraint} (a : BeginAsked L S M tables room width before T P Q es cs)
       → Fixed (walked (Allowed cs) (allowed? cs) a.search.pattern.numbered T) (count Q) (size T) width room before
   fixed a = is_fixed a.search a.wide a.fits

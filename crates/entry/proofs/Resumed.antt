@@ -14,8 +14,9 @@ use Rattle.std.specs.Prelude.{Some, None}
 use Rattle.search.specs.Search.{GoAsked, GoPre, GoPost}
 use Rattle.search.specs.declared.Found.{Found}
 use Rattle.entry.specs.Resumed.{ResumeAsked, ResumePre, ResumePost, not_there, from_there}
+use Rattle.letters.specs.declared.Tables.{Tables}
 
-module _ {L S M tables list : List ℕ} {room width : ℕ} {before : List ℕ} where
+module _ {L S M : List ℕ} {tables : Tables} {list : List ℕ} {room width : ℕ} {before : List ℕ} where
   pub reach_asked : {R A : List ℕ} {W : List Level} → ResumePre L S M tables list room width before → length R ≡ 32 → length A ≡ 256 → length W ≡ 256 → ReachPre L S M tables list R A W
   reach_asked p r a w =
       let s = p.some in
@@ -25,10 +26,10 @@ module _ {L S M tables list : List ℕ} {room width : ℕ} {before : List ℕ} w
     pub resumed_nowhere : {budget : ℕ} → ReachPost L S M tables list R A W None → ResumePost L S M tables list budget room width before before None
     resumed_nowhere (nowhere n) = not_there refl (λ T P Q es cs a i. n T P Q es cs a.asked i)
 
-pub arrived : {L S M tables list R A : List ℕ} {W : List Level} {depth : ℕ} → ReachPost L S M tables list R A W (Some depth) → Arrived L S M tables list R A W depth
+pub arrived : {L S M : List ℕ} {tables : Tables} {list R A : List ℕ} {W : List Level} {depth : ℕ} → ReachPost L S M tables list R A W (Some depth) → Arrived L S M tables list R A W depth
 arrived (reached r) = r
 
-module _ {L S M tables list : List ℕ} {room width : ℕ} {before R A : List ℕ} {W : List Level} {depth : ℕ} (at : Arrived L S M tables list R A W depth) where
+module _ {L S M : List ℕ} {tables : Tables} {list : List ℕ} {room width : ℕ} {before R A : List ℕ} {W : List Level} {depth : ℕ} (at : Arrived L S M tables list R A W depth) where
   asked : {T : Term} {P : Pattern} {Q : List Kind} {es : List Expression} {cs : List Constraint} (a : ResumeAsked L S M tables list room width before T P Q es cs)
       → GoAsked L S M tables room width R A (places W) (variables W) (starts W) (rows W) (nexts W) (lefts W) depth before T P Q es cs (at.each T P Q es cs a.asked).vals
   asked {T} {P} {Q} {es} {cs} a =

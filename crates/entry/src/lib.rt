@@ -4,6 +4,7 @@
 ghost use Rattle.entry.specs.Begun.{BeginPre, BeginPost};
 ghost use Rattle.entry.specs.Resumed.{ResumePre, ResumePost};
 
+use letters::Tables;
 use meaning::endings::Ending;
 use search::{Found, Limits};
 use tree::Tree;
@@ -13,7 +14,7 @@ use walk::Halt;
 pub fn begin(
     tree: &Tree,
     pattern: &[u32; 1536],
-    tables: &[u64; 320],
+    tables: &Tables,
     budget: u32,
     room: usize,
     width: usize,
@@ -62,7 +63,7 @@ pub fn begin(
 pub fn resume(
     tree: &Tree,
     pattern: &[u32; 1536],
-    tables: &[u64; 320],
+    tables: &Tables,
     list: &[u32],
     budget: u32,
     room: usize,

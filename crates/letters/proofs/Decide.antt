@@ -19,6 +19,7 @@ use Rattle.expression.proofs.Tables.{name_length}
 use Rattle.expression.proofs.Places.{place_total, start_placed, start_within}
 use Rattle.letters.specs.Accepts.{Accepts}
 use Rattle.letters.specs.State.{RowReads, StateOf, TablesOf}
+use Rattle.letters.specs.declared.Tables.{Tables}
 use Rattle.letters.specs.Tables.{name_of, first_of, null_of, cont_of, ends_of, Tabled}
 use Rattle.letters.specs.Following.{gate, HeadRow, over_set, over_end, loop_set, loop_end, Filled, AllFilled, ContsOf}
 use Rattle.letters.proofs.Automaton.{Local, accepts_sound, accepts_complete}
@@ -136,7 +137,7 @@ module _ {kind name size : List ℕ} {es : List Expression} (g : GoodTable kind 
             null ends (length kind) reads heads e row (start_placed g s) (start_within g s) c d,
       )
 
-  pub tables_are : {tables : List ℕ} → Tabled label first null cont ends tables → TablesOf es tables
+  pub tables_are : {tables : Tables} → Tabled label first null cont ends tables → TablesOf es tables
   tables_are {tables} h =
       let b : Begins (name_of tables) (first_of tables) (null_of tables) (cont_of tables) (ends_of tables) =
       subst (λ (f : ℕ → ℕ). Begins f (first_of tables) (null_of tables) (cont_of tables) (ends_of tables)) (sym h.names)
@@ -146,7 +147,7 @@ module _ {kind name size : List ℕ} {es : List Expression} (g : GoodTable kind 
       (subst (λ (f : ℕ → Bool). Begins label first null cont f) (sym h.finals) begins)))) in
       record { starts = λ {e} {row} s. record { sound = (b e row s).0; complete = (b e row s).1 } }
 
-module _ {tables : List ℕ} {e : Expression} {word : List ℕ} {next : ℕ} {end : Bool} (state : StateOf tables e word next end) where
+module _ {tables : Tables} {e : Expression} {word : List ℕ} {next : ℕ} {end : Bool} (state : StateOf tables e word next end) where
   -- a state's end decides the language
   pub decides : Says end (In e word)
   decides = (λ q. rw append-nil at (state.sound [] q), λ i. state.complete [] (rw append-nil i))

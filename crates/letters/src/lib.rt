@@ -6,7 +6,7 @@ ghost use Rattle.expression.specs.Expression.{Expression};
 ghost use Rattle.expression.specs.Rows.{GoodTable, StartsAt};
 ghost use Rattle.expression.specs.Rule.{number_at};
 ghost use Rattle.letters.specs.State.{StateOf, TablesOf};
-ghost use Rattle.letters.specs.Tables.{noted, five, Tabled};
+ghost use Rattle.letters.specs.Tables.{Tabled};
 ghost use Rattle.letters.specs.Following.{first_in, null_in, next_in, end_in, gate, head_set, head_null, HeadRow, Shape, PartsAre, followed, ContsOf};
 
 use expression::Table;
@@ -156,69 +156,78 @@ fn names_of(name: &[u32]) -> [u32; 64]
     names
 }
 
-// The five numbers of a row: its name; the rows that may read first in it, and whether it has the empty word; the rows that may read
-// next after it, and whether the word may end after it.
-fn put(tables: &mut [u64; 320], row: usize, name: u32, head: Head, after: State)
-    requires { (row < 64) × (length tables.old ≡ 320) }
-    ensures { tables.new ≡ five tables.old row name head.first (noted head.null) after.next (noted after.end) }
-{
-    let at = 5 * row;
-    tables[at] = u64::from(name);
-    tables[at + 1] = head.first;
-    tables[at + 2] = u64::from(head.null);
-    tables[at + 3] = after.next;
-    tables[at + 4] = u64::from(after.end);
+// A row of the tables: its name; what may come first in it; and the state after its words.
+#[derive(Clone, Copy)]
+struct Row {
+    name: u32,
+    head: Head,
+    after: State,
+}
+
+// The tables of an expression table: its rows, with what may come first in each and next after it.
+#[derive(Drop)]
+pub struct Tables {
+    rows: [Row; 64],
 }
 
 // All rows, one after another.
-fn lay(name: &[u32; 64], heads: &[Head; 64], states: &[State; 64], tables: &mut [u64; 320])
-    requires { length tables.old ≡ 320 }
-    ensures { Tabled (number_at name.now) (first_in heads.now) (null_in heads.now) (next_in states.now) (end_in states.now) tables.new }
+fn lay(name: &[u32; 64], heads: &[Head; 64], states: &[State; 64]) -> Tables
+    ensures { Tabled (number_at name.now) (first_in heads.now) (null_in heads.now) (next_in states.now) (end_in states.now) result }
 {
+    let none = Row {
+        name: 0,
+        head: heads[0],
+        after: states[0],
+    };
+    let mut rows = [none; 64];
     for row in 0..64 {
-        put(tables, row, name[row], heads[row], states[row]);
+        rows[row] = Row {
+            name: name[row],
+            head: heads[row],
+            after: states[row],
+        };
     }
+    Tables { rows }
 }
 
-// The tables of a good expression table, computed once for all words: five numbers a row, in one list.
-pub fn tables_of(table: &Table, tables: &mut [u64; 320])
-    requires { (length tables.old ≡ 320) × ((es : List Expression) × GoodTable table.now.kind.now table.now.name.now table.now.size.now es) }
-    ensures { (es : List Expression) → GoodTable table.now.kind.now table.now.name.now table.now.size.now es → TablesOf es tables.new }
+// The tables of a good expression table, computed once for all words.
+pub fn tables_of(table: &Table) -> Tables
+    requires { (es : List Expression) × GoodTable table.now.kind.now table.now.name.now table.now.size.now es }
+    ensures { (es : List Expression) → GoodTable table.now.kind.now table.now.name.now table.now.size.now es → TablesOf es result }
 {
     let heads = heads_of(table.kind, table.size);
     let states = states_of(table.kind, table.size, &heads);
-    lay(&names_of(table.name), &heads, &states, tables);
+    lay(&names_of(table.name), &heads, &states)
 }
 
 // The state before the first letter, for the expression that starts at the row `root`.
-pub fn begin(tables: &[u64; 320], root: usize) -> State
+pub fn begin(tables: &Tables, root: usize) -> State
     requires { root < 64 }
     ensures { (es : List Expression) (e : Expression) → TablesOf es tables.now
         → StartsAt es e root → StateOf tables.now e [] result.next result.end }
 {
-    let at = 5 * root;
+    let head = tables.rows[root].head;
     State {
-        next: tables[at + 1],
-        end: tables[at + 2] == 1,
+        next: head.first,
+        end: head.null,
     }
 }
 
 // One more letter is read: the rows of the set that have its label are visited from the lowest up.
-pub fn step(next: u64, tables: &[u64; 320], label: u32) -> State
+pub fn step(next: u64, tables: &Tables, label: u32) -> State
     ensures { (e : Expression) (word : List ℕ) (end : Bool) → StateOf tables.now e word next end
         → StateOf tables.now e (word ++ (label ∷ [])) result.next result.end }
 {
-    let letter = label as u64;
     let mut left = next;
     let mut set: u64 = 0;
     let mut end = false;
     // One turn for each bit that is set.
     while left != 0 {
         let p = u64::trailing_zeros(left) as usize;
-        let at = 5 * p;
-        if tables[at] == letter {
-            set = set | tables[at + 3];
-            end = end | (tables[at + 4] == 1);
+        let row = tables.rows[p];
+        if row.name == label {
+            set = set | row.after.next;
+            end = end | row.after.end;
         }
         left = left - (1u64 << p);
     }

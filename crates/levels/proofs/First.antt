@@ -24,8 +24,9 @@ use Rattle.walk.proofs.Views.{need_agree}
 use Rattle.walk.proofs.Answered.{answers}
 use Rattle.levels.specs.Levels.{Search}
 use Rattle.levels.proofs.Going.{Asks, individuals, functions}
+use Rattle.letters.specs.declared.Tables.{Tables}
 
-module _ {L S M tables : List ℕ} {T : Term} {P : Pattern} {Q : List Kind} {es : List Expression} {cs : List Constraint}
+module _ {L S M : List ℕ} {tables : Tables} {T : Term} {P : Pattern} {Q : List Kind} {es : List Expression} {cs : List Constraint}
     (w : Search L S M tables T P Q es cs) {R A : List ℕ} (long : length R ≡ 32) (rows_long : length A ≡ 256) where
   pub first_asked : Problem L S M R A T P Q
   first_asked =

@@ -45,6 +45,7 @@ use Rattle.catalogue.proofs.Loop.{Fixed}
 use Rattle.catalogue.proofs.Whole.{walked, is_tame}
 use Rattle.levels.specs.Levels.{Search, AttemptPost, Pause, Pauses}
 use Rattle.levels.proofs.Pauses.{pauses_skip, pauses_next, pauses_kept, pauses_need}
+use Rattle.letters.specs.declared.Tables.{Tables}
 
 -- individual and function variables have no constraint
 unjudged : {es : List Expression} (k : Kind) {a b : ℕ} {c : Constraint} (v : Value) → weight k ≡ 0 → Pair es k a b c → Obeys c v
@@ -62,7 +63,7 @@ few (a_function ∷ Q) = omega (arith, few Q)
 few (a_context ∷ Q) = omega (arith, few Q)
 
 -- one problem that is searched
-module _ {L S M tables : List ℕ} {T : Term} {P : Pattern} {Q : List Kind} {es : List Expression} {cs : List Constraint}
+module _ {L S M : List ℕ} {tables : Tables} {T : Term} {P : Pattern} {Q : List Kind} {es : List Expression} {cs : List Constraint}
     (w : Search L S M tables T P Q es cs) where
   abbrev pub numbered : Numbered P Q
   numbered = w.pattern.numbered

@@ -29,6 +29,7 @@ use Rattle.walk.specs.declared.Halt.TheVariants as halt
 use Rattle.walk.proofs.Marks.{unchanged_same}
 use Rattle.walk.proofs.Resumes.{stop_row}
 use Rattle.levels.specs.Levels.{Search, AttemptPre, AttemptPost}
+use Rattle.letters.specs.declared.Tables.{Tables}
 
 one_kind : {a b : Kind} → old a ≡ old b → a ≡ b
 one_kind e = cc
@@ -41,7 +42,7 @@ kind_there : {L S A K N Z : List ℕ} {Q : List Kind} {p x s : ℕ} {w : Stop} {
 kind_there (before_terms c nm d e l pt g t hd) k f = d ∙ ap code (one_kind (sym c ∙ f))
 kind_there (over_term c nm d z i g t m b) k f = d ∙ ap code (one_kind (sym c ∙ f))
 
-module _ {L S M tables R A : List ℕ} {p x s u v : ℕ}
+module _ {L S M : List ℕ} {tables : Tables} {R A : List ℕ} {p x s u v : ℕ}
     (pre : AttemptPre L S M tables R A p x s u v) where
   -- the three numbers of the choice are those of its variable
   module _ {T : Term} {P : Pattern} {Q : List Kind} {es : List Expression} {cs : List Constraint} {k : Kind} {f : List ℕ → Res} {lo hi : ℕ}

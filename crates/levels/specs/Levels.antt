@@ -16,9 +16,10 @@ use Rattle.walk.specs.Onward.{Lands}
 use Rattle.walk.specs.Taken.{TakeAsked}
 use Rattle.walk.specs.declared.Halt.{Halt}
 use Rattle.walk.specs.declared.Halt.TheVariants as halt
+use Rattle.letters.specs.declared.Tables.{Tables}
 
 -- the problem that is searched: the tree, the packed pattern, the constraints and the tables of the expressions
-pub record Search (L S M tables : List ℕ) (T : Term) (P : Pattern) (Q : List Kind) (es : List Expression) (cs : List Constraint) : Type 0 where
+pub record Search (L S M : List ℕ) (tables : Tables) (T : Term) (P : Pattern) (Q : List Kind) (es : List Expression) (cs : List Constraint) : Type 0 where
   pub K : List ℕ
   pub N : List ℕ
   pub Z : List ℕ
@@ -30,13 +31,13 @@ pub record Search (L S M tables : List ℕ) (T : Term) (P : Pattern) (Q : List K
   pub bounds : Bounds K N C M
 
 -- one try: the value v of the variable x at the pattern row p, which starts at the row s; f is the walk that asked for it
-pub record AttemptPre (L S M tables R A : List ℕ) (p x s u v : ℕ) : Type 0 where
+pub record AttemptPre (L S M : List ℕ) (tables : Tables) (R A : List ℕ) (p x s u v : ℕ) : Type 0 where
   pub long : length R ≡ 32
   pub some : (T : Term) × (P : Pattern) × (Q : List Kind) × (es : List Expression) × (cs : List Constraint) × (k : Kind) × (f : List ℕ → Res) × (lo : ℕ) × (hi : ℕ)
       × (w : Search L S M tables T P Q es cs) × (look Q x ≡ old k) × Fits k (T ◂ none) s v × TakeAsked L S M R A p x s u v w.K w.N w.Z Q f lo hi
 
 -- where the value is not allowed it fails; else the walk goes on with it. What stands before the variable is kept.
-pub record AttemptPost (L S M tables R A : List ℕ) (p x s u v : ℕ) (o : Result ℕ Halt) (R' A' : List ℕ) : Type 0 where
+pub record AttemptPost (L S M : List ℕ) (tables : Tables) (R A : List ℕ) (p x s u v : ℕ) (o : Result ℕ Halt) (R' A' : List ℕ) : Type 0 where
   pub is : (T : Term) (P : Pattern) (Q : List Kind) (es : List Expression) (cs : List Constraint) (k : Kind) (f : List ℕ → Res) (lo hi : ℕ)
       (w : Search L S M tables T P Q es cs) → look Q x ≡ old k → Fits k (T ◂ none) s v → TakeAsked L S M R A p x s u v w.K w.N w.Z Q f lo hi
       → ((Allowed cs x (value_at k (T ◂ none) s v) → ⊥) → o ≡ (Err halt.Fail))

@@ -9,6 +9,7 @@ ghost use Rattle.levels.specs.Columns.{lefts, Inside, Moved, Entered};
 ghost use Rattle.levels.specs.Levels.{AttemptPre, AttemptPost};
 ghost use Rattle.levels.specs.Steps.{NextPre, NextPost, DeeperPre, DeeperPost};
 
+use letters::Tables;
 use memory::Memory;
 use paths::Path;
 use tree::Tree;
@@ -157,7 +158,7 @@ pub fn deeper(
 pub fn attempt(
     tree: &Tree,
     pattern: &[u32; 1536],
-    tables: &[u64; 320],
+    tables: &Tables,
     record: &mut [u32; 32],
     at: &mut [usize; 256],
     t: Try,

@@ -21,6 +21,7 @@ use Rattle.record.proofs.Each.{wrong_length}
 use Rattle.record.proofs.Whole.{fits_asked, fits_judged}
 use Rattle.expression.specs.Expression.{Expression}
 use Rattle.expression.specs.Rows.{GoodTable}
+use Rattle.letters.specs.declared.Tables.{Tables}
 use Rattle.letters.specs.State.{TablesOf}
 use Rattle.constraint.specs.Obeys.{Constraint, Allowed}
 use Rattle.constraint.proofs.Allowed.{allowed?}
@@ -82,7 +83,7 @@ module _ (l : Lists) (v : Variables) (a : Checked l v) (list : List ℕ) (budget
   page_wrong_length n = page_bad (wrong_length n) refl refl
 
   -- a record that is as long as it should be
-  module _ (long : length list ≡ v.count + v.count) {M tables : List ℕ} {room width : ℕ}
+  module _ (long : length list ≡ v.count + v.count) {M : List ℕ} {tables : Tables} {room width : ℕ}
       (read : (es : List Expression) → GoodTable l.expression_kind l.expression_name l.expression_size es → TablesOf es tables)
       (packed : Packed l.kind l.name l.pattern_size M × Bounds l.kind l.name l.constraint M) (wide : width ≡ v.count + v.count) (fits : room ≡ fitting (length before) width) where
     asked : {T : Term} {P : Pattern} {Q : List Kind} {es : List Expression} {cs : List Constraint} → Poses l T P Q es cs

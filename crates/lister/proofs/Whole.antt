@@ -11,6 +11,7 @@ use Rattle.meaning.specs.Calls.{accept}
 use Rattle.meaning.proofs.Tame.{count}
 use Rattle.expression.specs.Expression.{Expression}
 use Rattle.expression.specs.Rows.{GoodTable}
+use Rattle.letters.specs.declared.Tables.{Tables}
 use Rattle.letters.specs.State.{TablesOf}
 use Rattle.constraint.specs.Obeys.{Constraint, Allowed}
 use Rattle.constraint.proofs.Allowed.{allowed?}
@@ -68,7 +69,7 @@ module _ (l : Lists) (v : Variables) (a : Checked l v) (budget : ℕ) (before : 
   pub few_variables : v.count ≤ 16
   few_variables = let k = known a refl p.poses.rest.pattern in omega (arith, k.many, k.few)
 
-  module _ {M tables : List ℕ} {room width : ℕ}
+  module _ {M : List ℕ} {tables : Tables} {room width : ℕ}
       (read : (es : List Expression) → GoodTable l.expression_kind l.expression_name l.expression_size es → TablesOf es tables)
       (packed : Packed l.kind l.name l.pattern_size M × Bounds l.kind l.name l.constraint M) (wide : width ≡ v.count + v.count) (fits : room ≡ fitting (length before) width) where
     pub searched : {T : Term} {P : Pattern} {Q : List Kind} {es : List Expression} {cs : List Constraint} → Poses l T P Q es cs

@@ -29,8 +29,7 @@ fn list_checked(variables: &Variables, problem: &Problem, budget: u32, out: &mut
     requires { Checked (lists problem.now) variables.now }
     ensures { Settled (lists problem.now) budget out.old (told (Ok result)) out.new }
 {
-    let mut tables = [0u64; 320];
-    letters::tables_of(&problem.table, &mut tables);
+    let tables = letters::tables_of(&problem.table);
     let mut packed = [0u32; 1536];
     walk::pack(&problem.pattern, problem.constraint, &mut packed);
     let width = variables.count + variables.count;
@@ -87,8 +86,7 @@ pub fn list_after(
     if record.len() != width {
         return Err(Refusal::Record);
     }
-    let mut tables = [0u64; 320];
-    letters::tables_of(&problem.table, &mut tables);
+    let tables = letters::tables_of(&problem.table);
     let mut packed = [0u32; 1536];
     walk::pack(&problem.pattern, problem.constraint, &mut packed);
     let room = room_for(out.len(), width);

@@ -17,9 +17,10 @@ use Rattle.walk.specs.Packed.{root_of}
 use Rattle.memory.specs.declared.Memory.{Memory}
 use Rattle.memory.specs.Memory.{Remembers, kept, RecallPost, GrownPre, GrownPost, GrowPre, GrowPost}
 use Rattle.memory.proofs.Numbers.{remembers}
+use Rattle.letters.specs.declared.Tables.{Tables}
 
 -- RECALLED
-module _ (tables : List ℕ) (root : ℕ) (memory : Memory) (x a b : ℕ) where
+module _ (tables : Tables) (root : ℕ) (memory : Memory) (x a b : ℕ) where
   pub begun : {next : ℕ} {end : Bool} → Begun tables root next end → RecallPost tables root memory x a b a next 0 end
   begun g = record { most = omega arith; is = λ L S k. no_head g }
 
@@ -30,7 +31,7 @@ terms_drop zero f = omega arith
 terms_drop (suc c) none = omega arith
 terms_drop (suc c) (some l us rest) = let e = terms_drop c rest in omega arith
 
-module _ {L S tables : List ℕ} {root x a b : ℕ} {memory : Memory} (p : GrownPre L S tables root x a b memory)
+module _ {L S : List ℕ} {tables : Tables} {root x a b : ℕ} {memory : Memory} (p : GrownPre L S tables root x a b memory)
     {row next count : ℕ} {end : Bool} (post : RecallPost tables root memory x a b row next count end) where
   was : (roots : ℕ → ℕ) → root ≡ roots x → Remembers L S tables roots memory → ReadTo L S tables root a count row next end
   was roots q r = post.is L S (rw q (r.each x p.few))
@@ -51,7 +52,7 @@ module _ {L S tables : List ℕ} {root x a b : ℕ} {memory : Memory} (p : Grown
           rw y at (on.on root a count (was roots q r))
 
 -- JUDGED
-module _ {L S M tables : List ℕ} {x a b : ℕ} {memory : Memory} {path : Path} (p : GrowPre L S M tables x a b memory path) where
+module _ {L S M : List ℕ} {tables : Tables} {x a b : ℕ} {memory : Memory} {path : Path} (p : GrowPre L S M tables x a b memory path) where
   abbrev Post : Bool → Memory → Path → Type 0
   Post = GrowPost L S M tables x a b
 

@@ -13,9 +13,10 @@ use Rattle.constraint.specs.Reading.{ReadTo}
 use Rattle.memory.specs.declared.Kept.{Kept}
 use Rattle.memory.specs.declared.Memory.{Memory}
 use Rattle.memory.specs.Memory.{Read, Remembers, kept}
+use Rattle.letters.specs.declared.Tables.{Tables}
 
 -- at first nothing is remembered
-pub blank : (L S tables : List ℕ) (roots : ℕ → ℕ) {memory : Memory} → memory.kept ≡ replicate 256 None → Remembers L S tables roots memory
+pub blank : (L S : List ℕ) (tables : Tables) (roots : ℕ → ℕ) {memory : Memory} → memory.kept ≡ replicate 256 None → Remembers L S tables roots memory
 blank L S tables roots {memory} e =
     record {
       long = ap (λ (ks : List (Option Kept)). length ks) e ∙ length-replicate {A = Option Kept} 256 None;
@@ -25,7 +26,7 @@ blank L S tables roots {memory} e =
     }
 
 -- what is kept is remembered, and nothing else is forgotten
-module _ {L S tables : List ℕ} {roots : ℕ → ℕ} {memory : Memory} (r : Remembers L S tables roots memory) {x row a count next : ℕ} {end : Bool}
+module _ {L S : List ℕ} {tables : Tables} {roots : ℕ → ℕ} {memory : Memory} (r : Remembers L S tables roots memory) {x row a count next : ℕ} {end : Bool}
     (few : x < 256) (read : ReadTo L S tables (roots x) a count row next end) where
   abbrev later : Memory
   later = kept memory x row a count next end

@@ -6,7 +6,7 @@ ghost use Rattle.std.specs.Prelude.{◌≡◌, ◌<◌, ◌-◌, length, replica
 ghost use Rattle.memory.specs.Memory.{kept, RecallPre, RecallPost, GrownPre, GrownPost, GrowPre, GrowPost};
 
 use constraint::Mark;
-use letters::State;
+use letters::{State, Tables};
 use meaning::kinds::SEQUENCE;
 use paths::Path;
 use tree::Tree;
@@ -46,7 +46,7 @@ struct Recalled {
 // The reading of the choice that is remembered, where it began at the row a and is not beyond b; else one that begins.
 fn recall(
     memory: &Memory,
-    tables: &[u64; 320],
+    tables: &Tables,
     root: usize,
     choice: usize,
     a: usize,
@@ -92,7 +92,7 @@ fn keep(memory: &mut Memory, choice: usize, mark: &Mark, a: usize, count: usize)
 // remembered of the choice.
 fn grown(
     tree: &Tree,
-    tables: &[u64; 320],
+    tables: &Tables,
     root: usize,
     choice: usize,
     a: usize,
@@ -122,7 +122,7 @@ fn row_of(start: u32) -> usize
 pub fn allowed(
     tree: &Tree,
     pattern: &[u32; 1536],
-    tables: &[u64; 320],
+    tables: &Tables,
     p: usize,
     a: usize,
     b: usize,

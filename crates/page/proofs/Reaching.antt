@@ -33,15 +33,16 @@ use Rattle.levels.proofs.Going.{Walked}
 use Rattle.levels.proofs.Pauses.{pauses_none}
 use Rattle.page.specs.Page.{ChoosePre, ChoosePost, outside, value, ReachAsked, ReachPre, ReachPost, nowhere, reached}
 use Rattle.page.proofs.Stood.{Stood, stood_fails, stood_other, stood_record, stood_later, stood_stop, stood_deep, stood_read, stood_beyond, stood_landing, stood_further, stood_attempt, stood_tried}
+use Rattle.letters.specs.declared.Tables.{Tables}
 
 -- at the loop's head
-pub record OnTheWay (L S M tables list R A : List ℕ) (W : List Level) (o : Result ℕ Halt) (depth : ℕ) : Type 0 where
+pub record OnTheWay (L S M : List ℕ) (tables : Tables) (list R A : List ℕ) (W : List Level) (o : Result ℕ Halt) (depth : ℕ) : Type 0 where
   pub record_long : length R ≡ 32
   pub levels_long : length W ≡ 256
   pub each : {T : Term} {P : Pattern} {Q : List Kind} {es : List Expression} {cs : List Constraint} (a : ReachAsked L S M tables list T P Q es cs)
       → Stood a R A (places W) (variables W) (starts W) (rows W) (nexts W) (lefts W) o depth
 
-module _ {L S M tables list R A : List ℕ} {W : List Level} (pre : ReachPre L S M tables list R A W) where
+module _ {L S M : List ℕ} {tables : Tables} {list R A : List ℕ} {W : List Level} (pre : ReachPre L S M tables list R A W) where
   pub reach_begins : BeginPre L S M R A
   reach_begins = let s = pre.some in record { some = (s.0, s.1, s.2, first_asked s.5.search pre.record_long pre.rows_long) }
 
@@ -67,7 +68,7 @@ module _ {L S M tables list R A : List ℕ} {W : List Level} (pre : ReachPre L S
             };
       }
 
-module _ {L S M tables list R A : List ℕ} {W : List Level} {o : Result ℕ Halt} {depth : ℕ} (t : OnTheWay L S M tables list R A W o depth) where
+module _ {L S M : List ℕ} {tables : Tables} {list R A : List ℕ} {W : List Level} {o : Result ℕ Halt} {depth : ℕ} (t : OnTheWay L S M tables list R A W o depth) where
   pub reach_fails : o ≡ (Err halt.Fail) → ReachPost L S M tables list R A W None
   reach_fails e = nowhere (λ T P Q es cs a i. stood_fails a (t.each a) e i)
 

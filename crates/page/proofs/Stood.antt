@@ -35,8 +35,9 @@ use Rattle.levels.specs.Levels.{Search, AttemptPre, AttemptPost}
 use Rattle.levels.proofs.Columns.{ColumnsLong}
 use Rattle.levels.proofs.Going.{few, numbered, Walked, Leveled, Paused, Asks, asks_stop, asks_range, asks_values, asks_level, jump_levels, try_kind, try_taken, try_answered, further_asked}
 use Rattle.page.specs.Page.{ReachAsked}
+use Rattle.letters.specs.declared.Tables.{Tables}
 
-module _ {L S M tables list : List ℕ} {T : Term} {P : Pattern} {Q : List Kind} {es : List Expression} {cs : List Constraint} (a : ReachAsked L S M tables list T P Q es cs) where
+module _ {L S M : List ℕ} {tables : Tables} {list : List ℕ} {T : Term} {P : Pattern} {Q : List Kind} {es : List Expression} {cs : List Constraint} (a : ReachAsked L S M tables list T P Q es cs) where
   abbrev w : Search L S M tables T P Q es cs
   w = a.search
 

@@ -18,6 +18,7 @@ use Rattle.catalogue.proofs.Levels.{Levels}
 use Rattle.catalogue.proofs.Whole.{walked, all}
 use Rattle.levels.specs.Columns.{places, variables, starts, rows, nexts, lefts, Inside, Moved, Entered}
 use Rattle.levels.specs.Levels.{Search, Pauses}
+use Rattle.letters.specs.declared.Tables.{Tables}
 
 -- choose: the walk stopped before the variable x, and there is room for its level
 pub record ChoosePre (S M A : List ℕ) (W : List Level) (list : List ℕ) (d p x s : ℕ) : Type 0 where
@@ -36,18 +37,18 @@ pub data ChoosePost (S M A : List ℕ) (W : List Level) (list : List ℕ) (d p x
       → ChoosePost S M A W list d p x s W' (Some (record { p = p; x = x; s = s; u = u; v = v; left = left; failed = 0 }))
 
 -- reach: the problem that is searched, and a record of two numbers a variable
-pub record ReachAsked (L S M tables list : List ℕ) (T : Term) (P : Pattern) (Q : List Kind) (es : List Expression) (cs : List Constraint) : Type 0 where
+pub record ReachAsked (L S M : List ℕ) (tables : Tables) (list : List ℕ) (T : Term) (P : Pattern) (Q : List Kind) (es : List Expression) (cs : List Constraint) : Type 0 where
   pub search : Search L S M tables T P Q es cs
   pub long : length list ≡ length Q + length Q
 
-pub record ReachPre (L S M tables list R A : List ℕ) (W : List Level) : Type 0 where
+pub record ReachPre (L S M : List ℕ) (tables : Tables) (list R A : List ℕ) (W : List Level) : Type 0 where
   pub record_long : length R ≡ 32
   pub rows_long : length A ≡ 256
   pub levels_long : length W ≡ 256
   pub some : (T : Term) × (P : Pattern) × (Q : List Kind) × (es : List Expression) × (cs : List Constraint) × ReachAsked L S M tables list T P Q es cs
 
 -- the record is that of a matcher, and what the levels have left are the events behind it
-pub record AtRecord (L S M tables list : List ℕ) (T : Term) (P : Pattern) (Q : List Kind) (es : List Expression) (cs : List Constraint) (w : Search L S M tables T P Q es cs)
+pub record AtRecord (L S M : List ℕ) (tables : Tables) (list : List ℕ) (T : Term) (P : Pattern) (Q : List Kind) (es : List Expression) (cs : List Constraint) (w : Search L S M tables T P Q es cs)
     (R A : List ℕ) (W : List Level) (depth : ℕ) : Type 0 where
   pub is_record : IsRecord (Allowed cs) Q P T list
   pub vals : List ℕ
@@ -59,12 +60,12 @@ pub record AtRecord (L S M tables list : List ℕ) (T : Term) (P : Pattern) (Q :
       (matched (choices Q list) list ∷ rest (walked (Allowed cs) (allowed? cs) w.pattern.numbered T) (count Q) vals (nexts W) (lefts W) depth)
 
 -- the same for every problem that the lists mean
-pub record Arrived (L S M tables list R A : List ℕ) (W : List Level) (depth : ℕ) : Type 0 where
+pub record Arrived (L S M : List ℕ) (tables : Tables) (list R A : List ℕ) (W : List Level) (depth : ℕ) : Type 0 where
   pub record_long : length R ≡ 32
   pub levels_long : length W ≡ 256
   pub each : (T : Term) (P : Pattern) (Q : List Kind) (es : List Expression) (cs : List Constraint) (a : ReachAsked L S M tables list T P Q es cs) → AtRecord L S M tables list T P Q es cs a.search R A W depth
 
-pub data ReachPost (L S M tables list R A : List ℕ) (W : List Level) : Option ℕ → Type 0 where
+pub data ReachPost (L S M : List ℕ) (tables : Tables) (list R A : List ℕ) (W : List Level) : Option ℕ → Type 0 where
   nowhere : ((T : Term) (P : Pattern) (Q : List Kind) (es : List Expression) (cs : List Constraint) → ReachAsked L S M tables list T P Q es cs → IsRecord (Allowed cs) Q P T list → ⊥)
       → ReachPost L S M tables list R A W None
   reached : {depth : ℕ} → Arrived L S M tables list R A W depth → ReachPost L S M tables list R A W (Some depth)

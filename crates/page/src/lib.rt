@@ -3,6 +3,7 @@
 
 ghost use Rattle.page.specs.Page.{ChoosePre, ChoosePost, ReachPre, ReachPost};
 
+use letters::Tables;
 use levels::{Level, Try, advance, attempt, enter};
 use memory::Memory;
 use paths::Path;
@@ -56,7 +57,7 @@ fn choose(
 pub fn reach(
     tree: &Tree,
     pattern: &[u32; 1536],
-    tables: &[u64; 320],
+    tables: &Tables,
     list: &[u32],
     record: &mut [u32; 32],
     at: &mut [usize; 256],

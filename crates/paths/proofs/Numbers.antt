@@ -11,6 +11,7 @@ use native.Mathlib.Decide.{ℕ_discrete}
 use Rattle.paths.specs.declared.Place.{Place}
 use Rattle.paths.specs.declared.Path.{Path}
 use Rattle.paths.specs.Paths.{From, Entry, Places, place_in}
+use Rattle.letters.specs.declared.Tables.{Tables}
 
 -- the place i is replaced
 abbrev pub put : Path → ℕ → Place → Path
@@ -35,7 +36,7 @@ pub put_other : (P : Path) (i : ℕ) (p : Place) (j : ℕ) → j ≢ i → place
 unfolding none
 put_other P i p j n = get_or-set_other P.places i j p none n
 
-module _ {L S tables : List ℕ} {root a : ℕ} where
+module _ {L S : List ℕ} {tables : Tables} {root a : ℕ} where
   -- one place more
   pub places_more : {P : Path} {i : ℕ} (p : Place) → Places L S tables root a P i → i + 1 < 64 → Entry L S tables root a p
       → Places L S tables root a (put P (i + 1) p) (i + 1)

@@ -19,13 +19,14 @@ use Rattle.paths.specs.declared.Path.{Path}
 use Rattle.paths.specs.Paths.{Entry, Places, Remembers, place_in, new_place, ChildFromPre, ChildFromPost, HoldingPre, HoldingPost, Standing, RecallPre, RecallPost}
 use Rattle.paths.proofs.Steps.{context_next, context_in, from_first, through_first, through_child, through_all}
 use Rattle.paths.proofs.Numbers.{put, put_child, noted, put_same, places_more, places_first, places_fewer, places_noted, places_child}
+use Rattle.letters.specs.declared.Tables.{Tables}
 
 -- nothing is remembered yet
-pub blank : (L S tables : List ℕ) (roots : ℕ → ℕ) {P : Path} → (P.choice ≡ None) × (length P.places ≡ 64) → Remembers L S tables roots P
+pub blank : (L S : List ℕ) (tables : Tables) (roots : ℕ → ℕ) {P : Path} → (P.choice ≡ None) × (length P.places ≡ 64) → Remembers L S tables roots P
 blank L S tables roots e = record { long = e.1; is = λ x q. absurd (none-some x (sym e.0 ∙ q)) }
 
 -- RECALLED
-module _ {S tables : List ℕ} {root x a b : ℕ} {P : Path} where
+module _ {S : List ℕ} {tables : Tables} {root x a b : ℕ} {P : Path} where
   pub recall_rows : RecallPre S tables root x a b P → P.choice ≡ Some x → HoldingPre S P P.depth
   recall_rows pre e =
       let r = pre.some.4 in
@@ -64,7 +65,7 @@ module _ {S tables : List ℕ} {root x a b : ℕ} {P : Path} where
       }
 
 -- READ
-module _ {L S tables : List ℕ} {root x a b : ℕ} {P : Path} {i : ℕ} (s : Standing L S tables root x a b P i) where
+module _ {L S : List ℕ} {tables : Tables} {root x a b : ℕ} {P : Path} {i : ℕ} (s : Standing L S tables root x a b P i) where
   -- the last place is noted
   pub standing_noted : Standing L S tables root x a b (noted P i) i
   standing_noted = record { places = places_noted i s.places; its = s.its; start = s.start; low = s.low; high = s.high }

@@ -14,6 +14,7 @@ use Rattle.tree.proofs.Ways.{context_le, hole_here, a_node, ahead_first, ahead_n
 use Rattle.constraint.specs.Obeys.{path}
 use Rattle.constraint.specs.Reading.{After}
 use Rattle.paths.specs.Paths.{Through, From, ChildFromPre, ChildFromPost}
+use Rattle.letters.specs.declared.Tables.{Tables}
 
 -- what a context stands at
 pub context_next : {L S : List ℕ} {a b : ℕ} {c : Context} → ContextAt L S a b c → Next L S a
@@ -90,7 +91,7 @@ through_child {L} {S} {a} {r} {u} {w = w} t post =
     down d (at_node {l = l} {left = left} {right = right} {c = c} x p q k) f = (l, left, c, right, refl, at_node x p q k)
 
 -- it is read whole where the row is the hole's
-pub through_all : {L S tables : List ℕ} {root a b next : ℕ} {end : Bool} {w : List ℕ}
+pub through_all : {L S : List ℕ} {tables : Tables} {root a b next : ℕ} {end : Bool} {w : List ℕ}
     → Through L S a b w → After tables root w next end → (c : Context) → ContextAt L S a b c → After tables root (path c) next end
 unfolding path
 through_all {b = b} {w = w} t after c x =

@@ -5,7 +5,7 @@
 ghost use Rattle.std.specs.Prelude.{◌≡◌, ◌+◌, ◌<◌, ◌≤◌, length, None};
 ghost use Rattle.paths.specs.Paths.{new_place, ChildFromPre, ChildFromPost, HoldingPre, HoldingPost, RecallPre, RecallPost, AcceptedPre, AcceptedPost};
 
-use letters::State;
+use letters::{State, Tables};
 use tree::Tree;
 
 // A place of the path: its row, the state before the row's label is read, and the child from which on the next row is looked for.
@@ -89,7 +89,7 @@ fn holding(size: &[u32], path: &Path, m: usize, b: usize) -> usize
 // The place from which on the path to the row b is read: one of the path that is remembered, or the first of a new one.
 fn recall(
     size: &[u32],
-    tables: &[u64; 320],
+    tables: &Tables,
     root: usize,
     choice: usize,
     a: usize,
@@ -116,7 +116,7 @@ fn recall(
 // for a choice.
 pub fn accepted(
     tree: &Tree,
-    tables: &[u64; 320],
+    tables: &Tables,
     root: usize,
     choice: usize,
     a: usize,

@@ -6,6 +6,7 @@ ghost use Rattle.problem.specs.Judgement.{AnsweredJudged};
 ghost use Rattle.problem.specs.Allowing.{AllowedPre, AllowedPost};
 
 use expression::Table;
+use letters::Tables;
 use meaning::Refusal;
 use pattern::{Pattern, Variables};
 use tree::Tree;
@@ -67,7 +68,7 @@ pub fn check(problem: &Problem) -> Result<Variables, Refusal>
 // Whether the variable x may stand for the value that the numbers a and b mean: what its constraint says.
 pub fn allowed(
     tree: &Tree,
-    tables: &[u64; 320],
+    tables: &Tables,
     constraint: &[u32],
     kinds: &[u32; 16],
     x: usize,

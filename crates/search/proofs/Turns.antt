@@ -39,6 +39,7 @@ use Rattle.levels.proofs.Going.{few, Walked, is_fixed, Leveled, Paused, Asks, as
 use Rattle.levels.proofs.Columns.{ColumnsLong, columns_moved}
 use Rattle.levels.proofs.Pauses.{pauses_back}
 use Rattle.levels.proofs.Tried.{try_long}
+use Rattle.letters.specs.declared.Tables.{Tables}
 
 pub tree_small : {L S : List ℕ} {T : Term} → GoodTree L S T → size T ≤ 2048
 unfolding rows
@@ -50,7 +51,7 @@ pub record Input : Type 0 where
   pub L : List ℕ
   pub S : List ℕ
   pub M : List ℕ
-  pub tables : List ℕ
+  pub tables : Tables
   pub budget : ℕ
   pub room : ℕ
   pub width : ℕ
@@ -66,7 +67,7 @@ pub record Input : Type 0 where
   pub before : List ℕ
 
 abbrev pub given :
-    (L S M tables : List ℕ) (budget room width : ℕ)
+    (L S M : List ℕ) (tables : Tables) (budget room width : ℕ)
     (R A G X St U N F : List ℕ) (start : ℕ) (before : List ℕ) → Input
 given L S M tables budget room width R A G X St U N F start before =
     record {

@@ -5,6 +5,7 @@ ghost use Rattle.std.proofs.Math.Seq.{paste};
 ghost use Rattle.levels.specs.Columns.{places, variables, starts, rows, nexts, lefts};
 ghost use Rattle.search.specs.Search.{GoPre, GoPost};
 
+use letters::Tables;
 use levels::{Level, attempt, deeper, next_try};
 use meaning::endings::Ending;
 use memory::Memory;
@@ -50,7 +51,7 @@ pub struct Limits {
 pub fn go(
     tree: &Tree,
     pattern: &[u32; 1536],
-    tables: &[u64; 320],
+    tables: &Tables,
     limits: Limits,
     record: &mut [u32; 32],
     at: &mut [usize; 256],

@@ -15,6 +15,7 @@ use Rattle.meaning.proofs.Lists.{look_some}
 use Rattle.record.proofs.Each.{good_each, good_long}
 use Rattle.expression.specs.Expression.{Expression}
 use Rattle.expression.specs.Rows.{GoodTable}
+use Rattle.letters.specs.declared.Tables.{Tables}
 use Rattle.letters.specs.State.{TablesOf}
 use Rattle.constraint.specs.Obeys.{Constraint, Allowed}
 use Rattle.pattern.specs.declared.Variables.{Variables}
@@ -22,7 +23,7 @@ use Rattle.problem.specs.Problem.{Lists}
 use Rattle.problem.specs.Allowing.{Allowing, AllowedPre, AllowedPost}
 use Rattle.test.specs.Inside.{Constrained, ConstrainedPre, AllObey, ObeyedPost, AllPre, AllPost}
 
-module _ (posed : Lists) (tables : List ℕ) (known : Variables) (list : List ℕ) where
+module _ (posed : Lists) (tables : Tables) (known : Variables) (list : List ℕ) where
   abbrev Given : Term → List Kind → List Expression → List Constraint → Type 0
   Given T Q es cs = Allowing posed.label posed.size tables posed.constraint known.kinds T Q es cs
 
@@ -75,7 +76,7 @@ module _ (posed : Lists) (tables : List ℕ) (known : Variables) (list : List �
       }
 
 -- with the tables of the expressions
-module _ (posed : Lists) (known : Variables) (list : List ℕ) {tables : List ℕ}
+module _ (posed : Lists) (known : Variables) (list : List ℕ) {tables : Tables}
     (t : (es : List Expression) → GoodTable posed.expression_kind posed.expression_name posed.expression_size es → TablesOf es tables)
     (p : ConstrainedPre posed known list) where
   allowing : {T : Term} {Q : List Kind} {es : List Expression} {cs : List Constraint} → Constrained posed known.kinds list T Q es cs → Given posed tables known list T Q es cs

@@ -16,6 +16,7 @@ use Rattle.constraint.specs.Good.{GoodConstraints}
 use Rattle.pattern.specs.declared.Variables.{Variables}
 use Rattle.problem.specs.Problem.{Lists}
 use Rattle.problem.specs.Allowing.{Allowing}
+use Rattle.letters.specs.declared.Tables.{Tables}
 
 -- a good tree, a good pattern, and a list of two numbers a variable
 pub record Walkable (L S K N Z list : List ℕ) (T : Term) (P : Pattern) (Q : List Kind) : Type 0 where
@@ -50,9 +51,9 @@ pub record ObeyedPost (l : Lists) (v : Variables) (list : List ℕ) (r : Bool) :
   pub is : (T : Term) (Q : List Kind) (es : List Expression) (cs : List Constraint) → Constrained l v.kinds list T Q es cs → Says r (AllObey Q T cs list (length Q))
 
 -- the same with the tables of the expressions at hand
-pub record AllPre (l : Lists) (tables : List ℕ) (v : Variables) (list : List ℕ) : Type 0 where
+pub record AllPre (l : Lists) (tables : Tables) (v : Variables) (list : List ℕ) : Type 0 where
   pub some : (T : Term) × (Q : List Kind) × (es : List Expression) × (cs : List Constraint) × Allowing l.label l.size tables l.constraint v.kinds T Q es cs × GoodRecord Q (T ◂ none) list × (v.count ≡ length Q)
 
-pub record AllPost (l : Lists) (tables : List ℕ) (v : Variables) (list : List ℕ) (r : Bool) : Type 0 where
+pub record AllPost (l : Lists) (tables : Tables) (v : Variables) (list : List ℕ) (r : Bool) : Type 0 where
   pub is : (T : Term) (Q : List Kind) (es : List Expression) (cs : List Constraint) → Allowing l.label l.size tables l.constraint v.kinds T Q es cs → GoodRecord Q (T ◂ none) list → v.count ≡ length Q
       → Says r (AllObey Q T cs list (length Q))

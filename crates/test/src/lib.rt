@@ -7,6 +7,7 @@ ghost use Rattle.test.specs.Tested.{TestSettled};
 ghost use Rattle.test.specs.Followed.{FollowPre, FollowPost};
 ghost use Rattle.test.specs.Inside.{WalkablePre, PlacedPost, ConstrainedPre, ObeyedPost, AllPre, AllPost};
 
+use letters::Tables;
 use meaning::Refusal;
 use pattern::Variables;
 use problem::Problem;
@@ -54,7 +55,7 @@ fn placed(problem: &Problem, record: &[u32]) -> bool
 }
 
 // Whether every variable's numbers obey its constraint, with the tables of the expressions.
-fn all_obey(problem: &Problem, tables: &[u64; 320], variables: &Variables, record: &[u32]) -> bool
+fn all_obey(problem: &Problem, tables: &Tables, variables: &Variables, record: &[u32]) -> bool
     requires { AllPre (lists problem.now) tables.now variables.now «record».now }
     ensures { AllPost (lists problem.now) tables.now variables.now «record».now result }
 {
@@ -81,8 +82,7 @@ fn obeyed(problem: &Problem, variables: &Variables, record: &[u32]) -> bool
     requires { ConstrainedPre (lists problem.now) variables.now «record».now }
     ensures { ObeyedPost (lists problem.now) variables.now «record».now result }
 {
-    let mut tables = [0u64; 320];
-    letters::tables_of(&problem.table, &mut tables);
+    let tables = letters::tables_of(&problem.table);
     all_obey(problem, &tables, variables, record)
 }
 

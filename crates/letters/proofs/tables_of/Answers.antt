@@ -4,12 +4,12 @@ use Rattle.letters.proofs.tables_of.Goals as goal
 
 pub heads_of-heads-requires : goal.heads_of-heads-requires
 heads_of-heads-requires c =
-    let g = c.requires.1.1 in
+    let g = c.requires.1 in
     (size_length g, g.most, λ s h. ((good_rows g s h).sized.left, (good_rows g s h).sized.right))
 
 pub states_of-states-requires : goal.states_of-states-requires
 states_of-states-requires c =
-    let g = c.requires.1.1 in
+    let g = c.requires.1 in
     (size_length g, g.most, λ s h. ((good_rows g s h).sized.left, (good_rows g s h).sized.right))
 
 pub returns : goal.returns

@@ -11,15 +11,15 @@ pub pack-requires : goal.pack-requires
 pack-requires c = pack_asked (the c.in_ok-checked.ensures refl).poses.rest.pattern refl
 
 pub resume-requires : goal.resume-requires
-resume-requires c = resume_asked _ _ c.in_ok-checked.ensures _ 0 _ c.if-record-width.false c.tables_of.ensures c.pack.ensures refl c.room_for-room.ensures
+resume-requires c = resume_asked _ _ c.in_ok-checked.ensures _ 0 _ c.if-record-width.false c.tables_of-tables.ensures c.pack.ensures refl c.room_for-room.ensures
 
 pub no_page-requires : goal.no_page-requires
 no_page-requires c = record_asked _ _ c.in_ok-checked.ensures [] 0 []
 
 pub returns-in-None : goal.returns-in-None
 returns-in-None c =
-    page_none _ _ c.in_ok-checked.ensures _ _ _ c.if-record-width.false c.tables_of.ensures c.pack.ensures refl c.room_for-room.ensures c.in-None.ensures c.no_page.ensures
+    page_none _ _ c.in_ok-checked.ensures _ _ _ c.if-record-width.false c.tables_of-tables.ensures c.pack.ensures refl c.room_for-room.ensures c.in-None.ensures c.no_page.ensures
 
 pub returns-in-Some : goal.returns-in-Some
 returns-in-Some c =
-    page_done _ _ c.in_ok-checked.ensures _ _ _ c.if-record-width.false c.tables_of.ensures c.pack.ensures refl c.room_for-room.ensures c.in-Some.ensures
+    page_done _ _ c.in_ok-checked.ensures _ _ _ c.if-record-width.false c.tables_of-tables.ensures c.pack.ensures refl c.room_for-room.ensures c.in-Some.ensures

@@ -8,7 +8,7 @@ pub pack-requires : goal.pack-requires
 pack-requires c = pack_asked (the c.requires refl).poses.rest.pattern refl
 
 pub begin-requires : goal.begin-requires
-begin-requires c = begin_asked _ _ c.requires 0 _ c.tables_of.ensures c.pack.ensures refl c.room_for-room.ensures
+begin-requires c = begin_asked _ _ c.requires 0 _ c.tables_of-tables.ensures c.pack.ensures refl c.room_for-room.ensures
 
 pub returns : goal.returns
-returns c = list_done _ _ c.requires _ _ c.tables_of.ensures c.pack.ensures refl c.room_for-room.ensures c.begin.ensures
+returns c = list_done _ _ c.requires _ _ c.tables_of-tables.ensures c.pack.ensures refl c.room_for-room.ensures c.begin.ensures
