@@ -1,21 +1,20 @@
 -- The rows of the tables, laid one after another.
 use mathlib.Core.Path.{◌≡◌, sym, ap, ◌∙◌, subst, fun_ext}
-use mathlib.Core.Bool.{Bool, false}
+use mathlib.Core.Bool.{false}
 use mathlib.Core.List.{List}
 use mathlib.Core.Logic.{◌⊎◌, inl, inr, ⊎_elim}
 use Prim.Native.Nat.{ℕ, ◌+◌, ◌-◌, ◌<◌, ◌≤◌}
 use native.Mathlib.Omega.{arith}
 use native.Mathlib.Nat.{eq-zero-or-pos}
 use native.Mathlib.Decide.{ℕ_discrete}
-use lib.ListN.{length, get_or, set, length-set, get_or-eq_default}
+use lib.ListN.{length, set, length-set, get_or-eq_default}
 use lib.Seq.{get_or-set_same, get_or-set_other}
 use Rattle.expression.specs.Rule.{number_at}
 use Rattle.letters.specs.declared.Head.{Head}
 use Rattle.letters.specs.declared.Row.{Row}
 use Rattle.letters.specs.declared.State.{State}
-use Rattle.letters.specs.declared.Tables.{Tables}
 use Rattle.letters.specs.Following.{head_in, state_in, first_in, null_in, next_in, end_in}
-use Rattle.letters.specs.Tables.{row_in, name_of, first_of, null_of, cont_of, ends_of, Tabled}
+use Rattle.letters.specs.Tables.{row_in, Tabled}
 
 -- the row that the three lists say
 abbrev pub said : List ℕ → List Head → List State → ℕ → Row

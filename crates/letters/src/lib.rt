@@ -174,12 +174,12 @@ pub struct Tables {
 fn lay(name: &[u32; 64], heads: &[Head; 64], states: &[State; 64]) -> Tables
     ensures { Tabled (number_at name.now) (first_in heads.now) (null_in heads.now) (next_in states.now) (end_in states.now) result }
 {
-    let none = Row {
-        name: 0,
+    let first = Row {
+        name: name[0],
         head: heads[0],
         after: states[0],
     };
-    let mut rows = [none; 64];
+    let mut rows = [first; 64];
     for row in 0..64 {
         rows[row] = Row {
             name: name[row],
