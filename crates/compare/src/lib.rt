@@ -22,14 +22,15 @@ pub fn again(tree: &Tree, a: usize, c: usize, t: usize, e: usize) -> Option<usiz
     requires { AgainPre tree.now.label.now tree.now.size.now a c t e }
     ensures { AgainPost tree.now.label.now tree.now.size.now a c t e result }
 {
+    let size = tree.size;
     let mut here = a;
     let mut there = t;
     for _ in 0..c {
         if there == e {
             return None;
         }
-        let behind = tree::next(tree.size, here);
-        let after = tree::next(tree.size, there);
+        let behind = tree::next(size, here);
+        let after = tree::next(size, there);
         if !alike(tree, here, behind, there, after) {
             return None;
         }
@@ -44,17 +45,18 @@ fn left(tree: &Tree, a: usize, b: usize, t: usize, e: usize) -> Option<usize>
     requires { LeftPre tree.now.label.now tree.now.size.now a b t e }
     ensures { LeftPost tree.now.label.now tree.now.size.now a b t e result }
 {
+    let size = tree.size;
     let mut u = a;
     let mut v = t;
     loop {
-        let behind = tree::next(tree.size, u);
+        let behind = tree::next(size, u);
         if b < behind {
             return Some(v);
         }
         if v == e {
             return None;
         }
-        let after = tree::next(tree.size, v);
+        let after = tree::next(size, v);
         if !alike(tree, u, behind, v, after) {
             return None;
         }
