@@ -22,7 +22,7 @@ pub fn again(tree: &Tree, a: usize, c: usize, t: usize, e: usize) -> Option<usiz
     requires { AgainPre tree.now.label.now tree.now.size.now a c t e }
     ensures { AgainPost tree.now.label.now tree.now.size.now a c t e result }
 {
-    // Looked up once: a loop that reaches the sizes through the tree takes a repeated sequence a thirtieth longer.
+    // Looked up once: compiled without proof, a loop that reaches the sizes through the tree takes a repeated sequence a thirtieth longer.
     let size = tree.size;
     let mut here = a;
     let mut there = t;
