@@ -22,14 +22,16 @@ pub fn again(tree: &Tree, a: usize, c: usize, t: usize, e: usize) -> Option<usiz
     requires { AgainPre tree.now.label.now tree.now.size.now a c t e }
     ensures { AgainPost tree.now.label.now tree.now.size.now a c t e result }
 {
+    // Looked up once: compiled without proof, a loop that reaches the sizes through the tree takes a repeated sequence a thirtieth longer.
+    let size = tree.size;
     let mut here = a;
     let mut there = t;
     for _ in 0..c {
         if there == e {
             return None;
         }
-        let behind = tree::next(tree.size, here);
-        let after = tree::next(tree.size, there);
+        let behind = tree::next(size, here);
+        let after = tree::next(size, there);
         if !alike(tree, here, behind, there, after) {
             return None;
         }

@@ -106,7 +106,7 @@ pub fn read_on(tree: &Tree, tables: &Tables, from: Mark, more: usize) -> Mark
     requires { MorePre tree.now.label.now tree.now.size.now from.row more }
     ensures { ReadOn tree.now.label.now tree.now.size.now tables.now from.row from.state.next from.state.end more result.row result.state.next result.state.end }
 {
-    // The lists are looked up once: a loop that reaches them through the tree takes an eighth longer for constrained sequences.
+    // The lists are looked up once: compiled without proof, a loop that reaches them through the tree takes an eighth longer for constrained sequences.
     let label = tree.label;
     let size = tree.size;
     let mut row = from.row;

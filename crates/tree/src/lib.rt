@@ -118,7 +118,7 @@ pub fn same(tree: &Tree, a: usize, t: usize, k: usize) -> bool
     requires { SamePre tree.now.label.now tree.now.size.now a t k }
     ensures { Says result (SameRows tree.now.label.now tree.now.size.now a t k) }
 {
-    // The lists are looked up once: a loop that reaches them through the tree takes a repeated context a twelfth longer.
+    // The lists are looked up once: compiled without proof, a loop that reaches them through the tree takes a repeated context a twelfth longer.
     let label = tree.label;
     let size = tree.size;
     // Row by row: most terms that are compared are small, and two slices of few numbers take `==` half as long again.
