@@ -31,7 +31,7 @@ fn list_checked(variables: &Variables, problem: &Problem, budget: u32, out: &mut
 {
     let mut tables = [0u64; 320];
     letters::tables_of(&problem.table, &mut tables);
-    let mut packed = [0u32; 1536];
+    let mut packed = [walk::UNPACKED; 256];
     walk::pack(&problem.pattern, problem.constraint, &mut packed);
     let width = variables.count + variables.count;
     let room = room_for(out.len(), width);
@@ -89,7 +89,7 @@ pub fn list_after(
     }
     let mut tables = [0u64; 320];
     letters::tables_of(&problem.table, &mut tables);
-    let mut packed = [0u32; 1536];
+    let mut packed = [walk::UNPACKED; 256];
     walk::pack(&problem.pattern, problem.constraint, &mut packed);
     let room = room_for(out.len(), width);
     match resume(
