@@ -3,11 +3,13 @@
 #![tactic(auto)]
 
 ghost use Rattle.std.specs.Prelude.{◌≡◌, ◌+◌, ◌*◌, ◌<◌, ◌≤◌, length, get_or};
+ghost use Rattle.walk.specs.Packed.{numbers_of};
 ghost use Rattle.choice.specs.Stops.{AtStop, LeastPost, ValuesPost, LandingPre, LandingPost, FurtherPre, FurtherPost, FewerPre, Fewer, MorePre, MorePost};
 ghost use Rattle.choice.specs.Runs.{HolesPost, NeighboursPre, NeighboursPost, WholePre, WholePost, LevelPre, SkipPost};
 
 use meaning::kinds::{SEQUENCE, SYMBOL};
 use tree::Tree;
+use walk::PatternRow;
 
 // Values that fail: how many, and the row at which the walk goes on with the next.
 #[derive(Drop)]
@@ -17,9 +19,9 @@ pub struct Run {
 }
 
 // The least value: the row of a context's start, or no terms.
-pub fn least(pattern: &[u32; 1536], p: usize, s: usize) -> usize
-    requires { 6 * p + 5 < length pattern.now }
-    ensures { LeastPost pattern.now p s result }
+pub fn least(pattern: &[PatternRow; 256], p: usize, s: usize) -> usize
+    requires { 6 * p + 5 < length (numbers_of pattern.now) }
+    ensures { LeastPost (numbers_of pattern.now) p s result }
 {
     if walk::kind(pattern, p) == SEQUENCE {
         0
@@ -29,9 +31,15 @@ pub fn least(pattern: &[u32; 1536], p: usize, s: usize) -> usize
 }
 
 // How many values there are: a row of the term each, or a count of the terms that are left in the list.
-pub fn values(size: &[u32], pattern: &[u32; 1536], at: &[usize; 256], p: usize, s: usize) -> usize
-    requires { AtStop size.now pattern.now at.now p s }
-    ensures { ValuesPost size.now pattern.now at.now p s result }
+pub fn values(
+    size: &[u32],
+    pattern: &[PatternRow; 256],
+    at: &[usize; 256],
+    p: usize,
+    s: usize,
+) -> usize
+    requires { AtStop size.now (numbers_of pattern.now) at.now p s }
+    ensures { ValuesPost size.now (numbers_of pattern.now) at.now p s result }
 {
     if walk::kind(pattern, p) != SEQUENCE {
         return tree::at(size, s);
@@ -42,9 +50,9 @@ pub fn values(size: &[u32], pattern: &[u32; 1536], at: &[usize; 256], p: usize, 
 }
 
 // The row at which the walk goes on with the value v.
-pub fn landing(size: &[u32], pattern: &[u32; 1536], p: usize, s: usize, v: usize) -> usize
-    requires { LandingPre size.now pattern.now p s v }
-    ensures { LandingPost size.now pattern.now p s v result }
+pub fn landing(size: &[u32], pattern: &[PatternRow; 256], p: usize, s: usize, v: usize) -> usize
+    requires { LandingPre size.now (numbers_of pattern.now) p s v }
+    ensures { LandingPost size.now (numbers_of pattern.now) p s v result }
 {
     if walk::kind(pattern, p) == SEQUENCE {
         return tree::past(size, s, v);
@@ -53,9 +61,9 @@ pub fn landing(size: &[u32], pattern: &[u32; 1536], p: usize, s: usize, v: usize
 }
 
 // The row of the next value: behind one term more of a sequence, or one row further for a context's hole. The last stays.
-pub fn further(size: &[u32], pattern: &[u32; 1536], p: usize, u: usize, left: usize) -> usize
-    requires { FurtherPre size.now pattern.now p u left }
-    ensures { FurtherPost size.now pattern.now p u left result }
+pub fn further(size: &[u32], pattern: &[PatternRow; 256], p: usize, u: usize, left: usize) -> usize
+    requires { FurtherPre size.now (numbers_of pattern.now) p u left }
+    ensures { FurtherPost size.now (numbers_of pattern.now) p u left result }
 {
     if left == 0 {
         return u;
@@ -87,7 +95,7 @@ fn fewer(size: &[u32], u: usize, s: usize, left: usize) -> Option<usize>
 // more. Where both stand in one list, only the terms between them are counted.
 pub fn more_values(
     size: &[u32],
-    pattern: &[u32; 1536],
+    pattern: &[PatternRow; 256],
     at: &[usize; 256],
     q: usize,
     u: usize,
@@ -95,8 +103,8 @@ pub fn more_values(
     p: usize,
     s: usize,
 ) -> usize
-    requires { MorePre size.now pattern.now at.now q u left p s }
-    ensures { MorePost size.now pattern.now at.now q u left p s result }
+    requires { MorePre size.now (numbers_of pattern.now) at.now q u left p s }
+    ensures { MorePost size.now (numbers_of pattern.now) at.now q u left p s result }
 {
     if walk::kind(pattern, q) == SEQUENCE
         && walk::kind(pattern, p) == SEQUENCE
@@ -156,15 +164,15 @@ fn whole(size: &[u32], at: &[usize; 256], h: usize, u: usize, left: usize, limit
 // The values of a sequence variable that fail at once: those before a term with another label than the symbol behind it.
 fn terms(
     tree: &Tree,
-    pattern: &[u32; 1536],
+    pattern: &[PatternRow; 256],
     at: &[usize; 256],
     p: usize,
     u: usize,
     left: usize,
     limit: usize,
 ) -> Run
-    requires { LevelPre tree.now.label.now tree.now.size.now pattern.now at.now p u left limit × (get_or pattern.now (6 * p) 0 ≡ 2) }
-    ensures { SkipPost tree.now.label.now tree.now.size.now pattern.now at.now p u left limit result.count result.row }
+    requires { LevelPre tree.now.label.now tree.now.size.now (numbers_of pattern.now) at.now p u left limit × (get_or (numbers_of pattern.now) (6 * p) 0 ≡ 2) }
+    ensures { SkipPost tree.now.label.now tree.now.size.now (numbers_of pattern.now) at.now p u left limit result.count result.row }
 {
     let h = walk::holder(pattern, p);
     if p + 1 == walk::next(pattern, h) {
@@ -181,15 +189,15 @@ fn terms(
 // u with the first of these.
 pub fn skip(
     tree: &Tree,
-    pattern: &[u32; 1536],
+    pattern: &[PatternRow; 256],
     at: &[usize; 256],
     p: usize,
     u: usize,
     left: usize,
     limit: usize,
 ) -> Run
-    requires { LevelPre tree.now.label.now tree.now.size.now pattern.now at.now p u left limit }
-    ensures { SkipPost tree.now.label.now tree.now.size.now pattern.now at.now p u left limit result.count result.row }
+    requires { LevelPre tree.now.label.now tree.now.size.now (numbers_of pattern.now) at.now p u left limit }
+    ensures { SkipPost tree.now.label.now tree.now.size.now (numbers_of pattern.now) at.now p u left limit result.count result.row }
 {
     if walk::kind(pattern, p) == SEQUENCE {
         return terms(tree, pattern, at, p, u, left, limit);

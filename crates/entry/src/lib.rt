@@ -1,6 +1,7 @@
 // How the search is entered: from its first walk on, before any choice; or from the levels that stand at a record.
 #![tactic(auto)]
 
+ghost use Rattle.walk.specs.Packed.{numbers_of};
 ghost use Rattle.entry.specs.Begun.{BeginPre, BeginPost};
 ghost use Rattle.entry.specs.Resumed.{ResumePre, ResumePost};
 
@@ -8,20 +9,20 @@ use letters::Tables;
 use meaning::endings::Ending;
 use search::{Found, Limits};
 use tree::Tree;
-use walk::Halt;
+use walk::{Halt, PatternRow};
 
 // The search from its first walk on, before any choice.
 pub fn begin(
     tree: &Tree,
-    pattern: &[u32; 1536],
+    pattern: &[PatternRow; 256],
     tables: &Tables,
     budget: u32,
     room: usize,
     width: usize,
     out: &mut [u32],
 ) -> Found
-    requires { BeginPre tree.now.label.now tree.now.size.now pattern.now tables.now room width out.old }
-    ensures { BeginPost tree.now.label.now tree.now.size.now pattern.now tables.now budget room width out.old result out.new }
+    requires { BeginPre tree.now.label.now tree.now.size.now (numbers_of pattern.now) tables.now room width out.old }
+    ensures { BeginPost tree.now.label.now tree.now.size.now (numbers_of pattern.now) tables.now budget room width out.old result out.new }
 {
     let mut record = [0u32; 32];
     let mut at = [0usize; 256];
@@ -62,7 +63,7 @@ pub fn begin(
 // The search from the levels that stand at a record, if it is that of a matcher.
 pub fn resume(
     tree: &Tree,
-    pattern: &[u32; 1536],
+    pattern: &[PatternRow; 256],
     tables: &Tables,
     list: &[u32],
     budget: u32,
@@ -70,8 +71,8 @@ pub fn resume(
     width: usize,
     out: &mut [u32],
 ) -> Option<Found>
-    requires { ResumePre tree.now.label.now tree.now.size.now pattern.now tables.now list.now room width out.old }
-    ensures { ResumePost tree.now.label.now tree.now.size.now pattern.now tables.now list.now budget room width out.old out.new result }
+    requires { ResumePre tree.now.label.now tree.now.size.now (numbers_of pattern.now) tables.now list.now room width out.old }
+    ensures { ResumePost tree.now.label.now tree.now.size.now (numbers_of pattern.now) tables.now list.now budget room width out.old out.new result }
 {
     let limits = Limits {
         budget,

@@ -3,7 +3,7 @@
 
 ghost use Rattle.std.specs.Prelude.{◌≡◌, ◌+◌, ◌<◌, ◌≤◌, length};
 ghost use Rattle.catalogue.proofs.Back.{BackTo};
-ghost use Rattle.walk.specs.Packed.{root_of};
+ghost use Rattle.walk.specs.Packed.{numbers_of, root_of};
 ghost use Rattle.memory.specs.Memory.{Both};
 ghost use Rattle.levels.specs.Columns.{lefts, Inside, Moved, Entered};
 ghost use Rattle.levels.specs.Levels.{AttemptPre, AttemptPost};
@@ -13,7 +13,7 @@ use letters::Tables;
 use memory::Memory;
 use paths::Path;
 use tree::Tree;
-use walk::Halt;
+use walk::{Halt, PatternRow};
 
 // A level: the pattern row of its variable, the variable, the row where it starts, the row at which the walk goes on with the next
 // value, that value, and how many are left.
@@ -105,15 +105,15 @@ fn spare(left: usize, budget: u32, tries: u32) -> usize
 // The level d goes on to its next value that does not fail at once, as far as the budget allows.
 pub fn next_try(
     tree: &Tree,
-    pattern: &[u32; 1536],
+    pattern: &[PatternRow; 256],
     at: &[usize; 256],
     levels: &mut [Level; 256],
     d: usize,
     budget: u32,
     tries: u32,
 ) -> Try
-    requires { NextPre tree.now.label.now tree.now.size.now pattern.now at.now levels.old d budget tries }
-    ensures { NextPost tree.now.label.now tree.now.size.now pattern.now at.now levels.old d budget tries levels.new result.p result.x result.s result.u result.v result.left result.failed }
+    requires { NextPre tree.now.label.now tree.now.size.now (numbers_of pattern.now) at.now levels.old d budget tries }
+    ensures { NextPost tree.now.label.now tree.now.size.now (numbers_of pattern.now) at.now levels.old d budget tries levels.new result.p result.x result.s result.u result.v result.left result.failed }
 {
     let l = levels[d];
     let limit = spare(l.left, budget, tries);
@@ -137,7 +137,7 @@ pub fn next_try(
 // pattern row q.
 pub fn deeper(
     size: &[u32],
-    pattern: &[u32; 1536],
+    pattern: &[PatternRow; 256],
     at: &[usize; 256],
     levels: &mut [Level; 256],
     d: usize,
@@ -146,8 +146,8 @@ pub fn deeper(
     left: usize,
     w: walk::Stop,
 )
-    requires { DeeperPre size.now pattern.now at.now levels.old d q u left w.place w.start }
-    ensures { DeeperPost size.now pattern.now at.now levels.old d q u left w.place w.variable w.start levels.new }
+    requires { DeeperPre size.now (numbers_of pattern.now) at.now levels.old d q u left w.place w.start }
+    ensures { DeeperPost size.now (numbers_of pattern.now) at.now levels.old d q u left w.place w.variable w.start levels.new }
 {
     let least = choice::least(pattern, w.place, w.start);
     let values = choice::more_values(size, pattern, at, q, u, left, w.place, w.start);
@@ -157,7 +157,7 @@ pub fn deeper(
 // One try. The constraint is judged before the walk goes on.
 pub fn attempt(
     tree: &Tree,
-    pattern: &[u32; 1536],
+    pattern: &[PatternRow; 256],
     tables: &Tables,
     record: &mut [u32; 32],
     at: &mut [usize; 256],
@@ -165,10 +165,10 @@ pub fn attempt(
     memory: &mut Memory,
     path: &mut Path,
 ) -> Result<usize, Halt>
-    requires { AttemptPre tree.now.label.now tree.now.size.now pattern.now tables.now «record».old at.old t.p t.x t.s t.u t.v
-        × Both tree.now.label.now tree.now.size.now tables.now (root_of pattern.now) memory.old path.old }
-    ensures { AttemptPost tree.now.label.now tree.now.size.now pattern.now tables.now «record».old at.old t.p t.x t.s t.u t.v result «record».new at.new
-        × Both tree.now.label.now tree.now.size.now tables.now (root_of pattern.now) memory.new path.new }
+    requires { AttemptPre tree.now.label.now tree.now.size.now (numbers_of pattern.now) tables.now «record».old at.old t.p t.x t.s t.u t.v
+        × Both tree.now.label.now tree.now.size.now tables.now (root_of (numbers_of pattern.now)) memory.old path.old }
+    ensures { AttemptPost tree.now.label.now tree.now.size.now (numbers_of pattern.now) tables.now «record».old at.old t.p t.x t.s t.u t.v result «record».new at.new
+        × Both tree.now.label.now tree.now.size.now tables.now (root_of (numbers_of pattern.now)) memory.new path.new }
 {
     if !memory::allowed(tree, pattern, tables, t.p, t.s, t.v, memory, path) {
         return Err(Halt::Fail);

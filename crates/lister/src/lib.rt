@@ -30,7 +30,7 @@ fn list_checked(variables: &Variables, problem: &Problem, budget: u32, out: &mut
     ensures { Settled (lists problem.now) budget out.old (told (Ok result)) out.new }
 {
     let tables = letters::tables_of(&problem.table);
-    let mut packed = [0u32; 1536];
+    let mut packed = [walk::UNPACKED; 256];
     walk::pack(&problem.pattern, problem.constraint, &mut packed);
     let width = variables.count + variables.count;
     let room = room_for(out.len(), width);
@@ -87,7 +87,7 @@ pub fn list_after(
         return Err(Refusal::Record);
     }
     let tables = letters::tables_of(&problem.table);
-    let mut packed = [0u32; 1536];
+    let mut packed = [walk::UNPACKED; 256];
     walk::pack(&problem.pattern, problem.constraint, &mut packed);
     let room = room_for(out.len(), width);
     match resume(

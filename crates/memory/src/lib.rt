@@ -3,6 +3,7 @@
 #![tactic(auto)]
 
 ghost use Rattle.std.specs.Prelude.{◌≡◌, ◌<◌, ◌-◌, length, replicate, None};
+ghost use Rattle.walk.specs.Packed.{numbers_of};
 ghost use Rattle.memory.specs.Memory.{kept, RecallPre, RecallPost, GrownPre, GrownPost, GrowPre, GrowPost};
 
 use constraint::Mark;
@@ -10,6 +11,7 @@ use letters::{State, Tables};
 use meaning::kinds::SEQUENCE;
 use paths::Path;
 use tree::Tree;
+use walk::PatternRow;
 
 // What has been read of a choice's sequence: the row where the reading began, how many heads are read, the row where it stands, and
 // its state.
@@ -121,7 +123,7 @@ fn row_of(start: u32) -> usize
 // Whether the variable at the pattern row p may stand for the value that the numbers a and b mean, as `constraint::obeys` says.
 pub fn allowed(
     tree: &Tree,
-    pattern: &[u32; 1536],
+    pattern: &[PatternRow; 256],
     tables: &Tables,
     p: usize,
     a: usize,
@@ -129,8 +131,8 @@ pub fn allowed(
     memory: &mut Memory,
     path: &mut Path,
 ) -> bool
-    requires { GrowPre tree.now.label.now tree.now.size.now pattern.now tables.now p a b memory.old path.old }
-    ensures { GrowPost tree.now.label.now tree.now.size.now pattern.now tables.now p a b result memory.new path.new }
+    requires { GrowPre tree.now.label.now tree.now.size.now (numbers_of pattern.now) tables.now p a b memory.old path.old }
+    ensures { GrowPost tree.now.label.now tree.now.size.now (numbers_of pattern.now) tables.now p a b result memory.new path.new }
 {
     let choice = walk::chosen(pattern, p);
     let start = choice.start;

@@ -1,6 +1,7 @@
 // The levels of the search as they stand at a record: each choice is the record's own second number, judged and walked with as a try is.
 #![tactic(auto)]
 
+ghost use Rattle.walk.specs.Packed.{numbers_of};
 ghost use Rattle.page.specs.Page.{ChoosePre, ChoosePost, ReachPre, ReachPost};
 
 use letters::Tables;
@@ -8,21 +9,21 @@ use levels::{Level, Try, advance, attempt, enter};
 use memory::Memory;
 use paths::Path;
 use tree::Tree;
-use walk::Halt;
+use walk::{Halt, PatternRow};
 
 // The level d is for the variable at which the walk stopped, and stands behind the value that the record has for it, which is to be
 // tried, if it is one of the variable's.
 fn choose(
     size: &[u32],
-    pattern: &[u32; 1536],
+    pattern: &[PatternRow; 256],
     list: &[u32],
     at: &[usize; 256],
     levels: &mut [Level; 256],
     d: usize,
     w: walk::Stop,
 ) -> Option<Try>
-    requires { ChoosePre size.now pattern.now at.now levels.old list.now d w.place w.variable w.start }
-    ensures { ChoosePost size.now pattern.now at.now levels.old list.now d w.place w.variable w.start levels.new result }
+    requires { ChoosePre size.now (numbers_of pattern.now) at.now levels.old list.now d w.place w.variable w.start }
+    ensures { ChoosePost size.now (numbers_of pattern.now) at.now levels.old list.now d w.place w.variable w.start levels.new result }
 {
     let p = w.place;
     let x = w.variable;
@@ -56,15 +57,15 @@ fn choose(
 // many levels these are, if the record is that of a matcher.
 pub fn reach(
     tree: &Tree,
-    pattern: &[u32; 1536],
+    pattern: &[PatternRow; 256],
     tables: &Tables,
     list: &[u32],
     record: &mut [u32; 32],
     at: &mut [usize; 256],
     levels: &mut [Level; 256],
 ) -> Option<usize>
-    requires { ReachPre tree.now.label.now tree.now.size.now pattern.now tables.now list.now «record».old at.old levels.old }
-    ensures { ReachPost tree.now.label.now tree.now.size.now pattern.now tables.now list.now «record».new at.new levels.new result }
+    requires { ReachPre tree.now.label.now tree.now.size.now (numbers_of pattern.now) tables.now list.now «record».old at.old levels.old }
+    ensures { ReachPost tree.now.label.now tree.now.size.now (numbers_of pattern.now) tables.now list.now «record».new at.new levels.new result }
 {
     let mut memory = Memory::new();
     let mut path = Path::new();

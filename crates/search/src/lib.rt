@@ -2,6 +2,7 @@
 
 ghost use Rattle.std.specs.Prelude.{◌≡◌, ◌+◌, ◌<◌, ◌≤◌, length};
 ghost use Rattle.std.proofs.Math.Seq.{paste};
+ghost use Rattle.walk.specs.Packed.{numbers_of};
 ghost use Rattle.levels.specs.Columns.{places, variables, starts, rows, nexts, lefts};
 ghost use Rattle.search.specs.Search.{GoPre, GoPost};
 
@@ -11,7 +12,7 @@ use meaning::endings::Ending;
 use memory::Memory;
 use paths::Path;
 use tree::Tree;
-use walk::Halt;
+use walk::{Halt, PatternRow};
 
 // What the search comes to: the ending, how many records were written, and the tries.
 #[derive(Drop)]
@@ -50,7 +51,7 @@ pub struct Limits {
 // The search from levels that stand after some choices: the last level's next value is tried, and what the walk finds is noted.
 pub fn go(
     tree: &Tree,
-    pattern: &[u32; 1536],
+    pattern: &[PatternRow; 256],
     tables: &Tables,
     limits: Limits,
     record: &mut [u32; 32],
@@ -59,9 +60,9 @@ pub fn go(
     start: usize,
     out: &mut [u32],
 ) -> Found
-    requires { GoPre tree.now.label.now tree.now.size.now pattern.now tables.now limits.room limits.width «record».old at.old (places levels.old) (variables levels.old) (starts levels.old) (rows levels.old) (nexts levels.old) (lefts levels.old) start out.old
+    requires { GoPre tree.now.label.now tree.now.size.now (numbers_of pattern.now) tables.now limits.room limits.width «record».old at.old (places levels.old) (variables levels.old) (starts levels.old) (rows levels.old) (nexts levels.old) (lefts levels.old) start out.old
         × (length levels.old ≡ 256) × (limits.budget < 4294967296) × (limits.room < 18446744073709551616) }
-    ensures { GoPost tree.now.label.now tree.now.size.now pattern.now tables.now limits.budget limits.room limits.width «record».old at.old (places levels.old) (variables levels.old) (starts levels.old) (rows levels.old) (nexts levels.old) (lefts levels.old) start out.old result out.new }
+    ensures { GoPost tree.now.label.now tree.now.size.now (numbers_of pattern.now) tables.now limits.budget limits.room limits.width «record».old at.old (places levels.old) (variables levels.old) (starts levels.old) (rows levels.old) (nexts levels.old) (lefts levels.old) start out.old result out.new }
 {
     let budget = limits.budget;
     let room = limits.room;

@@ -3,6 +3,7 @@
 ghost use Rattle.std.specs.Prelude.{◌≡◌, ◌≤◌, length};
 ghost use Rattle.meaning.specs.Calls.{Says};
 ghost use Rattle.problem.specs.Problem.{lists};
+ghost use Rattle.walk.specs.Packed.{numbers_of};
 ghost use Rattle.test.specs.Tested.{TestSettled};
 ghost use Rattle.test.specs.Followed.{FollowPre, FollowPost};
 ghost use Rattle.test.specs.Inside.{WalkablePre, PlacedPost, ConstrainedPre, ObeyedPost, AllPre, AllPost};
@@ -12,11 +13,12 @@ use meaning::Refusal;
 use pattern::Variables;
 use problem::Problem;
 use tree::Tree;
+use walk::PatternRow;
 
 // The walk with the choices of the list: a variable that is asked for takes the second number that the list has for it.
-fn follow(tree: &Tree, pattern: &[u32; 1536], list: &[u32], found: &mut [u32; 32]) -> bool
-    requires { FollowPre tree.now.label.now tree.now.size.now pattern.now list.now found.old }
-    ensures { FollowPost tree.now.label.now tree.now.size.now pattern.now list.now result found.new }
+fn follow(tree: &Tree, pattern: &[PatternRow; 256], list: &[u32], found: &mut [u32; 32]) -> bool
+    requires { FollowPre tree.now.label.now tree.now.size.now (numbers_of pattern.now) list.now found.old }
+    ensures { FollowPost tree.now.label.now tree.now.size.now (numbers_of pattern.now) list.now result found.new }
 {
     let mut at = [0usize; 256];
     let mut o = walk::begin(tree, pattern, found, &mut at);
@@ -48,7 +50,7 @@ fn placed(problem: &Problem, record: &[u32]) -> bool
     requires { WalkablePre (lists problem.now) «record».now }
     ensures { PlacedPost (lists problem.now) «record».now result }
 {
-    let mut packed = [0u32; 1536];
+    let mut packed = [walk::UNPACKED; 256];
     walk::pack(&problem.pattern, problem.constraint, &mut packed);
     let mut found = [0u32; 32];
     follow(&problem.tree, &packed, record, &mut found) && record::equal(&found, record)

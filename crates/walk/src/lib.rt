@@ -2,7 +2,7 @@
 #![tactic(auto)]
 
 ghost use Rattle.std.specs.Prelude.{◌≡◌, ◌+◌, ◌*◌, ◌<◌, length, get_or};
-ghost use Rattle.walk.specs.Packed.{Packed, Bounds, PackPre, Put, HolderPre, HolderPost};
+ghost use Rattle.walk.specs.Packed.{numbers_of, Packed, Bounds, PackPre, HolderPre, HolderPost};
 ghost use Rattle.walk.specs.Above.{Came};
 ghost use Rattle.walk.specs.Cycle.{TermPre, TermPost, ListPre, ListPost};
 ghost use Rattle.walk.specs.Onward.{UpPre, UpPost, ResumePre, ResumePost, BeginPre, BeginPost};
@@ -28,29 +28,27 @@ pub enum Halt {
     Need(Stop),
 }
 
-// What the walk needs of a row of the pattern: its kind, name and size, the row that holds it, and its variable's constraint.
-#[derive(Drop)]
-struct PatternRow {
-    kind: u32,
-    name: u32,
-    size: u32,
-    holder: u32,
-    start: u32,
-    flag: u32,
+// What the walk needs of a row of the pattern: its kind, name and size, the row that holds it, and its variable's constraint: where its
+// expression starts, plus one, and the flag.
+#[derive(Clone, Copy)]
+pub struct PatternRow {
+    pub kind: u32,
+    pub name: u32,
+    pub size: u32,
+    pub holder: u32,
+    pub start: u32,
+    pub flag: u32,
 }
 
-fn put(packed: &mut [u32], row: usize, r: PatternRow)
-    requires { 6 * row + 5 < length packed.old }
-    ensures { Put packed.old row r.kind r.name r.size r.holder r.start r.flag packed.new }
-{
-    let at = 6 * row;
-    packed[at] = r.kind;
-    packed[at + 1] = r.name;
-    packed[at + 2] = r.size;
-    packed[at + 3] = r.holder;
-    packed[at + 4] = r.start;
-    packed[at + 5] = r.flag;
-}
+// A row before it is packed.
+pub const UNPACKED: PatternRow = PatternRow {
+    kind: 0,
+    name: 0,
+    size: 0,
+    holder: 0,
+    start: 0,
+    flag: 0,
+};
 
 // The entry i of a list, 0 where there is none.
 fn entry(list: &[u32], i: usize) -> u32
@@ -60,8 +58,8 @@ fn entry(list: &[u32], i: usize) -> u32
 }
 
 // The nearest row before a row whose term has it, where the rows before have theirs; the root's is itself.
-fn holder_of(size: &[u32], packed: &[u32], row: usize) -> usize
-    requires { HolderPre size.now packed.now row }
+fn holder_of(size: &[u32], packed: &[PatternRow], row: usize) -> usize
+    requires { HolderPre size.now (numbers_of packed.now) row }
     ensures { HolderPost size.now row result }
 {
     if row == 0 {
@@ -69,21 +67,21 @@ fn holder_of(size: &[u32], packed: &[u32], row: usize) -> usize
     }
     let mut h = row - 1;
     while tree::next(size, h) <= row {
-        h = tree::at(packed, 6 * h + 3);
+        h = packed[h].holder as usize;
     }
     h
 }
 
-// The pattern's lists in one, with each row's holder and constraint: a call with few slices costs less.
-pub fn pack(pattern: &Pattern, constraint: &[u32], packed: &mut [u32])
-    requires { PackPre pattern.now.kind.now pattern.now.name.now pattern.now.size.now packed.old }
-    ensures { Packed pattern.now.kind.now pattern.now.name.now pattern.now.size.now packed.new
-        × Bounds pattern.now.kind.now pattern.now.name.now constraint.now packed.new }
+// The pattern's lists in one, row by row, with each row's holder and constraint: a call with few slices costs less.
+pub fn pack(pattern: &Pattern, constraint: &[u32], packed: &mut [PatternRow])
+    requires { PackPre pattern.now.kind.now pattern.now.name.now pattern.now.size.now (numbers_of packed.old) }
+    ensures { Packed pattern.now.kind.now pattern.now.name.now pattern.now.size.now (numbers_of packed.new)
+        × Bounds pattern.now.kind.now pattern.now.name.now constraint.now (numbers_of packed.new) }
 {
     for row in 0..pattern.kind.len() {
         let holder = holder_of(pattern.size, packed, row) as u32;
         let x = tree::at(pattern.name, row);
-        let r = PatternRow {
+        packed[row] = PatternRow {
             kind: pattern.kind[row],
             name: pattern.name[row],
             size: pattern.size[row],
@@ -91,32 +89,31 @@ pub fn pack(pattern: &Pattern, constraint: &[u32], packed: &mut [u32])
             start: entry(constraint, x + x),
             flag: entry(constraint, x + x + 1),
         };
-        put(packed, row, r);
     }
 }
 
 // A pattern row's kind.
-pub fn kind(pattern: &[u32; 1536], p: usize) -> u32
-    requires { 6 * p + 5 < length pattern.now }
-    ensures { result ≡ get_or pattern.now (6 * p) 0 }
+pub fn kind(pattern: &[PatternRow; 256], p: usize) -> u32
+    requires { 6 * p + 5 < length (numbers_of pattern.now) }
+    ensures { result ≡ get_or (numbers_of pattern.now) (6 * p) 0 }
 {
-    tree::at(pattern, 6 * p) as u32
+    pattern[p].kind
 }
 
 // A pattern row's name.
-pub fn name(pattern: &[u32; 1536], p: usize) -> usize
-    requires { 6 * p + 5 < length pattern.now }
-    ensures { result ≡ get_or pattern.now (6 * p + 1) 0 }
+pub fn name(pattern: &[PatternRow; 256], p: usize) -> usize
+    requires { 6 * p + 5 < length (numbers_of pattern.now) }
+    ensures { result ≡ get_or (numbers_of pattern.now) (6 * p + 1) 0 }
 {
-    tree::at(pattern, 6 * p + 1)
+    pattern[p].name as usize
 }
 
 // The row after the pattern term at the row p.
-pub fn next(pattern: &[u32; 1536], p: usize) -> usize
-    requires { 6 * p + 5 < length pattern.now }
-    ensures { result ≡ p + get_or pattern.now (6 * p + 2) 0 }
+pub fn next(pattern: &[PatternRow; 256], p: usize) -> usize
+    requires { 6 * p + 5 < length (numbers_of pattern.now) }
+    ensures { result ≡ p + get_or (numbers_of pattern.now) (6 * p + 2) 0 }
 {
-    p + tree::at(pattern, 6 * p + 2)
+    p + pattern[p].size as usize
 }
 
 // A choice: the kind of a pattern row's variable, and its constraint: where its expression starts, plus one, and the flag.
@@ -127,25 +124,25 @@ pub struct Choice {
     pub flag: u32,
 }
 
-pub fn chosen(pattern: &[u32; 1536], p: usize) -> Choice
+pub fn chosen(pattern: &[PatternRow; 256], p: usize) -> Choice
     requires { p < 256 }
-    ensures { (result.kind ≡ get_or pattern.now (6 * p) 0) × (result.start ≡ get_or pattern.now (6 * p + 4) 0)
-        × (result.flag ≡ get_or pattern.now (6 * p + 5) 0) }
+    ensures { (result.kind ≡ get_or (numbers_of pattern.now) (6 * p) 0) × (result.start ≡ get_or (numbers_of pattern.now) (6 * p + 4) 0)
+        × (result.flag ≡ get_or (numbers_of pattern.now) (6 * p + 5) 0) }
 {
-    let at = 6 * p;
+    let row = pattern[p];
     Choice {
-        kind: pattern[at],
-        start: pattern[at + 4],
-        flag: pattern[at + 5],
+        kind: row.kind,
+        start: row.start,
+        flag: row.flag,
     }
 }
 
 // The row of the pattern that holds the pattern row p.
-pub fn holder(pattern: &[u32; 1536], p: usize) -> usize
-    requires { 6 * p + 5 < length pattern.now }
-    ensures { result ≡ get_or pattern.now (6 * p + 3) 0 }
+pub fn holder(pattern: &[PatternRow; 256], p: usize) -> usize
+    requires { 6 * p + 5 < length (numbers_of pattern.now) }
+    ensures { result ≡ get_or (numbers_of pattern.now) (6 * p + 3) 0 }
 {
-    tree::at(pattern, 6 * p + 3)
+    pattern[p].holder as usize
 }
 
 // The walk comes to the pattern row p at the row t of the tree.
@@ -168,15 +165,15 @@ pub fn row(at: &[usize; 256], p: usize) -> usize
 #[cycle(args_term)]
 fn term(
     tree: &Tree,
-    pattern: &[u32; 1536],
+    pattern: &[PatternRow; 256],
     record: &mut [u32; 32],
     at: &mut [usize; 256],
     p: usize,
     t: usize,
     n: usize,
 ) -> Result<usize, Halt>
-    requires { TermPre tree.now.label.now tree.now.size.now pattern.now «record».old at.old p t n }
-    ensures { TermPost tree.now.label.now tree.now.size.now pattern.now «record».old at.old p t n result «record».new at.new }
+    requires { TermPre tree.now.label.now tree.now.size.now (numbers_of pattern.now) «record».old at.old p t n }
+    ensures { TermPost tree.now.label.now tree.now.size.now (numbers_of pattern.now) «record».old at.old p t n result «record».new at.new }
 {
     come(at, p, t);
     let k = kind(pattern, p);
@@ -213,7 +210,7 @@ fn term(
 #[cycle(args_term)]
 fn args(
     tree: &Tree,
-    pattern: &[u32; 1536],
+    pattern: &[PatternRow; 256],
     record: &mut [u32; 32],
     at: &mut [usize; 256],
     p: usize,
@@ -222,8 +219,8 @@ fn args(
     te: usize,
     n: usize,
 ) -> Result<usize, Halt>
-    requires { ListPre tree.now.label.now tree.now.size.now pattern.now «record».old at.old p pe t te n }
-    ensures { ListPost tree.now.label.now tree.now.size.now pattern.now «record».old at.old p pe t te n result «record».new at.new }
+    requires { ListPre tree.now.label.now tree.now.size.now (numbers_of pattern.now) «record».old at.old p pe t te n }
+    ensures { ListPost tree.now.label.now tree.now.size.now (numbers_of pattern.now) «record».old at.old p pe t te n result «record».new at.new }
 {
     let mut q = p;
     let mut u = t;
@@ -265,14 +262,14 @@ fn args(
 // stands in, and so on up to the root. A context holds one term, so that nothing is left of its list.
 fn up(
     tree: &Tree,
-    pattern: &[u32; 1536],
+    pattern: &[PatternRow; 256],
     record: &mut [u32; 32],
     at: &mut [usize; 256],
     p: usize,
     n: usize,
 ) -> Result<usize, Halt>
-    requires { UpPre tree.now.label.now tree.now.size.now pattern.now «record».old at.old p n }
-    ensures { UpPost tree.now.label.now tree.now.size.now pattern.now «record».old at.old p n result «record».new at.new }
+    requires { UpPre tree.now.label.now tree.now.size.now (numbers_of pattern.now) «record».old at.old p n }
+    ensures { UpPost tree.now.label.now tree.now.size.now (numbers_of pattern.now) «record».old at.old p n result «record».new at.new }
 {
     let mut q = p;
     let mut m = n;
@@ -304,15 +301,15 @@ fn up(
 // or the row of a context's hole.
 pub fn resume(
     tree: &Tree,
-    pattern: &[u32; 1536],
+    pattern: &[PatternRow; 256],
     record: &mut [u32; 32],
     at: &mut [usize; 256],
     p: usize,
     u: usize,
     n: usize,
 ) -> Result<usize, Halt>
-    requires { ResumePre tree.now.label.now tree.now.size.now pattern.now «record».old at.old p u n }
-    ensures { ResumePost tree.now.label.now tree.now.size.now pattern.now «record».old at.old p u n result «record».new at.new }
+    requires { ResumePre tree.now.label.now tree.now.size.now (numbers_of pattern.now) «record».old at.old p u n }
+    ensures { ResumePost tree.now.label.now tree.now.size.now (numbers_of pattern.now) «record».old at.old p u n result «record».new at.new }
 {
     if kind(pattern, p) == SEQUENCE {
         let h = holder(pattern, p);
@@ -337,7 +334,7 @@ pub fn resume(
 // The variable x at the pattern row p, which starts at the row s, takes the value v, and the walk goes on at the row u.
 pub fn take(
     tree: &Tree,
-    pattern: &[u32; 1536],
+    pattern: &[PatternRow; 256],
     record: &mut [u32; 32],
     at: &mut [usize; 256],
     p: usize,
@@ -346,8 +343,8 @@ pub fn take(
     u: usize,
     v: usize,
 ) -> Result<usize, Halt>
-    requires { TakePre tree.now.label.now tree.now.size.now pattern.now «record».old at.old p x s u v }
-    ensures { TakePost tree.now.label.now tree.now.size.now pattern.now «record».old at.old p x s u v result «record».new at.new }
+    requires { TakePre tree.now.label.now tree.now.size.now (numbers_of pattern.now) «record».old at.old p x s u v }
+    ensures { TakePost tree.now.label.now tree.now.size.now (numbers_of pattern.now) «record».old at.old p x s u v result «record».new at.new }
 {
     variable::put(record, x, s, v);
     resume(tree, pattern, record, at, p, u, x + 1)
@@ -356,12 +353,12 @@ pub fn take(
 // The walk from the root, before any choice.
 pub fn begin(
     tree: &Tree,
-    pattern: &[u32; 1536],
+    pattern: &[PatternRow; 256],
     record: &mut [u32; 32],
     at: &mut [usize; 256],
 ) -> Result<usize, Halt>
-    requires { BeginPre tree.now.label.now tree.now.size.now pattern.now «record».old at.old }
-    ensures { BeginPost tree.now.label.now tree.now.size.now pattern.now «record».old at.old result «record».new at.new }
+    requires { BeginPre tree.now.label.now tree.now.size.now (numbers_of pattern.now) «record».old at.old }
+    ensures { BeginPost tree.now.label.now tree.now.size.now (numbers_of pattern.now) «record».old at.old result «record».new at.new }
 {
     term(tree, pattern, record, at, 0, 0, 0)
 }

@@ -8,6 +8,12 @@ kind-requires c = (more_room c.requires).1
 pub kind-requires-then-kind-eq-SEQUENCE : goal.kind-requires-then-kind-eq-SEQUENCE
 kind-requires-then-kind-eq-SEQUENCE c = (values_room (more_at c.requires)).1
 
+pub holder-requires : goal.holder-requires
+holder-requires c = (more_room c.requires).1
+
+pub holder-requires-then-kind-eq-SEQUENCE-2 : goal.holder-requires-then-kind-eq-SEQUENCE-2
+holder-requires-then-kind-eq-SEQUENCE-2 c = (values_room (more_at c.requires)).1
+
 pub fewer-requires : goal.fewer-requires
 fewer-requires c = more_fewer c.kind.ensures c.if-kind-eq-SEQUENCE.true c.kind-then-kind-eq-SEQUENCE.ensures c.if-kind-eq-SEQUENCE-2.true c.holder.ensures c.holder-then-kind-eq-SEQUENCE-2.ensures c.if-holder.true c.requires
 

@@ -1,10 +1,11 @@
 use mathlib.Core.Path.{refl}
 use Rattle.walk.proofs.Packs.{pack_asked}
+use Rattle.walk.proofs.Rows.{unpacked_long}
 use Rattle.test.proofs.Refound.{list_short, follow_asked, placed_lost, placed_found}
 use Rattle.test.proofs.placed.Goals as goal
 
 pub pack-requires : goal.pack-requires
-pack-requires c = pack_asked c.requires.some.3.pattern refl
+pack-requires c = pack_asked c.requires.some.3.pattern unpacked_long
 
 pub follow-requires : goal.follow-requires
 follow-requires c = follow_asked c.requires c.pack.ensures.0 refl

@@ -7,6 +7,12 @@ use Rattle.walk.proofs.resume.Goals as goal
 pub kind-requires : goal.kind-requires
 kind-requires c = (resume_row c.requires).1
 
+pub holder-h-requires : goal.holder-h-requires
+holder-h-requires c = (resume_row c.requires).1
+
+pub overflow_add-p : goal.overflow_add-p
+overflow_add-p c = omega (arith, resume_row c.requires)
+
 pub row-g-requires : goal.row-g-requires
 row-g-requires c = (resume_holder (omega (arith, c.kind.ensures, c.if-kind-eq-SEQUENCE.true)) c.holder-h.ensures c.requires).0
 
