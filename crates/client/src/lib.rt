@@ -30,8 +30,9 @@ pub fn solvable(problem: &Problem, budget: u32) -> Result<HasMatcher, Refusal>
     if found.records != NONE {
         return Ok(HasMatcher::Yes);
     }
-    if found.ending == Ending::Budget {
-        return Ok(HasMatcher::Open);
+    match found.ending {
+        Ending::Budget => Ok(HasMatcher::Open),
+        Ending::All => Ok(HasMatcher::No),
+        Ending::Room => Ok(HasMatcher::No),
     }
-    Ok(HasMatcher::No)
 }

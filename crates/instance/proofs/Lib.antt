@@ -10,3 +10,4 @@ pub mod Glue
 pub mod Cycle
 pub mod Whole
 pub mod Promises
+pub mod Longer
