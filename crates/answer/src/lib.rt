@@ -113,8 +113,8 @@ pub fn of_instance(answer: Result<usize, Refusal>) -> Making
             code: 0,
             rows: rows as u32,
         },
-        Err(refusal) => Making {
-            code: u32::from(refusal),
+        Err(refused) => Making {
+            code: u32::from(refused),
             rows: 0,
         },
     }
