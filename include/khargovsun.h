@@ -9,8 +9,8 @@
  * Every function is re-entrant: nothing is allocated, nothing is kept between calls, and the archive has no data that can be written. Threads
  * and signal handlers may call at the same time, as long as none writes a list that another call reads or writes.
  *
- * Stack, the most that was measured, in bytes (bench/stack/README.md: with the older kit, painted, on the deepest inputs; -O3, the larger of x86-64 and Arm): check
- * 19,360; read 35,920; list 60,888; list_after 72,264; panel 65,560; test 39,688; instance 30,696; spelling 10,456. Give a thread 128 kB, or one
+ * Stack, as it was measured, in bytes (bench/stack/README.md: painted, on the deepest inputs; -O3, the proved archive, x86-64): check 13,256;
+ * read 35,928; list 66,928; list_after 74,976; panel 66,944; test 37,632; instance 16,360; spelling 10,440. Give a thread 128 kB, or one
  * that only checks and reads documents 64 kB.
  *
  * In a refusal the first code that applies is given, in the order that stands at the function, every other number is 0 (but the place of code

@@ -7,6 +7,8 @@ use mathlib.Core.List.{List, [], ◌∷◌, ◌++◌, append_assoc, append-nil}
 use lib.ListN.{length, length-append}
 use native.Mathlib.Omega.{arith}
 use native.Mathlib.Decide.{ℕ_discrete}
+use Rattle.std.specs.Prelude as prelude
+use Rattle.meaning.specs.declared.refusal.Refusal.{Refusal}
 use Rattle.meaning.specs.Forest.{Term, size}
 use Rattle.meaning.specs.Pattern.{Pattern, Kind, Numbered}
 use Rattle.meaning.specs.Matcher.{Value}
@@ -31,9 +33,8 @@ use Rattle.catalogue.proofs.Facts.{one_answer, leading, at_most_one}
 use Rattle.lister.specs.Listed as lister
 use Rattle.lister.specs.Page as page
 use Rattle.lister.proofs.Unique.{page_posed}
-use Rattle.lister.specs.declared.Listed.{Listed}
+use Rattle.lister.specs.Listed.{Listed}
 use Rattle.instance.specs.Instance as instance
-use Rattle.instance.specs.declared.Made.{Made}
 use Rattle.instance.proofs.Whole.{one_instance}
 
 -- between two matches stands a try; the flag says whether a match may come before the first one
@@ -143,7 +144,7 @@ few_instance l m n c z (inr (_, inr (_, inl a))) = absurd (omega (arith, a.1))
 few_instance l m n c z (inr (_, inr (_, inr (_, inl a)))) = absurd (omega (arith, a.1))
 few_instance l m n c z (inr (_, inr (_, inr (_, inr (u, _))))) = u
 
-pub rows_fit : {l : instance.InstanceLists} {out_label out_size : List ℕ} {r : Made} {new_label new_size : List ℕ} → instance.InstanceSettled l out_label out_size r new_label new_size → instance.rows_given r ≤ 2048
+pub rows_fit : {l : instance.InstanceLists} {out_label out_size : List ℕ} {r : prelude.Result ℕ Refusal} {new_label new_size : List ℕ} → instance.InstanceSettled l out_label out_size r new_label new_size → instance.rows_given r ≤ 2048
 rows_fit {l} {out_label} {out_size} {r} s = go (ℕ_discrete (instance.code_given r) 0)
   where
     go : Dec (instance.code_given r ≡ 0) → instance.rows_given r ≤ 2048

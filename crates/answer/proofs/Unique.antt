@@ -3,10 +3,11 @@
 use Prim.Native.Nat.{ℕ}
 use mathlib.Core.Path.{◌≡◌, ap, ◌∙◌, sym}
 use mathlib.Core.List.{List}
+use Rattle.std.specs.Prelude.{Bool, Result}
+use Rattle.meaning.specs.declared.refusal.Refusal.{Refusal}
 use Rattle.problem.specs.Problem as problem
 use Rattle.lister.proofs.Unique.{Same, one_listed, one_paged}
 use Rattle.test.specs.Tested.{code_of, yes_of}
-use Rattle.test.specs.declared.Tested.{Tested}
 use Rattle.test.proofs.Unique.{one_tested}
 use Rattle.instance.specs.Instance as instance
 use Rattle.instance.proofs.Promises.{one_making}
@@ -23,7 +24,7 @@ one_paging a b = one_paged a.settled b.settled
 pub one_testing : {l : problem.Lists} {numbers : List ℕ} {c y d z : ℕ} → Tests l numbers c y → Tests l numbers d z → (c ≡ d) × (y ≡ z)
 one_testing a b =
     let e = one_tested a.answer b.answer a.settled b.settled in
-    (a.code_is ∙ ap code_of e ∙ sym b.code_is, a.yes_is ∙ ap (λ (t : Tested). number (yes_of t)) e ∙ sym b.yes_is)
+    (a.code_is ∙ ap code_of e ∙ sym b.code_is, a.yes_is ∙ ap (λ (t : Result Bool Refusal). number (yes_of t)) e ∙ sym b.yes_is)
 
 pub one_made : {l : instance.InstanceLists} {out_label out_size : List ℕ} {c r d s : ℕ} {v w x y : List ℕ} → Makes l out_label out_size c r v w → Makes l out_label out_size d s x y
     → (c ≡ d) × (r ≡ s) × (v ≡ x) × (w ≡ y)

@@ -1,13 +1,12 @@
--- What the exports answer, where the function below answers an enum or a wider number: 01's numbers for each answer, each 32 bits wide.
+-- What the exports answer, where the function below answers a Result or a wider number: 01's numbers for each answer, each 32 bits wide.
 -- "All other numbers in a refusal are 0, the test's yes or no is then no".
-use Rattle.std.specs.Prelude.{ℕ, ◌≡◌, Bool, true, false, List}
+use Rattle.std.specs.Prelude.{ℕ, ◌≡◌, Bool, true, false, List, Result}
+use Rattle.meaning.specs.declared.refusal.Refusal.{Refusal}
 use Rattle.problem.specs.Problem as problem
 use Rattle.lister.specs.Listed as lister
 use Rattle.lister.specs.Page as page
 use Rattle.test.specs.Tested as test
-use Rattle.test.specs.declared.Tested.{Tested}
 use Rattle.instance.specs.Instance as instance
-use Rattle.instance.specs.declared.Made.{Made}
 
 -- yes is 1, no is 0
 abbrev pub number : Bool → ℕ
@@ -24,14 +23,14 @@ pub record ListsAfter (l : problem.Lists) (numbers : List ℕ) (budget : ℕ) (b
 
 -- the two numbers are those of the test's answer
 pub record Tests (l : problem.Lists) (numbers : List ℕ) (code yes : ℕ) : Type 0 where
-  pub answer : Tested
+  pub answer : Result Bool Refusal
   pub settled : test.TestSettled l numbers answer
   pub code_is : code ≡ test.code_of answer
   pub yes_is : yes ≡ number (test.yes_of answer)
 
 -- the two numbers are those of the instance maker's answer
 pub record Makes (l : instance.InstanceLists) (out_label out_size : List ℕ) (code rows : ℕ) (new_label new_size : List ℕ) : Type 0 where
-  pub answer : Made
+  pub answer : Result ℕ Refusal
   pub settled : instance.InstanceSettled l out_label out_size answer new_label new_size
   pub code_is : code ≡ instance.code_given answer
   pub rows_is : rows ≡ instance.rows_given answer

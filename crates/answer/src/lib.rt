@@ -2,14 +2,16 @@
 #![tactic(auto)]
 
 ghost use Rattle.std.specs.Prelude.{◌≡◌, ◌<◌};
+ghost use Rattle.judge.specs.Answer as reader;
 ghost use Rattle.test.specs.Tested.{code_of, yes_of};
 ghost use Rattle.instance.specs.Instance.{code_given, rows_given};
+ghost use Rattle.lister.specs.Listed.{told};
 ghost use Rattle.answer.specs.Answers.{number};
 
-use instance::Made;
-use lister::Listed;
-use test::Tested;
+use meaning::Refusal;
+use search::Found;
 
+// Codes and other numbers side by side, and no Result: these are the structs that C is given.
 #[repr(C)]
 #[derive(Drop)]
 pub struct Reading {
@@ -50,47 +52,70 @@ pub struct Part {
     pub length: u32,
 }
 
-fn narrow(n: usize) -> u32
-    requires { n < 4294967296 }
-    ensures { result ≡ n }
+pub fn of_reader(answer: Result<u32, judge::refusal::Refusal>) -> Reading
+    ensures { (result.code ≡ reader.code_of answer) × (result.place ≡ reader.place_of answer) × (result.rows ≡ reader.rows_of answer) }
 {
-    n as u32
-}
-
-pub fn of_lister(answer: Listed) -> Listing
-    requires { answer.records < 4294967296 }
-    ensures { (result.code ≡ answer.code) × (result.ending ≡ answer.ending) × (result.records ≡ answer.records) × (result.tries ≡ answer.tries) }
-{
-    Listing {
-        code: answer.code,
-        ending: answer.ending,
-        records: narrow(answer.records),
-        tries: answer.tries,
+    match answer {
+        Ok(rows) => Reading {
+            code: 0,
+            place: 0,
+            rows,
+        },
+        Err(refusal) => Reading {
+            code: u32::from(refusal),
+            place: refusal.place(),
+            rows: 0,
+        },
     }
 }
 
-pub fn of_test(answer: Tested) -> Testing
+pub fn of_lister(answer: Result<Found, Refusal>) -> Listing
+    requires { (told answer).records < 4294967296 }
+    ensures { told answer ≡ record { code = result.code; ending = result.ending; records = result.records; tries = result.tries } }
+{
+    match answer {
+        Ok(found) => Listing {
+            code: 0,
+            ending: u32::from(found.ending),
+            records: found.records as u32,
+            tries: found.tries,
+        },
+        Err(refusal) => Listing {
+            code: u32::from(refusal),
+            ending: 0,
+            records: 0,
+            tries: 0,
+        },
+    }
+}
+
+pub fn of_test(answer: Result<bool, Refusal>) -> Testing
     ensures { (result.code ≡ code_of answer) × (result.yes ≡ number (yes_of answer)) }
 {
     match answer {
-        Tested::Refused(code) => Testing { code: code, yes: 0 },
-        Tested::Yes => Testing { code: 0, yes: 1 },
-        Tested::No => Testing { code: 0, yes: 0 },
+        Ok(yes) => Testing {
+            code: 0,
+            yes: u32::from(yes),
+        },
+        Err(refusal) => Testing {
+            code: u32::from(refusal),
+            yes: 0,
+        },
     }
 }
 
-pub fn of_instance(answer: Made) -> Making
+pub fn of_instance(answer: Result<usize, Refusal>) -> Making
     requires { rows_given answer < 4294967296 }
     ensures { (result.code ≡ code_given answer) × (result.rows ≡ rows_given answer) }
 {
     match answer {
-        Made::Refused(code) => Making {
-            code: code,
-            rows: 0,
-        },
-        Made::Rows(rows) => Making {
+        Ok(rows) => Making {
             code: 0,
-            rows: narrow(rows),
+            rows: rows as u32,
+        },
+        Err(refused) => Making {
+            code: u32::from(refused),
+            rows: 0,
         },
     }
 }

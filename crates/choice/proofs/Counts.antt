@@ -16,8 +16,7 @@ use Rattle.tree.proofs.Compare.{one_sequence}
 use Rattle.tree.proofs.Counts.{past_at}
 use Rattle.walk.specs.Onward.{Lands, at_terms}
 use Rattle.choice.specs.Stops.{many, StopAt, AtStop, LeastPost, ValuesPost, LandingPre, LandingPost, FurtherPost, FewerPre, Fewer, from_there, Before, MorePre, MorePost}
-use Rattle.choice.specs.declared.Counted.{Counted}
-use Rattle.choice.specs.declared.Counted.TheVariants as counted
+use Rattle.std.specs.Prelude.{Some}
 use Rattle.choice.proofs.Stops.{list_end, lands_list, lands_at, terms_left, at_row, at_room, at_list, at_holder, at_the_term}
 
 -- the least value
@@ -151,7 +150,7 @@ module _ {S : List ℕ} {u left : ℕ} where
             let y = leaving.is L e us t k in
             omega (arith, y.2, terms_few y.0, terms_rows y.1, (leaving_next pre h).2)
 
-    pub leaving_there : row ≡ s → Fewer S u s left (counted.Terms n)
+    pub leaving_there : row ≡ s → Fewer S u s left (Some n)
     leaving_there e = from_there λ L f us vs t k w. let y = leaving.is L f us t k in ap terms (one_sequence w (rw e at y.1)) ∙ y.2
 
 -- n terms stand from the row u up to e
@@ -198,21 +197,21 @@ module _ {S M A : List ℕ} {q u left p s : ℕ} where
         let i = at_list z.8 ej ej2 in
         record { some = (z.0, i.te, t.behind, t.from, t.count, terms_le i.tree) }
 
-    pub more_terms : {n : ℕ} {o : Counted} → Fewer S u s left o → o ≡ counted.Terms n → MorePost S M A q u left p s (n + 1)
-    more_terms {n} f e =
+    pub more_terms : {n : ℕ} → Fewer S u s left (Some n) → MorePost S M A q u left p s (n + 1)
+    more_terms {n} f =
         record {
           is = λ L K N Z Q x w fs a b.
               let t = both a b in
               let i = at_list a ej ej2 in
-              rw i.is (omega (arith, said (rw e at f) L i.te t.behind i.us t.from t.count i.tree));
+              rw i.is (omega (arith, said f L i.te t.behind i.us t.from t.count i.tree));
         }
       where
-        said : {n : ℕ} → Fewer S u s left (counted.Terms n) → (L : List ℕ) (e : ℕ) (us vs : Forest) → TermsAt L S u e us → terms us ≡ left → TermsAt L S s e vs → terms vs ≡ n
+        said : {n : ℕ} → Fewer S u s left (Some n) → (L : List ℕ) (e : ℕ) (us vs : Forest) → TermsAt L S u e us → terms us ≡ left → TermsAt L S s e vs → terms vs ≡ n
         said (from_there g) = g
 
-    pub more_fewer_small : {n : ℕ} {o : Counted} → Fewer S u s left o → o ≡ counted.Terms n → MorePre S M A q u left p s → n ≤ length S
-    more_fewer_small {n} f e pre =
+    pub more_fewer_small : {n : ℕ} → Fewer S u s left (Some n) → MorePre S M A q u left p s → n ≤ length S
+    more_fewer_small {n} f pre =
         let z = pre.some in
         let i = at_list z.8 ej ej2 in
-        let y = (more_terms f e).is _ _ _ _ _ _ _ _ z.8 z.9 ∙ ap many i.is in
+        let y = (more_terms f).is _ _ _ _ _ _ _ _ z.8 z.9 ∙ ap many i.is in
         omega (arith, y, terms_few i.us, terms_rows i.tree, terms_end i.tree)

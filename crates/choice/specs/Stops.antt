@@ -1,5 +1,5 @@
 -- Not needed to believe the promise: the values of a variable that the walk asked for, and where the walk goes on with each.
-use Rattle.std.specs.Prelude.{ℕ, suc, ◌+◌, ◌-◌, ◌*◌, ◌<◌, ◌≤◌, ◌≡◌, ◌≢◌, List, length, get_or}
+use Rattle.std.specs.Prelude.{ℕ, suc, ◌+◌, ◌-◌, ◌*◌, ◌<◌, ◌≤◌, ◌≡◌, ◌≢◌, List, length, get_or, Option, Some, None}
 use Rattle.meaning.specs.Forest.{Forest, rows, terms}
 use Rattle.meaning.specs.Pattern.{Kind}
 use Rattle.meaning.proofs.Resume.{Frame, Stop, at_sequence, at_context, least, largest}
@@ -7,8 +7,6 @@ use Rattle.tree.specs.Places.{TermsAt}
 use Rattle.walk.specs.Packed.{Packed}
 use Rattle.walk.specs.Above.{Marks, Stands}
 use Rattle.walk.specs.Onward.{Lands}
-use Rattle.choice.specs.declared.Counted.{Counted}
-use Rattle.choice.specs.declared.Counted.TheVariants as counted
 
 -- how many values the variable at a stop has
 abbrev pub many : Stop → ℕ
@@ -56,9 +54,9 @@ pub record FurtherPost (S M : List ℕ) (p u left r : ℕ) : Type 0 where
 pub record FewerPre (S : List ℕ) (u s left : ℕ) : Type 0 where
   pub some : (L : List ℕ) × (e : ℕ) × (us : Forest) × TermsAt L S u e us × (terms us ≡ left) × (s ≤ e)
 
-pub data Fewer (S : List ℕ) (u s left : ℕ) : Counted → Type 0 where
-  elsewhere : Fewer S u s left counted.Unknown
-  from_there : {n : ℕ} → ((L : List ℕ) (e : ℕ) (us vs : Forest) → TermsAt L S u e us → terms us ≡ left → TermsAt L S s e vs → terms vs ≡ n) → Fewer S u s left (counted.Terms n)
+pub data Fewer (S : List ℕ) (u s left : ℕ) : Option ℕ → Type 0 where
+  elsewhere : Fewer S u s left None
+  from_there : {n : ℕ} → ((L : List ℕ) (e : ℕ) (us vs : Forest) → TermsAt L S u e us → terms us ≡ left → TermsAt L S s e vs → terms vs ≡ n) → Fewer S u s left (Some n)
 
 -- more_values: how many values the variable at p has, where the one at q has a value with which the walk goes on at the row u,
 -- and left values after it

@@ -3,17 +3,13 @@
 #![tactic(auto)]
 
 ghost use Rattle.std.specs.Prelude.{◌≡◌, ◌+◌, ◌*◌, ◌<◌, ◌≤◌, length, get_or};
+ghost use Rattle.walk.specs.Packed.{numbers_of};
 ghost use Rattle.choice.specs.Stops.{AtStop, LeastPost, ValuesPost, LandingPre, LandingPost, FurtherPre, FurtherPost, FewerPre, Fewer, MorePre, MorePost};
 ghost use Rattle.choice.specs.Runs.{HolesPost, NeighboursPre, NeighboursPost, WholePre, WholePost, LevelPre, SkipPost};
 
 use meaning::kinds::{SEQUENCE, SYMBOL};
-
-// How many terms stand from a row on, if that is known.
-#[derive(Drop)]
-pub enum Counted {
-    Unknown,
-    Terms(usize),
-}
+use tree::Tree;
+use walk::PatternRow;
 
 // Values that fail: how many, and the row at which the walk goes on with the next.
 #[derive(Drop)]
@@ -23,9 +19,9 @@ pub struct Run {
 }
 
 // The least value: the row of a context's start, or no terms.
-pub fn least(pattern: &[u32; 1536], p: usize, s: usize) -> usize
-    requires { 6 * p + 5 < length pattern.now }
-    ensures { LeastPost pattern.now p s result }
+pub fn least(pattern: &[PatternRow; 256], p: usize, s: usize) -> usize
+    requires { 6 * p + 5 < length (numbers_of pattern.now) }
+    ensures { LeastPost (numbers_of pattern.now) p s result }
 {
     if walk::kind(pattern, p) == SEQUENCE {
         0
@@ -35,9 +31,15 @@ pub fn least(pattern: &[u32; 1536], p: usize, s: usize) -> usize
 }
 
 // How many values there are: a row of the term each, or a count of the terms that are left in the list.
-pub fn values(size: &[u32], pattern: &[u32; 1536], at: &[usize; 256], p: usize, s: usize) -> usize
-    requires { AtStop size.now pattern.now at.now p s }
-    ensures { ValuesPost size.now pattern.now at.now p s result }
+pub fn values(
+    size: &[u32],
+    pattern: &[PatternRow; 256],
+    at: &[usize; 256],
+    p: usize,
+    s: usize,
+) -> usize
+    requires { AtStop size.now (numbers_of pattern.now) at.now p s }
+    ensures { ValuesPost size.now (numbers_of pattern.now) at.now p s result }
 {
     if walk::kind(pattern, p) != SEQUENCE {
         return tree::at(size, s);
@@ -48,9 +50,9 @@ pub fn values(size: &[u32], pattern: &[u32; 1536], at: &[usize; 256], p: usize, 
 }
 
 // The row at which the walk goes on with the value v.
-pub fn landing(size: &[u32], pattern: &[u32; 1536], p: usize, s: usize, v: usize) -> usize
-    requires { LandingPre size.now pattern.now p s v }
-    ensures { LandingPost size.now pattern.now p s v result }
+pub fn landing(size: &[u32], pattern: &[PatternRow; 256], p: usize, s: usize, v: usize) -> usize
+    requires { LandingPre size.now (numbers_of pattern.now) p s v }
+    ensures { LandingPost size.now (numbers_of pattern.now) p s v result }
 {
     if walk::kind(pattern, p) == SEQUENCE {
         return tree::past(size, s, v);
@@ -59,9 +61,9 @@ pub fn landing(size: &[u32], pattern: &[u32; 1536], p: usize, s: usize, v: usize
 }
 
 // The row of the next value: behind one term more of a sequence, or one row further for a context's hole. The last stays.
-pub fn further(size: &[u32], pattern: &[u32; 1536], p: usize, u: usize, left: usize) -> usize
-    requires { FurtherPre size.now pattern.now p u left }
-    ensures { FurtherPost size.now pattern.now p u left result }
+pub fn further(size: &[u32], pattern: &[PatternRow; 256], p: usize, u: usize, left: usize) -> usize
+    requires { FurtherPre size.now (numbers_of pattern.now) p u left }
+    ensures { FurtherPost size.now (numbers_of pattern.now) p u left result }
 {
     if left == 0 {
         return u;
@@ -72,8 +74,8 @@ pub fn further(size: &[u32], pattern: &[u32; 1536], p: usize, u: usize, left: us
     u + 1
 }
 
-// How many of the terms that start at the row u are left from the row s on.
-fn fewer(size: &[u32], u: usize, s: usize, left: usize) -> Counted
+// How many of the terms that start at the row u are left from the row s on, if one of them or the end of their list is there.
+fn fewer(size: &[u32], u: usize, s: usize, left: usize) -> Option<usize>
     requires { FewerPre size.now u s left }
     ensures { Fewer size.now u s left result }
 {
@@ -84,16 +86,16 @@ fn fewer(size: &[u32], u: usize, s: usize, left: usize) -> Counted
         n -= 1;
     }
     if row == s {
-        return Counted::Terms(n);
+        return Some(n);
     }
-    Counted::Unknown
+    None
 }
 
 // How many values there are, behind the variable at the pattern row q: the walk went on at the row u with its value, and it has left
 // more. Where both stand in one list, only the terms between them are counted.
 pub fn more_values(
     size: &[u32],
-    pattern: &[u32; 1536],
+    pattern: &[PatternRow; 256],
     at: &[usize; 256],
     q: usize,
     u: usize,
@@ -101,17 +103,15 @@ pub fn more_values(
     p: usize,
     s: usize,
 ) -> usize
-    requires { MorePre size.now pattern.now at.now q u left p s }
-    ensures { MorePost size.now pattern.now at.now q u left p s result }
+    requires { MorePre size.now (numbers_of pattern.now) at.now q u left p s }
+    ensures { MorePost size.now (numbers_of pattern.now) at.now q u left p s result }
 {
-    if walk::kind(pattern, q) == SEQUENCE {
-        if walk::kind(pattern, p) == SEQUENCE {
-            if walk::holder(pattern, q) == walk::holder(pattern, p) {
-                return match fewer(size, u, s, left) {
-                    Counted::Unknown => values(size, pattern, at, p, s),
-                    Counted::Terms(n) => n + 1,
-                };
-            }
+    if walk::kind(pattern, q) == SEQUENCE
+        && walk::kind(pattern, p) == SEQUENCE
+        && walk::holder(pattern, q) == walk::holder(pattern, p)
+    {
+        if let Some(n) = fewer(size, u, s, left) {
+            return n + 1;
         }
     }
     values(size, pattern, at, p, s)
@@ -122,31 +122,30 @@ fn holes(label: &[u32], symbol: usize, row: usize, limit: usize) -> usize
     requires { row + limit ≤ length label.now }
     ensures { HolesPost label.now symbol row limit result }
 {
-    let mut count = 0;
-    while count < limit {
+    for count in 0..limit {
         if tree::at(label, row + count) == symbol {
             return count;
         }
-        count += 1;
     }
-    count
+    limit
 }
 
 // The neighbours from a row on that have another label.
-fn neighbours(label: &[u32], size: &[u32], symbol: usize, row: usize, limit: usize) -> Run
-    requires { NeighboursPre label.now size.now row limit }
-    ensures { NeighboursPost label.now size.now symbol row limit result.count result.row }
+fn neighbours(tree: &Tree, symbol: usize, row: usize, limit: usize) -> Run
+    requires { NeighboursPre tree.now.label.now tree.now.size.now row limit }
+    ensures { NeighboursPost tree.now.label.now tree.now.size.now symbol row limit result.count result.row }
 {
-    let mut count = 0;
     let mut u = row;
-    while count < limit {
-        if tree::at(label, u) == symbol {
+    for count in 0..limit {
+        if tree::at(tree.label, u) == symbol {
             return Run { count, row: u };
         }
-        u = tree::next(size, u);
-        count += 1;
+        u = tree::next(tree.size, u);
     }
-    Run { count, row: u }
+    Run {
+        count: limit,
+        row: u,
+    }
 }
 
 // The values of a sequence variable that ends its list: all but the last leave terms behind.
@@ -164,25 +163,24 @@ fn whole(size: &[u32], at: &[usize; 256], h: usize, u: usize, left: usize, limit
 
 // The values of a sequence variable that fail at once: those before a term with another label than the symbol behind it.
 fn terms(
-    label: &[u32],
-    size: &[u32],
-    pattern: &[u32; 1536],
+    tree: &Tree,
+    pattern: &[PatternRow; 256],
     at: &[usize; 256],
     p: usize,
     u: usize,
     left: usize,
     limit: usize,
 ) -> Run
-    requires { LevelPre label.now size.now pattern.now at.now p u left limit × (get_or pattern.now (6 * p) 0 ≡ 2) }
-    ensures { SkipPost label.now size.now pattern.now at.now p u left limit result.count result.row }
+    requires { LevelPre tree.now.label.now tree.now.size.now (numbers_of pattern.now) at.now p u left limit × (get_or (numbers_of pattern.now) (6 * p) 0 ≡ 2) }
+    ensures { SkipPost tree.now.label.now tree.now.size.now (numbers_of pattern.now) at.now p u left limit result.count result.row }
 {
     let h = walk::holder(pattern, p);
     if p + 1 == walk::next(pattern, h) {
-        return whole(size, at, h, u, left, limit);
+        return whole(tree.size, at, h, u, left, limit);
     }
     if walk::kind(pattern, p + 1) == SYMBOL {
         let symbol = walk::name(pattern, p + 1);
-        return neighbours(label, size, symbol, u, limit);
+        return neighbours(tree, symbol, u, limit);
     }
     Run { count: 0, row: u }
 }
@@ -190,24 +188,23 @@ fn terms(
 // The next values of the variable at the pattern row p that fail at once, at most limit of the left ones; the walk goes on at the row
 // u with the first of these.
 pub fn skip(
-    label: &[u32],
-    size: &[u32],
-    pattern: &[u32; 1536],
+    tree: &Tree,
+    pattern: &[PatternRow; 256],
     at: &[usize; 256],
     p: usize,
     u: usize,
     left: usize,
     limit: usize,
 ) -> Run
-    requires { LevelPre label.now size.now pattern.now at.now p u left limit }
-    ensures { SkipPost label.now size.now pattern.now at.now p u left limit result.count result.row }
+    requires { LevelPre tree.now.label.now tree.now.size.now (numbers_of pattern.now) at.now p u left limit }
+    ensures { SkipPost tree.now.label.now tree.now.size.now (numbers_of pattern.now) at.now p u left limit result.count result.row }
 {
     if walk::kind(pattern, p) == SEQUENCE {
-        return terms(label, size, pattern, at, p, u, left, limit);
+        return terms(tree, pattern, at, p, u, left, limit);
     }
     if walk::kind(pattern, p + 1) == SYMBOL {
         let symbol = walk::name(pattern, p + 1);
-        let count = holes(label, symbol, u, limit);
+        let count = holes(tree.label, symbol, u, limit);
         let row = u + count;
         return Run { count, row };
     }

@@ -17,10 +17,8 @@ use Rattle.problem.proofs.Posed.{Posed, posed, codes_high, one_codes}
 use Rattle.catalogue.specs.Listing.{Solutions, Listing}
 use Rattle.catalogue.specs.Answer.{at_most, room_of}
 use Rattle.catalogue.proofs.Facts.{at_most_one}
-use Rattle.client.specs.Solvable.{code_of, Settled}
+use Rattle.client.specs.Solvable.{Answer, Refused, Yes, No, Open, code_of, Settled}
 use Rattle.client.specs.Promises.{ForOne, RoomForOne, Decides, Client}
-use Rattle.client.specs.declared.Answer.{Answer}
-use Rattle.client.specs.declared.Answer.TheVariants.{Refused, Yes, No, Open}
 use Rattle.client.proofs.Ways.{Way, full, spent, done}
 use Rattle.client.proofs.Known.{way, found, absent}
 

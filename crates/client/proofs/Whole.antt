@@ -10,10 +10,9 @@ use Rattle.pattern.specs.Answer as Pattern
 use Rattle.pattern.specs.declared.Checked.{Checked}
 use Rattle.problem.specs.Problem.{Lists, Codes}
 use Rattle.lister.specs.Listed as Lister
-use Rattle.lister.specs.declared.Listed.{Listed}
-use Rattle.client.specs.Solvable.{Settled}
+use Rattle.lister.specs.Listed.{Listed}
+use Rattle.client.specs.Solvable.{Yes, No, Open, Settled}
 use Rattle.client.specs.Promises.{ForOne}
-use Rattle.client.specs.declared.Answer.TheVariants.{Yes, No, Open}
 use Rattle.client.proofs.Known.{for_one, found, unknown, absent, complete}
 
 pub few_variables : {kind name size : List ℕ} {r : Checked} → Pattern.PatternSettled kind name size r → r.variables ≤ 16

@@ -10,10 +10,8 @@ use Rattle.problem.specs.Problem.{Lists, Poses}
 use Rattle.catalogue.specs.Listing.{Tries}
 use Rattle.catalogue.specs.Answer.{at_most, room_of}
 use Rattle.lister.specs.Listed as Lister
-use Rattle.lister.specs.declared.Listed.{Listed}
-use Rattle.client.specs.Solvable.{Settled}
-use Rattle.client.specs.declared.Answer.{Answer}
-use Rattle.client.specs.declared.Answer.TheVariants.{Yes, Open}
+use Rattle.lister.specs.Listed.{Listed}
+use Rattle.client.specs.Solvable.{Answer, Yes, Open, Settled}
 
 -- a lent list has room for one record and no more; a record without variables has no numbers, and any list has room for it
 abbrev pub ForOne : (lent variables : ℕ) → Type 0

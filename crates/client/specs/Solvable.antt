@@ -1,6 +1,6 @@
 -- 01, "What a matcher is": "It is a matcher if the pattern under it equals the tree and every constraint holds."; the lister stops "with 2
 -- when a try is needed and the budget is spent". Here: is there a matcher at all, as far as the budget tells.
-use Rattle.std.specs.Prelude.{ℕ, ◌≤◌, ◌<◌, ◌≡◌, List, length}
+use Rattle.std.specs.Prelude.{ℕ, ◌≤◌, ◌<◌, ◌≡◌, List, length, Result, Ok, Err}
 use Rattle.meaning.specs.Forest.{Term}
 use Rattle.meaning.specs.Pattern.{Pattern, Kind}
 use Rattle.meaning.specs.Matcher.{Value, Solves}
@@ -12,8 +12,26 @@ use Rattle.constraint.specs.Obeys.{Constraint, Allowed}
 use Rattle.problem.specs.Problem.{Lists, Poses, Codes}
 use Rattle.catalogue.specs.Listing.{Tries}
 use Rattle.catalogue.specs.Answer.{place}
-use Rattle.client.specs.declared.Answer.{Answer}
-use Rattle.client.specs.declared.Answer.TheVariants.{Refused, Yes, No, Open}
+use Rattle.meaning.specs.Refusal.{code}
+use Rattle.meaning.specs.declared.refusal.Refusal.{Refusal}
+use Rattle.client.specs.declared.HasMatcher.{HasMatcher}
+use Rattle.client.specs.declared.HasMatcher.TheVariants as HasMatcher
+
+-- an answer, a refusal by its code
+pub data Answer : Type 0 where
+  Refused : ℕ → Answer
+  Yes : Answer
+  No : Answer
+  Open : Answer
+
+abbrev pub answer : HasMatcher → Answer
+answer HasMatcher.Yes = Yes
+answer HasMatcher.No = No
+answer HasMatcher.Open = Open
+
+abbrev pub told : Result HasMatcher Refusal → Answer
+told (Ok a) = answer a
+told (Err e) = Refused (code e)
 
 -- 01's code for each answer
 abbrev pub code_of : Answer → ℕ

@@ -11,8 +11,7 @@ use Rattle.tree.proofs.Terms.{terms_rows, term_next}
 use Rattle.tree.proofs.Ways.{hole_here}
 use Rattle.compare.proofs.Levels.{same_behind}
 use Rattle.compare.specs.Appear.{Fits, misfit, fitting, LevelAt, LevelPre, LevelPost, FitsPre, FitsPost}
-use Rattle.compare.specs.declared.Found.{Found}
-use Rattle.compare.specs.declared.Found.TheVariants as found
+use Rattle.std.specs.Prelude.{Some, None}
 
 -- what is left of the comparison of c with T: the comparison of d, from row a on, with W, at row t
 pub record Left (L S : List ℕ) (a b t t₀ : ℕ) (c : Context) (T : Term) : Type 0 where
@@ -67,17 +66,17 @@ context_row : {L S : List ℕ} {a b : ℕ} {c : Context} → ContextAt L S a b c
 context_row (at_hole n e) = n.labelled
 context_row (at_node x p q k) = x.here.labelled
 
-at_fits : {L S : List ℕ} {t h : ℕ} {c : Context} {T : Term} → Fits L S t c T (found.At h) → (U : Term) × (plug c U ≡ T) × (h ≡ t + hole_row c) × TermAt L S h U.label U.args
+at_fits : {L S : List ℕ} {t h : ℕ} {c : Context} {T : Term} → Fits L S t c T (Some h) → (U : Term) × (plug c U ≡ T) × (h ≡ t + hole_row c) × TermAt L S h U.label U.args
 at_fits (fitting U e r T) = (U, e, r, T)
 
-fail_fits : {L S : List ℕ} {t : ℕ} {c : Context} {T : Term} → Fits L S t c T found.Fail → (U : Term) → plug c U ≢ T
+fail_fits : {L S : List ℕ} {t : ℕ} {c : Context} {T : Term} → Fits L S t c T None → (U : Term) → plug c U ≢ T
 fail_fits (misfit n) = n
 
 module _ {L S : List ℕ} {a₀ b t₀ a t : ℕ} (fitted : Fitted L S a₀ b t₀ a t) where
   whole : (p : FitsPre L S a₀ b t₀) → Left L S a b t t₀ p.here.0 (term p.there.0 p.there.1)
   whole p = fitted.is p.here.0 p.there.0 p.there.1 p.here.1 p.there.2
 
-  pub fitted_done : a ≡ b → FitsPost L S a₀ b t₀ (found.At t)
+  pub fitted_done : a ≡ b → FitsPost L S a₀ b t₀ (Some t)
   unfolding plug hole_row
   fitted_done e =
       record {
@@ -90,7 +89,7 @@ module _ {L S : List ℕ} {a₀ b t₀ a t : ℕ} (fitted : Fitted L S a₀ b t�
   pub fitted_rows : FitsPre L S a₀ b t₀ → (a < length L) × (t < length L)
   fitted_rows p = (context_row (whole p).here, (term_next (whole p).there).labelled)
 
-  pub fitted_labels : {x y : ℕ} → a ≢ b → x ≡ get_or L a 0 → y ≡ get_or L t 0 → x ≢ y → FitsPost L S a₀ b t₀ found.Fail
+  pub fitted_labels : {x y : ℕ} → a ≢ b → x ≡ get_or L a 0 → y ≡ get_or L t 0 → x ≢ y → FitsPost L S a₀ b t₀ None
   fitted_labels f ex ey g =
       record {
         is = λ c m us x T.
@@ -108,50 +107,49 @@ module _ {L S : List ℕ} {a₀ b t₀ a t : ℕ} (fitted : Fitted L S a₀ b t�
         let n = as_node w.here f in
         record { label = omega arith; here = (n.row, n.label, n.left, n.right, n.level); there = (w.part.label, w.part.args, w.there) }
 
-    module _ {o : Found} (level : LevelPost L S a b t o) where
-      pub fitted_fails : o ≡ found.Fail → FitsPost L S a₀ b t₀ found.Fail
-      fitted_fails g =
+    pub fitted_fails : LevelPost L S a b t None → FitsPost L S a₀ b t₀ None
+    fitted_fails level =
+        record {
+          is = λ c m us x T.
+              let w = fitted.is c m us x T in
+              let n = as_node w.here f in
+              let y = fail_fits (level.is _ _ _ _ _ _ n.level w.there) in
+              misfit λ U e. y (plug n.inner U) (sym (under n.label n.left n.inner n.right U) ∙ ap (λ (d : Context). plug d U) (sym n.is) ∙ w.forth U e);
+        }
+
+    module _ {v : ℕ} (level : LevelPost L S a b t (Some v)) where
+      -- the term for the child, and where the child is
+      next_part : {c : Context} {T : Term} (w : Left L S a b t t₀ c T) (n : Node L S a b w.inner)
+          → (U : Term) × (plug (node n.label n.left hole n.right) U ≡ w.part) × (v ≡ t + hole_row (node n.label n.left hole n.right)) × TermAt L S v U.label U.args
+      next_part w n = at_fits (level.is _ _ _ _ _ _ n.level w.there)
+
+      next_row : {c : Context} {T : Term} (w : Left L S a b t t₀ c T) (n : Node L S a b w.inner) → (n.row ≡ a + (v - t)) × (t < v) × (n.row ≤ b)
+      unfolding hole_row
+      next_row w n = omega (arith, (next_part w n).2, terms_rows n.level.level.before, n.level.low)
+
+      pub fitted_less : FitsPre L S a₀ b t₀ → (t < v) × (a + (v - t) ≤ b)
+      fitted_less p =
+          let w = whole p in
+          let r = next_row w (as_node w.here f) in
+          (r.1, omega arith)
+
+      pub fitted_more : Fitted L S a₀ b t₀ (a + (v - t)) v
+      fitted_more =
           record {
             is = λ c m us x T.
                 let w = fitted.is c m us x T in
                 let n = as_node w.here f in
-                let y = fail_fits (rw g at (level.is _ _ _ _ _ _ n.level w.there)) in
-                misfit λ U e. y (plug n.inner U) (sym (under n.label n.left n.inner n.right U) ∙ ap (λ (d : Context). plug d U) (sym n.is) ∙ w.forth U e);
+                let y = next_part w n in
+                let same : (U : Term) → plug w.inner U ≡ plug (node n.label n.left hole n.right) (plug n.inner U) =
+                λ U. ap (λ (d : Context). plug d U) n.is ∙ under n.label n.left n.inner n.right U
+                in
+                record {
+                  inner = n.inner;
+                  part = y.0;
+                  here = subst (λ (r : ℕ). ContextAt L S r b n.inner) (next_row w n).0 n.below;
+                  there = y.3;
+                  hole_row_lem = omega (arith, hole_under n.label n.left n.inner n.right t, y.2, ap hole_row n.is, w.hole_row_lem);
+                  back = λ U e. w.back U (same U ∙ ap (plug (node n.label n.left hole n.right)) e ∙ y.1);
+                  forth = λ U e. same_child n.label n.left n.right (plug n.inner U) y.0 (sym (same U) ∙ w.forth U e ∙ sym y.1);
+                };
           }
-
-      module _ {v : ℕ} (g : o ≡ found.At v) where
-        -- the term for the child, and where the child is
-        next_part : {c : Context} {T : Term} (w : Left L S a b t t₀ c T) (n : Node L S a b w.inner)
-            → (U : Term) × (plug (node n.label n.left hole n.right) U ≡ w.part) × (v ≡ t + hole_row (node n.label n.left hole n.right)) × TermAt L S v U.label U.args
-        next_part w n = at_fits (rw g at (level.is _ _ _ _ _ _ n.level w.there))
-
-        next_row : {c : Context} {T : Term} (w : Left L S a b t t₀ c T) (n : Node L S a b w.inner) → (n.row ≡ a + (v - t)) × (t < v) × (n.row ≤ b)
-        unfolding hole_row
-        next_row w n = omega (arith, (next_part w n).2, terms_rows n.level.level.before, n.level.low)
-
-        pub fitted_less : FitsPre L S a₀ b t₀ → (t < v) × (a + (v - t) ≤ b)
-        fitted_less p =
-            let w = whole p in
-            let r = next_row w (as_node w.here f) in
-            (r.1, omega arith)
-
-        pub fitted_more : Fitted L S a₀ b t₀ (a + (v - t)) v
-        fitted_more =
-            record {
-              is = λ c m us x T.
-                  let w = fitted.is c m us x T in
-                  let n = as_node w.here f in
-                  let y = next_part w n in
-                  let same : (U : Term) → plug w.inner U ≡ plug (node n.label n.left hole n.right) (plug n.inner U) =
-                  λ U. ap (λ (d : Context). plug d U) n.is ∙ under n.label n.left n.inner n.right U
-                  in
-                  record {
-                    inner = n.inner;
-                    part = y.0;
-                    here = subst (λ (r : ℕ). ContextAt L S r b n.inner) (next_row w n).0 n.below;
-                    there = y.3;
-                    hole_row_lem = omega (arith, hole_under n.label n.left n.inner n.right t, y.2, ap hole_row n.is, w.hole_row_lem);
-                    back = λ U e. w.back U (same U ∙ ap (plug (node n.label n.left hole n.right)) e ∙ y.1);
-                    forth = λ U e. same_child n.label n.left n.right (plug n.inner U) y.0 (sym (same U) ∙ w.forth U e ∙ sym y.1);
-                  };
-            }

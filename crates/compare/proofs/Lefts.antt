@@ -12,7 +12,7 @@ use Rattle.tree.specs.Places.{TermsAt, Next}
 use Rattle.tree.proofs.Terms.{terms_le, terms_rows, term_next, none_at, first_at}
 use Rattle.compare.proofs.Remaining.{Remaining, remaining_first, remaining_none, remaining_end, others_first, remaining_alike_pre, remaining_differs, remaining_more}
 use Rattle.compare.specs.Appear.{AlikePre, AlikePost, Before, LeftPre, LeftPost}
-use Rattle.compare.specs.declared.Found.TheVariants as found
+use Rattle.std.specs.Prelude.{Some, None}
 
 -- left: the terms up to the one that holds the row b
 pub record Beside (L S : List ℕ) (a₀ b t₀ e a t : ℕ) : Type 0 where
@@ -34,7 +34,7 @@ module _ {L S : List ℕ} {a₀ b t₀ e a t : ℕ} (beside : Beside L S a₀ b 
       ]
 
   module _ {na : ℕ} (en : na ≡ a + get_or S a 0) where
-    pub beside_all : b < na → LeftPost L S a₀ b t₀ e (found.At t)
+    pub beside_all : b < na → LeftPost L S a₀ b t₀ e (Some t)
     beside_all h =
         record {
           is = λ u left us B T.
@@ -49,7 +49,7 @@ module _ {L S : List ℕ} {a₀ b t₀ e a t : ℕ} (beside : Beside L S a₀ b 
           let y : a ≡ u = omega (arith, terms_rows w.here, ap rows z) in
           omega (arith, B.high, ap (λ (i : ℕ). get_or S i 0) y)
 
-      pub beside_end : t ≡ e → LeftPost L S a₀ b t₀ e found.Fail
+      pub beside_end : t ≡ e → LeftPost L S a₀ b t₀ e None
       beside_end z = record { is = λ u left us B T. let w = beside.is u left us B T in remaining_end w (some_more B w) z }
 
       module _ (g : t ≢ e) where
@@ -61,7 +61,7 @@ module _ {L S : List ℕ} {a₀ b t₀ e a t : ℕ} (beside : Beside L S a₀ b 
           beside_alike_pre p = let w = some_beside p in remaining_alike_pre w (some_more p.here.2 w) g en et
 
           module _ {r : Bool} (alike : AlikePost L S a na t nt r) where
-            pub beside_differs : r ≡ false → LeftPost L S a₀ b t₀ e found.Fail
+            pub beside_differs : r ≡ false → LeftPost L S a₀ b t₀ e None
             beside_differs i =
                 record { is = λ u left us B T. let w = beside.is u left us B T in remaining_differs w (some_more B w) g en et alike i }
 

@@ -14,13 +14,12 @@ use Rattle.tree.specs.Places.{TermsAt, stop, step, TermAt}
 use Rattle.tree.proofs.Terms.{FirstAt, terms_le, terms_end, term_size, alone_at, nothing_at, none_at, first_at}
 use Rattle.meaning.proofs.Answers.{said_no}
 use Rattle.compare.specs.Appear.{AlikePre, AlikePost, Again, another, again}
-use Rattle.compare.specs.declared.Found.{Found}
-use Rattle.compare.specs.declared.Found.TheVariants as found
+use Rattle.std.specs.Prelude.{Option, Some, None}
 
-pub another_of : {L S : List ℕ} {t e : ℕ} {f us : Forest} → Again L S t e f us found.Fail → f ≢ take_t (terms f) us
+pub another_of : {L S : List ℕ} {t e : ℕ} {f us : Forest} → Again L S t e f us None → f ≢ take_t (terms f) us
 another_of (another h) = h
 
-pub again_of : {L S : List ℕ} {t e u : ℕ} {f us : Forest} → Again L S t e f us (found.At u) → (f ≡ take_t (terms f) us) × TermsAt L S t u (take_t (terms f) us) × TermsAt L S u e (drop_t (terms f) us)
+pub again_of : {L S : List ℕ} {t e u : ℕ} {f us : Forest} → Again L S t e f us (Some u) → (f ≡ take_t (terms f) us) × TermsAt L S t u (take_t (terms f) us) × TermsAt L S u e (drop_t (terms f) us)
 again_of (again h x y) = (h, x, y)
 
 some_left : {L S : List ℕ} {t e : ℕ} {f : Forest} → TermsAt L S t e f → f ≢ none → t < e
@@ -40,7 +39,7 @@ module _ {l m : ℕ} {us vs rest more f g : Forest} (is : f ≡ some l us rest) 
       let z : some l us rest ≡ some m vs (take_t (terms rest) more) = rw (is, other) at e in
       (cc, cc)
 
-  goes_on : {L S : List ℕ} {t e : ℕ} {o : Found} → TermAt L S t m vs → some l us none ≡ some m vs none → Again L S (t + get_or S t 0) e rest more o → Again L S t e f g o
+  goes_on : {L S : List ℕ} {t e : ℕ} {o : Option ℕ} → TermAt L S t m vs → some l us none ≡ some m vs none → Again L S (t + get_or S t 0) e rest more o → Again L S t e f g o
   unfolding take_t terms drop_t
   goes_on T h (another n) = another (λ z. n (begins_alike z).1)
   goes_on T h (again {u = u} z x y) =
@@ -53,22 +52,22 @@ pub record Remaining (L S : List ℕ) (a b t e t₀ : ℕ) (f us : Forest) : Typ
   pub others : Forest
   pub here : TermsAt L S a b mine
   pub there : TermsAt L S t e others
-  pub whole : {o : Found} → Again L S t e mine others o → Again L S t₀ e f us o
+  pub whole : {o : Option ℕ} → Again L S t e mine others o → Again L S t₀ e f us o
 
 unfoldable pub remaining_first : {L S : List ℕ} {a b t e : ℕ} {f us : Forest} → TermsAt L S a b f → TermsAt L S t e us → Remaining L S a b t e t f us
 remaining_first {f = f} {us = us} F T = record { mine = f; others = us; here = F; there = T; whole = λ x. x }
 
 module _ {L S : List ℕ} {a b t e t₀ : ℕ} {f us : Forest} (rest : Remaining L S a b t e t₀ f us) where
-  pub remaining_none : rest.mine ≡ none → Again L S t₀ e f us (found.At t)
+  pub remaining_none : rest.mine ≡ none → Again L S t₀ e f us (Some t)
   unfolding take_t terms drop_t
   remaining_none n =
       let i = terms_le rest.there in
       let j = terms_end rest.there in
-      let x : Again L S t e none rest.others (found.At t) = again refl (nothing_at t (omega arith) (omega arith)) rest.there in
-      rest.whole (subst (λ (g : Forest). Again L S t e g rest.others (found.At t)) (sym n) x)
+      let x : Again L S t e none rest.others (Some t) = again refl (nothing_at t (omega arith) (omega arith)) rest.there in
+      rest.whole (subst (λ (g : Forest). Again L S t e g rest.others (Some t)) (sym n) x)
 
   module _ (more : rest.mine ≢ none) where
-    pub remaining_end : t ≡ e → Again L S t₀ e f us found.Fail
+    pub remaining_end : t ≡ e → Again L S t₀ e f us None
     remaining_end z =
         rest.whole (another λ h. more (h ∙ ap (take_t (terms rest.mine)) (none_at rest.there (omega arith)) ∙ take_nothing (terms rest.mine)))
 
@@ -94,7 +93,7 @@ module _ {L S : List ℕ} {a b t e t₀ : ℕ} {f us : Forest} (rest : Remaining
           says : Says r (some mine_first.label mine_first.args none ≡ some others_first.label others_first.args none)
           says = alike.is _ _ mine_alone others_alone
 
-          pub remaining_differs : r ≡ false → Again L S t₀ e f us found.Fail
+          pub remaining_differs : r ≡ false → Again L S t₀ e f us None
           remaining_differs i = rest.whole (another λ z. said_no says i (begins_alike mine_first.is others_first.is z).0)
 
           pub remaining_more : r ≡ true → (w : Remaining L S na b nt e t₀ f us) × (terms rest.mine ≡ suc (terms w.mine))

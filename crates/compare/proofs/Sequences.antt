@@ -1,6 +1,6 @@
 -- The loop over a sequence that appears again.
-use Prim.Native.Nat.{ℕ, ◌+◌, ◌-◌, ◌<◌}
-use mathlib.Core.Path.{◌≡◌, refl, ap, ◌∙◌, sym}
+use Prim.Native.Nat.{ℕ, ◌+◌, ◌<◌, ◌≤◌}
+use mathlib.Core.Path.{◌≡◌, refl, ap}
 use mathlib.Core.Logic.{◌≢◌}
 use mathlib.Core.Bool.{Bool, true, false}
 use mathlib.Core.List.{List}
@@ -11,32 +11,32 @@ use Rattle.tree.specs.Places.{TermsAt}
 use Rattle.tree.proofs.Terms.{term_next}
 use Rattle.compare.proofs.Remaining.{Remaining, remaining_first, remaining_none, remaining_end, mine_first, others_first, remaining_alike_pre, remaining_differs, remaining_more}
 use Rattle.compare.specs.Appear.{AlikePre, AlikePost, AgainPre, AgainPost}
-use Rattle.compare.specs.declared.Found.TheVariants as found
+use Rattle.std.specs.Prelude.{Some, None}
 
--- again: so many terms are left
-pub record Compared (L S : List ℕ) (a₀ c₀ t₀ e a c t : ℕ) : Type 0 where
-  pub is : (b : ℕ) (f us : Forest) → TermsAt L S a₀ b f → terms f ≡ c₀ → TermsAt L S t₀ e us → (rest : Remaining L S a b t e t₀ f us) × (terms rest.mine ≡ c)
+-- again: so many terms are the same
+pub record Compared (L S : List ℕ) (a₀ c₀ t₀ e a same t : ℕ) : Type 0 where
+  pub is : (b : ℕ) (f us : Forest) → TermsAt L S a₀ b f → terms f ≡ c₀ → TermsAt L S t₀ e us → (rest : Remaining L S a b t e t₀ f us) × (same + terms rest.mine ≡ c₀)
 
-pub compared_first : {L S : List ℕ} {a c t e : ℕ} → Compared L S a c t e a c t
+pub compared_first : {L S : List ℕ} {a c t e : ℕ} → Compared L S a c t e a 0 t
 unfolding remaining_first
-compared_first = record { is = λ b f us F k T. (remaining_first F T, k) }
+compared_first = record { is = λ b f us F k T. (remaining_first F T, omega arith) }
 
 nothing_left : (f : Forest) → terms f ≡ 0 → f ≡ none
 unfolding terms
 nothing_left none z = refl
 nothing_left (some l us rest) z = absurd (omega arith)
 
-something_left : {f : Forest} {c : ℕ} → terms f ≡ c → c ≢ 0 → f ≢ none
+something_left : {f : Forest} {c same : ℕ} → same + terms f ≡ c → same < c → f ≢ none
 unfolding terms
-something_left k z e = z (sym k ∙ ap terms e)
+something_left k z e = omega (arith, ap terms e)
 
-module _ {L S : List ℕ} {a₀ c₀ t₀ e a c t : ℕ} (compared : Compared L S a₀ c₀ t₀ e a c t) where
-  pub compared_all : c ≡ 0 → AgainPost L S a₀ c₀ t₀ e (found.At t)
+module _ {L S : List ℕ} {a₀ c₀ t₀ e a same t : ℕ} (compared : Compared L S a₀ c₀ t₀ e a same t) where
+  pub compared_all : c₀ ≤ same → AgainPost L S a₀ c₀ t₀ e (Some t)
   compared_all z =
-      record { is = λ b f us F k T. let w = compared.is b f us F k T in remaining_none w.0 (nothing_left w.0.mine (w.1 ∙ z)) }
+      record { is = λ b f us F k T. let w = compared.is b f us F k T in remaining_none w.0 (nothing_left w.0.mine (omega (arith, w.1))) }
 
-  module _ (f : c ≢ 0) where
-    pub compared_end : t ≡ e → AgainPost L S a₀ c₀ t₀ e found.Fail
+  module _ (f : same < c₀) where
+    pub compared_end : t ≡ e → AgainPost L S a₀ c₀ t₀ e None
     compared_end z =
         record { is = λ b g us G k T. let w = compared.is b g us G k T in remaining_end w.0 (something_left w.1 f) z }
 
@@ -56,11 +56,11 @@ module _ {L S : List ℕ} {a₀ c₀ t₀ e a c t : ℕ} (compared : Compared L 
         compared_alike_pre p = let w = some_rest p in remaining_alike_pre w.3 w.4 g en et
 
         module _ {r : Bool} (alike : AlikePost L S a na t nt r) where
-          pub compared_differs : r ≡ false → AgainPost L S a₀ c₀ t₀ e found.Fail
+          pub compared_differs : r ≡ false → AgainPost L S a₀ c₀ t₀ e None
           compared_differs i =
               record { is = λ b h us H k T. let w = compared.is b h us H k T in remaining_differs w.0 (something_left w.1 f) g en et alike i }
 
-          pub compared_more : r ≡ true → Compared L S a₀ c₀ t₀ e na (c - 1) nt
+          pub compared_more : r ≡ true → Compared L S a₀ c₀ t₀ e na (same + 1) nt
           compared_more i =
               record {
                 is = λ b h us H k T.

@@ -1,6 +1,6 @@
 -- The check of the names: the marks that it makes of the first numbers, and its walk over the whole expressions. And that a named
 -- expression is a variable's constraint.
-use Prim.Native.Nat.{ℕ, suc, ◌+◌, ◌-◌, ◌≤◌, ◌<◌}
+use Prim.Native.Nat.{ℕ, ◌+◌, ◌-◌, ◌≤◌, ◌<◌}
 use mathlib.Core.Path.{◌≡◌, refl, sym, ap, ◌∙◌}
 use mathlib.Core.Bool.{Bool, true, false}
 use mathlib.Core.List.{List, [], ◌∷◌, ◌++◌}
@@ -17,7 +17,7 @@ use Rattle.expression.specs.Rows.{StartsAt}
 use Rattle.expression.specs.Columns.{rows, size_rows}
 use Rattle.expression.proofs.Columns.{sizes_are}
 use Rattle.expression.proofs.Placed.{rows_positive, total}
-use Rattle.expression.proofs.Table.{kind_length}
+use Rattle.expression.proofs.Tables.{kind_length}
 use Rattle.expression.proofs.Places.{Walked, walk_begins, walk_meets, walk_on, later_start, one_start, start_size, start_in, sizes_length, place_total}
 use Rattle.constraint.specs.Obeys.{Constraint, free, bound}
 use Rattle.constraint.specs.Good.{GoodConstraints}

@@ -20,6 +20,7 @@ use Rattle.constraint.specs.Reading.{ValueAt, a_sequence_value, a_context_value,
 use Rattle.constraint.proofs.Pairs.{pair_free, pair_bound, pair_may}
 use Rattle.constraint.proofs.Readings.{after_decides}
 use Rattle.constraint.proofs.Words.{heads_none, none_heads, path_none, none_path, here_hole}
+use Rattle.letters.specs.declared.Tables.{Tables}
 
 -- ---- the flag
 
@@ -55,7 +56,7 @@ module _ (flag kind a b : ℕ) where
 
 -- ---- the constraint
 
-module _ (L S tables : List ℕ) (start flag kind a b : ℕ) where
+module _ (L S : List ℕ) (tables : Tables) (start flag kind a b : ℕ) where
   abbrev Post : Bool → Type 0
   Post r = ObeysPost L S tables start flag kind a b r
 
@@ -83,7 +84,7 @@ module _ (L S tables : List ℕ) (start flag kind a b : ℕ) where
         }
 
 -- what is read
-module _ (L S tables : List ℕ) (kind a b : ℕ) where
+module _ (L S : List ℕ) (tables : Tables) (kind a b : ℕ) where
   pub heads_after : {root next : ℕ} {end : Bool} → kind ≡ 2
       → ((e : ℕ) (f : Forest) → TermsAt L S a e f → b ≤ terms f → After tables root (heads (take_t b f)) next end)
       → (k : Kind) (v : Value) → kind ≡ code k → MayHave k → ValueAt L S a b k v → After tables root (word v) next end

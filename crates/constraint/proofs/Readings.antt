@@ -14,6 +14,7 @@ use Rattle.tree.specs.Places.{TermsAt, ContextAt}
 use Rattle.tree.specs.Helpers.{ChildPre, ChildPost}
 use Rattle.expression.specs.Expression.{Expression, In}
 use Rattle.expression.specs.Rows.{StartsAt}
+use Rattle.letters.specs.declared.Tables.{Tables}
 use Rattle.letters.specs.State.{StateOf, TablesOf}
 use Rattle.letters.proofs.Decide.{decides}
 use Rattle.constraint.specs.Obeys.{heads, path}
@@ -21,16 +22,16 @@ use Rattle.constraint.specs.Reading.{MorePre, ReadTo, ReadOn, PathPre, After}
 use Rattle.constraint.proofs.Words.{none_heads, heads_row, heads_rest, drop_more, heads_more, PathLeft, path_begin, path_row, path_child, path_read, path_end}
 
 -- what `begin` and `step` of `letters` ensure
-abbrev pub Begun : (tables : List ℕ) (root next : ℕ) (end : Bool) → Type 0
+abbrev pub Begun : (tables : Tables) (root next : ℕ) (end : Bool) → Type 0
 Begun tables root next end =
     (es : List Expression) (e : Expression) → TablesOf es tables → StartsAt es e root → StateOf tables e [] next end
 
-abbrev pub Stepped : (tables : List ℕ) (label before next : ℕ) (end : Bool) → Type 0
+abbrev pub Stepped : (tables : Tables) (label before next : ℕ) (end : Bool) → Type 0
 Stepped tables label before next end =
     (e : Expression) (word : List ℕ) (was : Bool) → StateOf tables e word before was → StateOf tables e (word ++ (label ∷ [])) next end
 
 -- the state after the empty word, after one more letter, and what its end says
-module _ {tables : List ℕ} {root : ℕ} where
+module _ {tables : Tables} {root : ℕ} where
   pub after_none : {next : ℕ} {end : Bool} → Begun tables root next end → After tables root [] next end
   after_none b = record { is = λ es e t s. b es e t s }
 
@@ -46,7 +47,7 @@ module _ {tables : List ℕ} {root : ℕ} where
   after_decides {es} {e} x t s = decides (x.is es e t s)
 
 -- the heads of neighbours
-module _ {L S tables : List ℕ} {root a : ℕ} where
+module _ {L S : List ℕ} {tables : Tables} {root a : ℕ} where
   pub no_head : {next : ℕ} {end : Bool} → Begun tables root next end → ReadTo L S tables root a 0 a next end
   unfolding drop_t
   no_head b = record { is = λ e f x h. (x, after_is (none_heads f) (after_none b)) }
@@ -61,45 +62,40 @@ module _ {L S tables : List ℕ} {root a : ℕ} where
       }
 
 -- a reading goes on
-module _ (L S tables : List ℕ) (start begun : ℕ) (was : Bool) (more : ℕ) where
-  -- so many are left, and stand from the row on
-  pub record Reading (left row next : ℕ) (end : Bool) : Type 0 where
-    pub low : left ≤ more
-    pub there : MorePre L S row left
-    pub read : ReadOn L S tables start begun was (more - left) row next end
+module _ (L S : List ℕ) (tables : Tables) (start begun : ℕ) (was : Bool) (more : ℕ) where
+  -- so many are read, and the others stand from the row on
+  pub record Reading (count row next : ℕ) (end : Bool) : Type 0 where
+    pub there : MorePre L S row (more - count)
+    pub read : ReadOn L S tables start begun was count row next end
 
-  pub reading_begins : MorePre L S start more → Reading more start begun was
+  pub reading_begins : MorePre L S start more → Reading 0 start begun was
   reading_begins pre =
-      record {
-        low = omega arith;
-        there = pre;
-        read = record { on = λ root a c r. let z : c + (more - more) ≡ c = omega arith in rw z r };
-      }
+      let all : more - 0 ≡ more = omega arith in
+      record { there = rw all pre; read = record { on = λ root a c r. let z : c + 0 ≡ c = omega arith in rw z r } }
 
-  module _ {left row next : ℕ} {end : Bool} (h : Reading left row next end) where
-    pub reading_row : 0 < left → (row < length L) × (row < length S)
+  module _ {count row next : ℕ} {end : Bool} (h : Reading count row next end) where
+    pub reading_row : count < more → (row < length L) × (row < length S)
     reading_row z = let w = h.there.some in heads_row w.2 (omega (arith, w.3))
 
-    pub reading_on : {after later : ℕ} {still : Bool} → 0 < left → Stepped tables (get_or L row 0) next later still → after ≡ row + get_or S row 0 → Reading (left - 1) after later still
+    pub reading_on : {after later : ℕ} {still : Bool} → count < more → Stepped tables (get_or L row 0) next later still → after ≡ row + get_or S row 0 → Reading (count + 1) after later still
     reading_on z s p =
         let w = h.there.some in
         let g = heads_rest w.2 (omega (arith, w.3)) in
         record {
-          low = omega (arith, h.low);
           there = record { some = (w.0, g.0, rw p g.1, omega (arith, w.3, g.2)) };
           read =
               record {
                 on = λ root a c r.
-                    let y : c + (more - (left - 1)) ≡ suc (c + (more - left)) = omega (arith, h.low) in
+                    let y : c + (count + 1) ≡ suc (c + count) = omega arith in
                     rw y (one_head (h.read.on root a c r) s p);
               };
         }
 
-    pub reading_done : left ≤ 0 → ReadOn L S tables start begun was more row next end
-    reading_done z = let y : more - left ≡ more = omega arith in rw y at h.read
+    pub reading_done : count ≤ more → more ≤ count → ReadOn L S tables start begun was more row next end
+    reading_done y z = let e : count ≡ more = omega arith in rw e at h.read
 
 -- all heads from the first on
-module _ {L S tables : List ℕ} {root a count : ℕ} where
+module _ {L S : List ℕ} {tables : Tables} {root a count : ℕ} where
   pub from_first : {begun row next : ℕ} {was end : Bool} → Begun tables root begun was → ReadOn L S tables a begun was count row next end
       → ReadTo L S tables root a count row next end
   from_first b r = let z : 0 + count ≡ count = omega arith in rw z at (r.on root a 0 (no_head b))
@@ -108,7 +104,7 @@ module _ {L S tables : List ℕ} {root a count : ℕ} where
       → After tables root (heads (take_t count f)) next end
   all_heads r e f x h = (r.is e f x h).1
 
-module _ (L S tables : List ℕ) (root a : ℕ) where
+module _ (L S : List ℕ) (tables : Tables) (root a : ℕ) where
   -- some of the labels on the path are read, down to the row
   pub record PathRead (b row next : ℕ) (end : Bool) : Type 0 where
     pub read : List ℕ

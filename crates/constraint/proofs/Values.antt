@@ -20,6 +20,7 @@ use Rattle.pattern.specs.Rows.{code}
 use Rattle.expression.specs.Expression.{Expression}
 use Rattle.expression.specs.Rows.{GoodTable}
 use Rattle.expression.proofs.Places.{start_below}
+use Rattle.letters.specs.declared.Tables.{Tables}
 use Rattle.letters.specs.State.{TablesOf}
 use Rattle.constraint.specs.Obeys.{Constraint, Allowed}
 use Rattle.constraint.specs.Good.{GoodConstraints}
@@ -72,7 +73,7 @@ module _ {es : List Expression} {Q : List Kind} {list : List ℕ} {cs : List Con
       record { low = pair_low g p; some = (es, k, _, v, numbered, p, w) }
 
   -- the answer of `obeys` is exactly what is allowed
-  pub obeys_allowed : {L S tables : List ℕ} {a b : ℕ} {r : Bool} {v : Value}
+  pub obeys_allowed : {L S : List ℕ} {tables : Tables} {a b : ℕ} {r : Bool} {v : Value}
       → ObeysPost L S tables (get_or list (x + x) 0) (get_or list (x + x + 1) 0) number a b r → TablesOf es tables → ValueAt L S a b k v
       → Says r (Allowed cs x v)
   obeys_allowed {v = v} post t w = post.is es k _ v t numbered (pair_at x good kept) w

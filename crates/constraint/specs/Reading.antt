@@ -11,6 +11,7 @@ use Rattle.tree.specs.Places.{TermsAt, ContextAt}
 use Rattle.pattern.specs.Rows.{code}
 use Rattle.expression.specs.Expression.{Expression}
 use Rattle.expression.specs.Rows.{StartsAt}
+use Rattle.letters.specs.declared.Tables.{Tables}
 use Rattle.letters.specs.State.{StateOf, TablesOf}
 use Rattle.constraint.specs.Obeys.{heads, word, Constraint, Obeys}
 use Rattle.constraint.specs.Good.{MayHave}
@@ -34,7 +35,7 @@ pub record PathPre (L S : List ℕ) (root a b : ℕ) : Type 0 where
   pub some : (c : Context) × ContextAt L S a b c
 
 -- next and end are the state after the word, for the expression that starts at the row root
-pub record After (tables : List ℕ) (root : ℕ) (w : List ℕ) (next : ℕ) (end : Bool) : Type 0 where
+pub record After (tables : Tables) (root : ℕ) (w : List ℕ) (next : ℕ) (end : Bool) : Type 0 where
   pub is : (es : List Expression) (e : Expression) → TablesOf es tables → StartsAt es e root → StateOf tables e w next end
 
 -- so many neighbours stand from the row on
@@ -42,11 +43,11 @@ pub record MorePre (L S : List ℕ) (row more : ℕ) : Type 0 where
   pub some : (e : ℕ) × (f : Forest) × TermsAt L S row e f × (more ≤ terms f)
 
 -- the heads of the first c neighbours from the row a on are read: the reading stands at the row, in this state
-pub record ReadTo (L S tables : List ℕ) (root a c row next : ℕ) (end : Bool) : Type 0 where
+pub record ReadTo (L S : List ℕ) (tables : Tables) (root a c row next : ℕ) (end : Bool) : Type 0 where
   pub is : (e : ℕ) (f : Forest) → TermsAt L S a e f → c ≤ terms f → TermsAt L S row e (drop_t c f) × After tables root (heads (take_t c f)) next end
 
 -- wherever the reading began, it has gone on by so many
-pub record ReadOn (L S tables : List ℕ) (row next : ℕ) (end : Bool) (more row' next' : ℕ) (end' : Bool) : Type 0 where
+pub record ReadOn (L S : List ℕ) (tables : Tables) (row next : ℕ) (end : Bool) (more row' next' : ℕ) (end' : Bool) : Type 0 where
   pub on : (root a c : ℕ) → ReadTo L S tables root a c row next end → ReadTo L S tables root a (c + more) row' next' end'
 
 -- the two numbers start and flag give a variable of this kind a constraint, and the rows a value
@@ -55,7 +56,7 @@ pub record ObeysPre (L S : List ℕ) (start flag kind a b : ℕ) : Type 0 where
   pub some : (es : List Expression) × (k : Kind) × (c : Constraint) × (v : Value) × (kind ≡ code k) × Pair es k start flag c × ValueAt L S a b k v
 
 -- the answer says whether the value obeys the constraint
-pub record ObeysPost (L S tables : List ℕ) (start flag kind a b : ℕ) (r : Bool) : Type 0 where
+pub record ObeysPost (L S : List ℕ) (tables : Tables) (start flag kind a b : ℕ) (r : Bool) : Type 0 where
   pub is : (es : List Expression) (k : Kind) (c : Constraint) (v : Value) → TablesOf es tables → kind ≡ code k → Pair es k start flag c → ValueAt L S a b k v → Says r (Obeys c v)
 
 -- the answer says whether the flag forbids the value

@@ -15,8 +15,11 @@ ghost use Rattle.constraint.specs.Pair.{Pair, GivenPre, NamedPre};
 ghost use Rattle.constraint.specs.Named.{AllNamed};
 ghost use Rattle.constraint.specs.Reading.{HeadsPre, MorePre, ReadTo, ReadOn, PathPre, After, ObeysPre, ObeysPost, ForbiddenPost};
 
+use expression::Table;
+use letters::{State, Tables};
 use meaning::kinds::{FUNCTION, INDIVIDUAL, SEQUENCE};
-use meaning::wide;
+use pattern::Pattern;
+use tree::Tree;
 
 // Whether a variable of this kind may have these two numbers.
 fn paired(kind: u32, size: &[u32], first: u32, flag: u32) -> bool
@@ -48,37 +51,26 @@ pub fn given(variables: usize, kinds: &[u32; 16], size: &[u32], constraint: &[u3
     if constraint.len() != variables + variables {
         return false;
     }
-    let mut x = 0;
-    while x < variables {
+    for x in 0..variables {
         if !paired(kinds[x], size, constraint[x + x], constraint[x + x + 1]) {
             return false;
         }
-        x += 1;
     }
     true
 }
 
 // Code 14, and those before it: whether the constraint list is good, for the pattern and the expression table.
-pub fn good(
-    kind: &[u32],
-    name: &[u32],
-    size: &[u32],
-    expression_kind: &[u32],
-    expression_name: &[u32],
-    expression_size: &[u32],
-    constraint: &[u32],
-) -> bool
-    ensures { Says result (GoodConstraintList kind.now name.now size.now expression_kind.now expression_name.now expression_size.now constraint.now) }
+pub fn good(pattern: &Pattern, table: &Table, constraint: &[u32]) -> bool
+    ensures { Says result (GoodConstraintList pattern.now.kind.now pattern.now.name.now pattern.now.size.now table.now.kind.now table.now.name.now table.now.size.now constraint.now) }
 {
-    let checked = pattern::check(kind, name, size);
+    let checked = pattern::check(pattern);
     if !checked.good {
         return false;
     }
-    if !expression::good(expression_kind, expression_name, expression_size) {
+    if !expression::good(table) {
         return false;
     }
-    let kinds = checked.kinds;
-    given(checked.variables, &kinds, expression_size, constraint)
+    given(checked.variables, &checked.kinds, table.size, constraint)
 }
 
 // Code 19, where the list is good: whether a variable names each whole expression of the table. A mark for each number that
@@ -88,18 +80,15 @@ pub fn all_named(variables: usize, size: &[u32], constraint: &[u32]) -> bool
     ensures { (es : List Expression) → size.now ≡ size_rows es → Says result (AllNamed es constraint.now) }
 {
     let mut marks = [false; 65];
-    let mut x = 0;
-    while x < variables {
-        let first = wide(constraint[x + x]);
-        marks[first] = true;
-        x += 1;
+    for x in 0..variables {
+        marks[constraint[x + x] as usize] = true;
     }
     let mut row = 0;
     while row < size.len() {
         if !marks[row + 1] {
             return false;
         }
-        row += wide(size[row]);
+        row += size[row] as usize;
     }
     true
 }
@@ -108,73 +97,50 @@ pub fn all_named(variables: usize, size: &[u32], constraint: &[u32]) -> bool
 #[derive(Drop)]
 pub struct Mark {
     pub row: usize,
-    pub next: u64,
-    pub end: bool,
+    pub state: State,
 }
 
 // The reading goes on by so many heads. What has been read before is not read again: a choice that grows by one term reads one
 // more letter.
-pub fn read_on(
-    label: &[u32],
-    size: &[u32],
-    tables: &[u64; 320],
-    start: usize,
-    next: u64,
-    end: bool,
-    more: usize,
-) -> Mark
-    requires { MorePre label.now size.now start more }
-    ensures { ReadOn label.now size.now tables.now start next end more result.row result.next result.end }
+pub fn read_on(tree: &Tree, tables: &Tables, from: Mark, more: usize) -> Mark
+    requires { MorePre tree.now.label.now tree.now.size.now from.row more }
+    ensures { ReadOn tree.now.label.now tree.now.size.now tables.now from.row from.state.next from.state.end more result.row result.state.next result.state.end }
 {
-    let mut state = letters::State { next, end };
-    let mut row = start;
-    let mut left = more;
-    while 0 < left {
+    // The lists are looked up once: compiled without proof, a loop that reaches them through the tree takes an eighth longer for constrained sequences.
+    let label = tree.label;
+    let size = tree.size;
+    let mut row = from.row;
+    let mut state = from.state;
+    for _ in 0..more {
         state = letters::step(state.next, tables, label[row]);
         row = tree::next(size, row);
-        left -= 1;
     }
-    Mark {
-        row,
-        next: state.next,
-        end: state.end,
-    }
+    Mark { row, state }
 }
 
 // The reading of the heads of so many neighbours from the row a on, for the expression that starts at the row root.
-pub fn after_heads(
-    label: &[u32],
-    size: &[u32],
-    tables: &[u64; 320],
-    root: usize,
-    a: usize,
-    count: usize,
-) -> Mark
-    requires { HeadsPre label.now size.now root a count }
-    ensures { ReadTo label.now size.now tables.now root a count result.row result.next result.end }
+pub fn after_heads(tree: &Tree, tables: &Tables, root: usize, a: usize, count: usize) -> Mark
+    requires { HeadsPre tree.now.label.now tree.now.size.now root a count }
+    ensures { ReadTo tree.now.label.now tree.now.size.now tables.now root a count result.row result.state.next result.state.end }
 {
-    let state = letters::begin(tables, root);
-    read_on(label, size, tables, a, state.next, state.end, count)
+    let begun = Mark {
+        row: a,
+        state: letters::begin(tables, root),
+    };
+    read_on(tree, tables, begun, count)
 }
 
 // The state after the labels on the path from the row a down to the row b, that of b left out.
-pub fn after_path(
-    label: &[u32],
-    size: &[u32],
-    tables: &[u64; 320],
-    root: usize,
-    a: usize,
-    b: usize,
-) -> letters::State
-    requires { PathPre label.now size.now root a b }
-    ensures { (c : Context) → ContextAt label.now size.now a b c
+pub fn after_path(tree: &Tree, tables: &Tables, root: usize, a: usize, b: usize) -> State
+    requires { PathPre tree.now.label.now tree.now.size.now root a b }
+    ensures { (c : Context) → ContextAt tree.now.label.now tree.now.size.now a b c
         → After tables.now root (path c) result.next result.end }
 {
     let mut state = letters::begin(tables, root);
     let mut down = a;
     while down != b {
-        state = letters::step(state.next, tables, label[down]);
-        down = tree::child(size, down, b);
+        state = letters::step(state.next, tables, tree.label[down]);
+        down = tree::child(tree.size, down, b);
     }
     state
 }
@@ -194,17 +160,16 @@ pub fn forbidden(flag: u32, kind: u32, a: usize, b: usize) -> bool
 
 // Whether the value that the numbers a and b mean for a variable of this kind obeys the constraint that start and flag give it.
 pub fn obeys(
-    label: &[u32],
-    size: &[u32],
-    tables: &[u64; 320],
+    tree: &Tree,
+    tables: &Tables,
     start: u32,
     flag: u32,
     kind: u32,
     a: usize,
     b: usize,
 ) -> bool
-    requires { ObeysPre label.now size.now start flag kind a b }
-    ensures { ObeysPost label.now size.now tables.now start flag kind a b result }
+    requires { ObeysPre tree.now.label.now tree.now.size.now start flag kind a b }
+    ensures { ObeysPost tree.now.label.now tree.now.size.now tables.now start flag kind a b result }
 {
     if start == 0 {
         return true;
@@ -215,9 +180,7 @@ pub fn obeys(
     let above = start as usize;
     let root = above - 1;
     if kind == SEQUENCE {
-        let state = after_heads(label, size, tables, root, a, b);
-        return state.end;
+        return after_heads(tree, tables, root, a, b).state.end;
     }
-    let state = after_path(label, size, tables, root, a, b);
-    state.end
+    after_path(tree, tables, root, a, b).end
 }

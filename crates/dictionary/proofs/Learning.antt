@@ -103,6 +103,10 @@ pub record Turn (d old index : List ℕ) (start names end : ℕ) : Type 0 where
   pub is_end : end ≡ start + upto (drop start d)
   pub inside : end ≤ length d
 
+pub turn_of : {d old index : List ℕ} {start names end : ℕ} → Learning d old index start names → start < length d → (end ≡ start + upto (drop start d)) × (end ≤ length d) →
+    Turn d old index start names end
+turn_of l h e = record { learning = l; here = h; is_end = e.0; inside = e.1 }
+
 module _ {d old index : List ℕ} {start names end : ℕ} (t : Turn d old index start names end) where
   pub refused_end : end ≡ length d → NamesLearnt d false 0 old index
   refused_end h = refused d old index t.learning.kept (λ ns g. bad_end d start end names t.here t.is_end t.learning.begun ns g h)

@@ -174,9 +174,8 @@ module _ {dictionary document labels starts lengths : List ℕ} {row : ℕ} wher
           is;
     }
 
-pub widened : {dictionary document labels starts lengths : List ℕ} {row source start count at wide : ℕ} → at ≡ start → wide ≡ count →
-    PartAnswered dictionary document labels starts lengths row source start count → PartAnswered dictionary document labels starts lengths row source at wide
-widened e f x = rw (e, f) x
+pub is_document : {source : ℕ} → source ≡ 1 → source ≡ 0 → ⊥
+is_document e h = omega arith
 
 -- THE ANSWERS OF `spelling`: the bytes from start to start + count
 module _ {dictionary document labels starts lengths : List ℕ} {row source start count : ℕ} (x : PartAnswered dictionary document labels starts lengths row source start count) where

@@ -4,3 +4,4 @@ pub mod Numbers
 pub mod Spelling
 pub mod Scan
 pub mod Index
+pub mod Source

@@ -6,15 +6,7 @@ ghost use Rattle.dictionary.specs.Scan.{range};
 ghost use Rattle.dictionary.specs.Numbers.{place_of};
 ghost use Rattle.dictionary.specs.Index.{name_bucket, MayNumber, Numbered, inserted};
 
-use meaning::short;
-use words::{hash, same, same_bytes};
-
-fn number(index: &[u16], i: usize) -> usize
-    requires { i < length index.now }
-    ensures { result ≡ get_or index.now i 0 }
-{
-    short(index[i])
-}
+use words::{hash, same};
 
 // The length counts too: of spellings that agree where the hash looks, each length has a bucket of its own.
 fn bucket_of(text: &[u8], start: usize, end: usize) -> usize
@@ -26,6 +18,7 @@ fn bucket_of(text: &[u8], start: usize, end: usize) -> usize
 }
 
 // Is the known spelling at `place` that of the document from `start` to `end`?
+#[inline(always)]
 fn is_at(
     dictionary: &[u8],
     document: &[u8],
@@ -39,8 +32,8 @@ fn is_at(
     requires { ((known : List (List ℕ)) × MayNumber dictionary.now document.now names index.now count start end known) × (place < count) }
     ensures { (known : List (List ℕ)) → MayNumber dictionary.now document.now names index.now count start end known → Says result (get_or known place [] ≡ range document.now start end) }
 {
-    let at = number(index, 2048 + 3 * place);
-    let to = number(index, 2049 + 3 * place);
+    let at = usize::from(index[2048 + 3 * place]);
+    let to = usize::from(index[2049 + 3 * place]);
     if to - at != end - start {
         return false;
     }
@@ -51,6 +44,7 @@ fn is_at(
 }
 
 // The place of the document's spelling from `start` to `end` among those known, or `count`.
+#[inline(always)]
 fn seek(
     dictionary: &[u8],
     document: &[u8],
@@ -64,13 +58,13 @@ fn seek(
     requires { ((known : List (List ℕ)) × MayNumber dictionary.now document.now names index.now count start end known) × (bucket ≡ name_bucket (range document.now start end)) }
     ensures { (known : List (List ℕ)) → MayNumber dictionary.now document.now names index.now count start end known → result ≡ place_of known (range document.now start end) }
 {
-    let mut next = number(index, bucket);
+    let mut next = usize::from(index[bucket]);
     while 0 < next {
         let place = next - 1;
         if is_at(dictionary, document, names, index, count, place, start, end) {
             return place;
         }
-        next = number(index, 2050 + 3 * place);
+        next = usize::from(index[2050 + 3 * place]);
     }
     count
 }
@@ -87,7 +81,8 @@ fn insert(index: &mut [u16], count: usize, bucket: usize, start: usize, end: usi
 }
 
 // The number of the document's spelling from `start` to `end`: its place among the `count` spellings known, of which the
-// first `names` stand in the dictionary. A new one gets `count`, and is known from then on.
+// first `names` stand in the dictionary. A new one gets `count`, and is known from then on. In line, since the rows ask it of each row.
+#[inline(always)]
 pub fn number_of(
     dictionary: &[u8],
     document: &[u8],
@@ -104,64 +99,6 @@ pub fn number_of(
     let place = seek(
         dictionary, document, names, index, count, bucket, start, end,
     );
-    if place < count {
-        return place;
-    }
-    insert(index, count, bucket, start, end);
-    count
-}
-
-// Is the name at `place` that from `start` to `end`?
-fn is_name(
-    dictionary: &[u8],
-    index: &[u16],
-    count: usize,
-    place: usize,
-    start: usize,
-    end: usize,
-) -> bool
-    requires { ((known : List (List ℕ)) × MayNumber dictionary.now dictionary.now 0 index.now count start end known) × (place < count) }
-    ensures { (known : List (List ℕ)) → MayNumber dictionary.now dictionary.now 0 index.now count start end known → Says result (get_or known place [] ≡ range dictionary.now start end) }
-{
-    let at = number(index, 2048 + 3 * place);
-    let to = number(index, 2049 + 3 * place);
-    if to - at != end - start {
-        return false;
-    }
-    same_bytes(dictionary, at, dictionary, start, end - start)
-}
-
-// The place of the name from `start` to `end` among those before it, or `count`.
-fn seek_name(
-    dictionary: &[u8],
-    index: &[u16],
-    count: usize,
-    bucket: usize,
-    start: usize,
-    end: usize,
-) -> usize
-    requires { ((known : List (List ℕ)) × MayNumber dictionary.now dictionary.now 0 index.now count start end known) × (bucket ≡ name_bucket (range dictionary.now start end)) }
-    ensures { (known : List (List ℕ)) → MayNumber dictionary.now dictionary.now 0 index.now count start end known → result ≡ place_of known (range dictionary.now start end) }
-{
-    let mut next = number(index, bucket);
-    while 0 < next {
-        let place = next - 1;
-        if is_name(dictionary, index, count, place, start, end) {
-            return place;
-        }
-        next = number(index, 2050 + 3 * place);
-    }
-    count
-}
-
-// `number_of` for the dictionary's own names, none of which is known from elsewhere. It is apart since `number_of` is then called in one place
-// only, that of the rows, where the compiler puts it in line.
-pub fn learn(dictionary: &[u8], index: &mut [u16], count: usize, start: usize, end: usize) -> usize
-    requires { (known : List (List ℕ)) × MayNumber dictionary.now dictionary.now 0 index.old count start end known }
-    ensures { (known : List (List ℕ)) → MayNumber dictionary.now dictionary.now 0 index.old count start end known → Numbered dictionary.now dictionary.now 0 index.old index.new known (range dictionary.now start end) result }
-{
-    let bucket = bucket_of(dictionary, start, end);
-    let place = seek_name(dictionary, index, count, bucket, start, end);
     if place < count {
         return place;
     }

@@ -1,26 +1,39 @@
 // The spelling lookup: for a row of a tree, the part of the dictionary or of the document that spells it.
-ghost use Rattle.std.specs.Prelude.{List, ℕ, ◌<◌, length};
+ghost use Rattle.std.specs.Prelude.{List, ℕ, ◌≡◌, ◌<◌, length};
 ghost use Rattle.dictionary.specs.Names.{GoodDictionary};
+ghost use Rattle.dictionary.specs.Source.{number_of_source};
 ghost use Rattle.dictionary.specs.Spelling.{IsPart, part_of_dictionary, part_of_document, PartAnswered, SpellingAnswered};
 
-use meaning::wide;
-
 // Where a spelling's bytes stand.
-const DICTIONARY: u32 = 0;
+#[derive(Clone, Copy, PartialEq, Eq)]
+pub enum Source {
+    Dictionary,
+    Document,
+}
 
-const DOCUMENT: u32 = 1;
+// 01's number of it.
+impl From<Source> for u32 {
+    ghost from_gives = { λ source number. number ≡ number_of_source source };
+
+    fn from(source: Source) -> u32 {
+        match source {
+            Source::Dictionary => 0,
+            Source::Document => 1,
+        }
+    }
+}
 
 // `length` bytes from `start` of one of the two.
-#[derive(Drop)]
+#[derive(Clone, Copy, PartialEq, Eq)]
 pub struct Part {
-    pub source: u32,
+    pub source: Source,
     pub start: u32,
     pub length: u32,
 }
 
 // An empty part of the document.
 const EMPTY: Part = Part {
-    source: DOCUMENT,
+    source: Source::Document,
     start: 0,
     length: 0,
 };
@@ -28,37 +41,30 @@ const EMPTY: Part = Part {
 // The name at a place, without its byte 10.
 fn name_part(dictionary: &[u8], place: usize) -> Part
     requires { (names : List (List ℕ)) × GoodDictionary dictionary.now names × (place < length names) }
-    ensures { (names : List (List ℕ)) → GoodDictionary dictionary.now names → IsPart result.source result.start result.length (part_of_dictionary names place) }
+    ensures { (names : List (List ℕ)) → GoodDictionary dictionary.now names → IsPart (number_of_source result.source) result.start result.length (part_of_dictionary names place) }
 {
     let mut start = 0;
-    let mut before = 0;
-    while before < place {
+    for _ in 0..place {
         start = super::name_end(dictionary, start) + 1;
-        before += 1;
     }
     let end = super::name_end(dictionary, start);
-    let first = start as u32;
-    let count = (end - start) as u32;
     Part {
-        source: DICTIONARY,
-        start: first,
-        length: count,
+        source: Source::Dictionary,
+        start: start as u32,
+        length: (end - start) as u32,
     }
 }
 
 fn document_part(document: &[u8], start: u32, length: u32) -> Part
-    ensures { IsPart result.source result.start result.length (part_of_document document.now start length) }
+    ensures { IsPart (number_of_source result.source) result.start result.length (part_of_document document.now start length) }
 {
-    if document.len() < wide(start) {
-        return EMPTY;
-    }
-    if document.len() - wide(start) < wide(length) {
+    if document.len() < start as usize + length as usize {
         return EMPTY;
     }
     Part {
-        source: DOCUMENT,
-        start: start,
-        length: length,
+        source: Source::Document,
+        start,
+        length,
     }
 }
 
@@ -72,7 +78,7 @@ pub fn part_of(
     length: &[u32],
     row: usize,
 ) -> Part
-    ensures { PartAnswered dictionary.now document.now label.now start.now length.now row result.source result.start result.length }
+    ensures { PartAnswered dictionary.now document.now label.now start.now length.now row (number_of_source result.source) result.start result.length }
 {
     if label.len() <= row {
         return EMPTY;
@@ -83,9 +89,8 @@ pub fn part_of(
     if length.len() <= row {
         return EMPTY;
     }
-    let place = wide(label[row]) / 2;
-    let checked = super::check(dictionary);
-    let names = checked.names;
+    let place = label[row] as usize / 2;
+    let names = super::check(dictionary).unwrap_or(0);
     if place < names {
         return name_part(dictionary, place);
     }
@@ -104,10 +109,10 @@ pub fn spelling<'a>(
     ensures { SpellingAnswered dictionary.entry.ref_ptr document.entry.ref_ptr dictionary.now document.now label.now start.now length.now row result.ref_ptr result.now }
 {
     let found = part_of(dictionary, document, label, start, length, row);
-    let at = wide(found.start);
-    let to = at + wide(found.length);
-    if found.source == DICTIONARY {
-        return &dictionary[at..to];
+    let at = found.start as usize;
+    let to = at + found.length as usize;
+    match found.source {
+        Source::Dictionary => &dictionary[at..to],
+        Source::Document => &document[at..to],
     }
-    &document[at..to]
 }

@@ -1,8 +1,8 @@
 -- The answers of `read` and `check`.
 use mathlib.Core.Path.{◌≡◌, refl, sym, ap, ◌∙◌, subst}
-use mathlib.Core.Bool.{Bool, true, false, true≢false}
+use mathlib.Core.Bool.{Bool, true, false}
 use mathlib.Core.List.{List, [], map}
-use Prim.Native.Nat.{ℕ, ◌+◌, ◌*◌, ◌≤◌, ◌<◌, min}
+use Prim.Native.Nat.{ℕ, ◌≤◌, ◌<◌, min}
 use native.Mathlib.Omega.{arith}
 use lib.Dec.{ltb}
 use lib.ListN.{length, length-map}
@@ -12,11 +12,15 @@ use Rattle.tree.proofs.Lists.{sizes_rows}
 use Rattle.grammar.specs.Grammar.{Bytes, ◌⊲◌, Content, Document, OutsideAt}
 use Rattle.grammar.specs.Rows.{Sort, shape, #, Row, rows_of}
 use Rattle.grammar.proofs.Trees.{shape_rows}
+use Rattle.std.specs.Prelude.{Err}
+use Rattle.judge.specs.Answer.{number_of_refusal, place_of}
+use Rattle.judge.specs.declared.refusal.Refusal.{Refusal}
+use Rattle.judge.specs.declared.refusal.Refusal.TheVariants.{Outside}
 use Rattle.judge.specs.Verdict.{Verdict, long as long_document, outside, deep, many, read}
 use Rattle.dictionary.specs.Names.{GoodDictionary, DictionaryChecked}
-use Rattle.dictionary.specs.Index.{Indexed, NamesLearnt}
-use Rattle.document.specs.Reading.{Unchanged, shortest, Read, DocumentChecked, spellings_of, sorts_of}
-use Rattle.document.proofs.Cases.{bad_dictionary, bad_document, without_room, filled, told, bad, judged, check_told}
+use Rattle.dictionary.specs.Index.{Indexed}
+use Rattle.document.specs.Reading.{Unchanged, shortest, Read, ReaderAnswer, spellings_of, sorts_of}
+use Rattle.document.proofs.Cases.{bad_document, without_room, filled, told, judged_as}
 use Rattle.document.specs.Learnt.{MayRead}
 use Rattle.labels.specs.Lists.{Copied}
 use Rattle.labels.specs.Labelling.{MayLabelRows, LabelsRows}
@@ -26,23 +30,12 @@ use Rattle.rows.proofs.Large.{rows_count}
 use Rattle.document.proofs.Filling.{rows_spell, rows_tell}
 
 -- THE DICTIONARY
-pub not_good : {d : List ℕ} {good : Bool} {k : ℕ} → DictionaryChecked d good k → good ≡ false → (names : List (List ℕ)) → GoodDictionary d names → ⊥
-not_good c e names g = true≢false (sym (c.says.1 (names, g)) ∙ e)
-
 pub is_good : {d : List ℕ} {good : Bool} {k : ℕ} → DictionaryChecked d good k → good ≡ true → (names : List (List ℕ)) × GoodDictionary d names × (k ≡ length names)
 is_good c e =
     let g = c.says.0 e in
     (g.0, g.1, c.counted.2 ∙ ap length (c.counted.1.good g.0 g.1))
 
--- THE VERDICT
-pub few_codes : {w : List ℕ} {c p n : ℕ} → Verdict w c p n → c ≤ 5
-few_codes (long_document h) = omega arith
-few_codes (outside h k) = omega arith
-few_codes (deep h d k) = omega arith
-few_codes (many h d k l) = omega arith
-few_codes (read h d k l) = omega arith
-
--- code 0
+-- THE VERDICT: code 0
 pub record Whole (w : List ℕ) (p n : ℕ) : Type 0 where
   pub f : Content
   pub t : Bytes
@@ -76,17 +69,13 @@ unchanged : (label size start width : List ℕ) → Unchanged label size start w
 unchanged label size start width = (refl, refl, refl, refl)
 
 module _ {d w label size start width : List ℕ} {good : Bool} {k : ℕ} (dictionary : DictionaryChecked d good k) where
-  pub answers_bad : {c p n : ℕ} → good ≡ false → (c ≡ 1) × (p ≡ 0) × (n ≡ 0) → Read d w label size start width label size start width c p n
-  answers_bad e r = rw (r.0, r.1, r.2) (told (bad_dictionary (not_good dictionary e) (unchanged label size start width)))
-
   pub answers_refused : {c p n : ℕ} → good ≡ true → Verdict w c p n → (c ≡ 0 → ⊥) → Read d w label size start width label size start width c p n
   answers_refused e v h = told (bad_document (is_good dictionary e).1 v h (unchanged label size start width))
 
-  pub answers_small : {c p n x y z : ℕ} → good ≡ true → Verdict w c p n → c ≡ 0 →
-      ((n ≤ length label) × (n ≤ length size) × (n ≤ length start) × (n ≤ length width) → ⊥) → (x ≡ 6) × (y ≡ 0) × (z ≡ 0) →
-      Read d w label size start width label size start width x y z
-  answers_small {c} {p} {n} e v h no_room r =
-      rw (r.0, r.1, r.2) (told (without_room (is_good dictionary e).1 (whole v h).verdict (go (ltb (shortest label size start width) n) refl) (unchanged label size start width)))
+  pub answers_small : {c p n : ℕ} → good ≡ true → Verdict w c p n → c ≡ 0 →
+      ((n ≤ length label) × (n ≤ length size) × (n ≤ length start) × (n ≤ length width) → ⊥) → Read d w label size start width label size start width 6 0 0
+  answers_small {c} {p} {n} e v h no_room =
+      told (without_room (is_good dictionary e).1 (whole v h).verdict (go (ltb (shortest label size start width) n) refl) (unchanged label size start width))
     where
       go : (t : Bool) → ltb (shortest label size start width) n ≡ t → shortest label size start width < n
       go true q = ltb-true (shortest label size start width) n q
@@ -101,17 +90,6 @@ module _ {d w label size start width : List ℕ} {good : Bool} {k : ℕ} (dictio
 pub noted_verdict : {w S L Z : List ℕ} {n : ℕ} → length w ≤ 32768 → RowsNoted w S L Z n → Verdict w 0 0 n
 noted_verdict {w} {S} {L} {Z} {n} short h =
     subst (λ (x : ℕ). Verdict w 0 0 x) h.rows_are (read short h.document h.shallow (omega (arith, h.few, h.rows_are)))
-
-pub accepted_verdict : {w S L Z : List ℕ} {n c p m : ℕ} → length w ≤ 32768 → RowsNoted w S L Z n → (c ≡ 0) × (p ≡ 0) × (m ≡ n) → Verdict w c p m
-accepted_verdict short h e = rw (e.0, e.1, e.2) (noted_verdict short h)
-
-pub may_read : {d w clear index : List ℕ} {good : Bool} {k : ℕ} → NamesLearnt d good k clear index → good ≡ true → 11264 ≤ length clear → length w ≤ 32768 →
-    MayRead d w k clear index
-may_read {d} {w} {clear} {index} {good} {k} h e large short = record {
-  learnt = subst (λ (y : Bool). NamesLearnt d y k clear index) e h;
-  large = large;
-  short = short;
-}
 
 module _ {d w clear index : List ℕ} (label size start width : List ℕ) {k : ℕ} (may : MayRead d w k clear index) {S L Z : List ℕ} {n : ℕ} (noted : RowsNoted w S L Z n)
     (room : (n ≤ length label) × (n ≤ length size) × (n ≤ length start) × (n ≤ length width)) where
@@ -151,30 +129,22 @@ module _ {d w clear index : List ℕ} (label size start width : List ℕ) {k : �
   may_label_rows = (names, sorts_of noted.f, spellings_of noted.f, labelling)
 
   module _ {start' width' size' : List ℕ} (copies : Copied n S L Z start width size start' width' size') where
-    pub answers_read : {label' : List ℕ} {c p m : ℕ} → LabelsRows d w k index label S L n label' →
-        (c ≡ 0) × (p ≡ 0) × (m ≡ n) → Read d w label size start width label' size' start' width' c p m
-    answers_read h e =
-        rw (e.0, e.1, e.2) (told (filled good_names (noted_verdict may.short noted) (omega (arith, room)) noted.document (record {
+    pub answers_read : {label' : List ℕ} → LabelsRows d w k index label S L n label' → Read d w label size start width label' size' start' width' 0 0 n
+    answers_read h =
+        told (filled good_names (noted_verdict may.short noted) (omega (arith, room)) noted.document (record {
           label_is = h names (sorts_of noted.f) (spellings_of noted.f) labelling;
           size_is = copied size noted.sizes_are (sizes_rows (shape noted.f) ∙ noted.rows_are) copies.size_copy;
           start_is = copied start noted.starts_are (long (λ (x : Row). x.start)) copies.start_copy;
           width_is = copied width noted.lengths_are (long (λ (x : Row). # x.spelling)) copies.width_copy;
-        })))
+        }))
 
 -- where they are not
-pub long_verdict : {w : List ℕ} {c p n : ℕ} → 32768 < length w → (c ≡ 2) × (p ≡ 0) × (n ≡ 0) → Verdict w c p n
-long_verdict h e = rw (e.0, e.1, e.2) (long_document h)
-
-pub outside_verdict : {w : List ℕ} {q c p n : ℕ} → length w ≤ 32768 → OutsideAt w q → (c ≡ 3) × (p ≡ q) × (n ≡ 0) → Verdict w c p n
-outside_verdict short h e = rw (e.0, e.1, e.2) (outside short h)
+pub outside_verdict : {w : List ℕ} {q : ℕ} {e : Refusal} → length w ≤ 32768 → OutsideAt w q → e ≡ Outside q → Verdict w (number_of_refusal e) (place_of (Err e)) 0
+outside_verdict short h e = rw e (outside short h)
 
 pub beyond_refused : {w : List ℕ} {c p n : ℕ} → TooLarge w → Verdict w c p n → c ≡ 0 → ⊥
 beyond_refused h v e = let d = whole v e in h d.f d.t d.document d.shallow (omega (arith, d.few, d.rows_are, rows_count d.f, shape_rows d.f))
 
 -- THE ANSWERS OF `check`
-pub checks_bad : {d w : List ℕ} {good : Bool} {k x : ℕ} → DictionaryChecked d good k → good ≡ false → (x ≡ 1) × (x < 4294967296) → DocumentChecked d w (x * 4294967296)
-checks_bad c e is_x = rw is_x.0 (check_told (bad (not_good c e)))
-
-pub checks_judged : {d w : List ℕ} {good : Bool} {k c p n x y z : ℕ} → DictionaryChecked d good k → good ≡ true → Verdict w c p n →
-    (x ≡ c) × (x < 4294967296) → (y ≡ p) × (y < 4294967296) → (z ≡ n) × (z < 4294967296) → DocumentChecked d w (x * 4294967296 + (y + z))
-checks_judged k e v x y z = rw (x.0, y.0, z.0) (check_told (judged (is_good k e).1 v))
+pub answers_checked : {d w : List ℕ} {good : Bool} {k c p n : ℕ} → DictionaryChecked d good k → good ≡ true → Verdict w c p n → ReaderAnswer d w 2048 c p n
+answers_checked k e v = judged_as (is_good k e).1 v

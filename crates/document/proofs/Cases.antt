@@ -135,16 +135,12 @@ module _ {d w l s b n l' s' b' n' : List ℕ} where
   told c = record { answer = answered c; written = wrote c; kept = unchanged c }
 
 -- 2,048 rows are room enough
-judged_as : {d w : List ℕ} {names : List (List ℕ)} {code place number : ℕ} → GoodDictionary d names → Verdict w code place number → ReaderAnswer d w 2048 code place number
+pub judged_as : {d w : List ℕ} {names : List (List ℕ)} {code place number : ℕ} → GoodDictionary d names → Verdict w code place number → ReaderAnswer d w 2048 code place number
 judged_as g (long h) = refused 2048 g (long h) (λ e. omega (arith, e))
 judged_as g (outside h o) = refused 2048 g (outside h o) (λ e. omega (arith, e))
 judged_as g (deep h y k) = refused 2048 g (deep h y k) (λ e. omega (arith, e))
 judged_as g (many h y k m) = refused 2048 g (many h y k m) (λ e. omega (arith, e))
 judged_as g (Judged.read h y k m) = whole 2048 g (Judged.read h y k m) refl m
-
-pub check_told : {d w : List ℕ} {r : ℕ} → CheckCases d w r → DocumentChecked d w r
-check_told (bad h) = record { code = 1; place = 0; rows = 0; answer = bad_dictionary_lem 2048 h; is = refl }
-check_told (judged {code = code} {place = place} {rows = number} g v) = record { code = code; place = place; rows = number; answer = judged_as g v; is = refl }
 
 -- WHAT KEEPS THE PROMISE IS ONE OF THE CASES
 beyond : (x y : ℕ) → (y ≤ x → ⊥) → x < y

@@ -3,56 +3,23 @@
 
 ghost use Rattle.std.specs.Prelude.{◌≡◌, List, ℕ, ◌≤◌, ◌<◌};
 ghost use Rattle.meaning.specs.Calls.{Says};
+ghost use Rattle.judge.specs.Answer.{code_of, place_of, rows_of};
 ghost use Rattle.judge.specs.Verdict.{Verdict};
 ghost use Rattle.document.specs.Learnt.{MayRead};
-ghost use Rattle.document.specs.Reading.{Read, DocumentChecked};
+ghost use Rattle.document.specs.Reading.{Read, ReaderAnswer, DocumentChecked};
 
-use judge::codes::{BAD_DICTIONARY, MOST_BYTES, NO_ROOM, READ, TOO_LONG};
-use judge::{Judged, judge, outside};
+use judge::judge;
+use judge::limits::MOST_BYTES;
+use judge::refusal::{Refusal, outside};
 use labels::fill::{copy_rows, label_rows};
-use rows::note::{Noted, note};
-
-fn wider(x: u32) -> u64
-    ensures { (result ≡ x) × (result < 4294967296) }
-{
-    x as u64
-}
+use labels::note::RowLists;
+use rows::note::{Unread, note};
 
 // Do so many rows fit all four lists?
 fn fits(rows: usize, label: usize, size: usize, start: usize, length: usize) -> bool
     ensures { Says result ((rows ≤ label) × (rows ≤ size) × (rows ≤ start) × (rows ≤ length)) }
 {
-    if label < rows {
-        return false;
-    }
-    if size < rows {
-        return false;
-    }
-    if start < rows {
-        return false;
-    }
-    rows <= length
-}
-
-fn refusal(code: u32) -> Judged
-    ensures { (result.code ≡ code) × (result.place ≡ 0) × (result.rows ≡ 0) }
-{
-    Judged {
-        code: code,
-        place: 0,
-        rows: 0,
-    }
-}
-
-fn accepted(rows: usize) -> Judged
-    requires { rows ≤ 2048 }
-    ensures { (result.code ≡ 0) × (result.place ≡ 0) × (result.rows ≡ rows) }
-{
-    Judged {
-        code: READ,
-        place: 0,
-        rows: rows as u32,
-    }
+    rows <= label && rows <= size && rows <= start && rows <= length
 }
 
 // What is left of `read` once the dictionary's names are learnt and the document is known to be short enough.
@@ -65,27 +32,22 @@ fn read_rows(
     size: &mut [u32],
     start: &mut [u32],
     length: &mut [u32],
-) -> Judged
+) -> Result<u32, Refusal>
     requires { (clear : List ℕ) × MayRead dictionary.now document.now names clear index.old }
-    ensures { Read dictionary.now document.now label.old size.old start.old length.old label.new size.new start.new length.new result.code result.place result.rows }
+    ensures { Read dictionary.now document.now label.old size.old start.old length.old label.new size.new start.new length.new (code_of result) (place_of result) (rows_of result) }
 {
-    let mut starts = [0u16; 2052];
-    let mut lengths = [0u16; 2052];
-    let mut sizes = [0u16; 2052];
-    match note(document, &mut starts, &mut lengths, &mut sizes) {
-        Noted::Outside(place) => outside(place),
-        Noted::Beyond => judge(document),
-        Noted::Rows(rows) => {
-            if !fits(rows, label.len(), size.len(), start.len(), length.len()) {
-                return refusal(NO_ROOM);
-            }
-            copy_rows(&starts, &lengths, &sizes, start, length, size, rows);
-            label_rows(
-                dictionary, document, names, index, label, &starts, &lengths, rows,
-            );
-            accepted(rows)
-        }
+    let mut notes = RowLists::new();
+    let rows = match note(document, &mut notes) {
+        Ok(rows) => rows,
+        Err(Unread::Outside(place)) => return Err(outside(place)),
+        Err(Unread::Beyond) => return judge(document),
+    };
+    if !fits(rows, label.len(), size.len(), start.len(), length.len()) {
+        return Err(Refusal::NoRoom);
     }
+    copy_rows(&notes, start, length, size, rows);
+    label_rows(dictionary, document, names, index, label, &notes, rows);
+    Ok(rows as u32)
 }
 
 pub fn read(
@@ -95,18 +57,13 @@ pub fn read(
     size: &mut [u32],
     start: &mut [u32],
     length: &mut [u32],
-) -> Judged
-    ensures { Read dictionary.now document.now label.old size.old start.old length.old label.new size.new start.new length.new result.code result.place result.rows }
+) -> Result<u32, Refusal>
+    ensures { Read dictionary.now document.now label.old size.old start.old length.old label.new size.new start.new length.new (code_of result) (place_of result) (rows_of result) }
 {
     let mut index = [0u16; 11264];
-    let checked = dictionary::learn_names(dictionary, &mut index);
-    let good = checked.good;
-    let names = checked.names;
-    if !good {
-        return refusal(BAD_DICTIONARY);
-    }
+    let names = dictionary::learn_names(dictionary, &mut index).ok_or(Refusal::BadDictionary)?;
     if MOST_BYTES < document.len() {
-        return refusal(TOO_LONG);
+        return Err(Refusal::TooLong);
     }
     read_rows(
         dictionary, document, names, &mut index, label, size, start, length,
@@ -114,20 +71,26 @@ pub fn read(
 }
 
 // Codes 2 to 5: what is noted on the way is not looked at.
-fn verdict(document: &[u8]) -> Judged
-    ensures { Verdict document.now result.code result.place result.rows }
+fn verdict(document: &[u8]) -> Result<u32, Refusal>
+    ensures { Verdict document.now (code_of result) (place_of result) (rows_of result) }
 {
     if MOST_BYTES < document.len() {
-        return refusal(TOO_LONG);
+        return Err(Refusal::TooLong);
     }
-    let mut starts = [0u16; 2052];
-    let mut lengths = [0u16; 2052];
-    let mut sizes = [0u16; 2052];
-    match note(document, &mut starts, &mut lengths, &mut sizes) {
-        Noted::Outside(place) => outside(place),
-        Noted::Beyond => judge(document),
-        Noted::Rows(rows) => accepted(rows),
+    let mut notes = RowLists::new();
+    match note(document, &mut notes) {
+        Ok(rows) => Ok(rows as u32),
+        Err(Unread::Outside(place)) => Err(outside(place)),
+        Err(Unread::Beyond) => judge(document),
     }
+}
+
+// Code 1 too.
+fn answer(dictionary: &[u8], document: &[u8]) -> Result<u32, Refusal>
+    ensures { ReaderAnswer dictionary.now document.now 2048 (code_of result) (place_of result) (rows_of result) }
+{
+    dictionary::check(dictionary).ok_or(Refusal::BadDictionary)?;
+    verdict(document)
 }
 
 // What the site's server asks: code times 4,294,967,296 plus the place or the rows.
@@ -136,11 +99,8 @@ const CODE: u64 = 4294967296;
 pub fn check(dictionary: &[u8], document: &[u8]) -> u64
     ensures { DocumentChecked dictionary.now document.now result }
 {
-    let checked = dictionary::check(dictionary);
-    let good = checked.good;
-    if !good {
-        return wider(BAD_DICTIONARY) * CODE;
+    match answer(dictionary, document) {
+        Ok(rows) => u64::from(rows),
+        Err(refusal) => u64::from(u32::from(refusal)) * CODE + u64::from(refusal.place()),
     }
-    let judged = verdict(document);
-    wider(judged.code) * CODE + (wider(judged.place) + wider(judged.rows))
 }

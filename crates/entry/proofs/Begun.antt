@@ -1,6 +1,6 @@
 -- The first walk, before any choice, and what the search begins with.
 use Prim.Native.Nat.{ℕ, ◌+◌, ◌*◌, ◌<◌, ◌≤◌}
-use mathlib.Core.Path.{◌≡◌, ap, ◌∙◌}
+use mathlib.Core.Path.{◌≡◌, refl, ap, ◌∙◌}
 use mathlib.Core.List.{List, []}
 use lib.ListN.{length, take, set, replicate, length-replicate}
 use lib.Seq.{paste}
@@ -17,8 +17,10 @@ use Rattle.walk.specs.Above.{Marks}
 use Rattle.walk.specs.Cycle.{stop_at}
 use Rattle.walk.specs.Onward as onward
 use Rattle.walk.specs.Taken.{Answers}
-use Rattle.walk.specs.declared.Out.{Out}
-use Rattle.walk.specs.declared.Out.TheVariants as answer
+use Rattle.std.specs.Prelude.{Result, Ok, Err}
+use Rattle.walk.specs.declared.Halt.{Halt}
+use Rattle.meaning.specs.declared.endings.Ending.TheVariants.{All, Room}
+use Rattle.walk.specs.declared.Halt.TheVariants as halt
 use Rattle.walk.proofs.Answered.{failed, matched}
 use Rattle.choice.specs.Stops.{many, StopAt, AtStop, LeastPost, ValuesPost}
 use Rattle.choice.proofs.Stops.{at_room}
@@ -32,13 +34,15 @@ use Rattle.search.specs.declared.Found.{Found}
 use Rattle.levels.proofs.Going.{is_fixed, Asks, asks_stop, asks_values, asks_level}
 use Rattle.levels.proofs.First.{first_asked, first_marks, first_long, first_answered, first_asks}
 use Rattle.levels.proofs.Pauses.{pauses_none}
-use Rattle.levels.specs.Columns.{places, variables, starts, rows, nexts, lefts, Entered}
+use Rattle.levels.specs.declared.Level.{Level}
+use Rattle.levels.specs.Columns.{places, variables, starts, rows, nexts, lefts, unentered, Entered}
 use Rattle.levels.proofs.Columns.{first_level}
 use Rattle.entry.specs.Begun.{BeginAsked, BeginPre, BeginPost}
+use Rattle.letters.specs.declared.Tables.{Tables}
 
 -- the first walk was made: its answer o, the record R' and the rows A'
-pub record Begun (L S M tables : List ℕ)
-    (room width : ℕ) (before R' A' : List ℕ) (o : Out) : Type 0 where
+pub record Begun (L S M : List ℕ) (tables : Tables)
+    (room width : ℕ) (before R' A' : List ℕ) (o : Result ℕ Halt) : Type 0 where
   pub R : List ℕ
   pub A : List ℕ
   pub long : length R ≡ 32
@@ -46,7 +50,12 @@ pub record Begun (L S M tables : List ℕ)
   pub pre : BeginPre L S M tables room width before
   pub walked : onward.BeginPost L S M R A o R' A'
 
-module _ {L S M tables : List ℕ} {room width : ℕ} {before : List ℕ} where
+-- from a record of zeros
+pub begun : {L S M : List ℕ} {tables : Tables} {room width : ℕ} {before R' A' : List ℕ} {o : Result ℕ Halt} → BeginPre L S M tables room width before
+    → onward.BeginPost L S M (replicate 32 0) (replicate 256 0) o R' A' → Begun L S M tables room width before R' A' o
+begun pre walked = record { R = replicate 32 0; A = replicate 256 0; long = refl; rows_long = refl; pre = pre; walked = walked }
+
+module _ {L S M : List ℕ} {tables : Tables} {room width : ℕ} {before : List ℕ} where
   fixed : {T : Term} {P : Pattern} {Q : List Kind} {es : List Expression} {cs : List Constraint} (a : BeginAsked L S M tables room width before T P Q es cs)
       → Fixed (walked (Allowed cs) (allowed? cs) a.search.pattern.numbered T) (count Q) (size T) width room before
   fixed a = is_fixed a.search a.wide a.fits
@@ -54,7 +63,7 @@ module _ {L S M tables : List ℕ} {room width : ℕ} {before : List ℕ} where
   pub walk_asked : {R A : List ℕ} → BeginPre L S M tables room width before → length R ≡ 32 → length A ≡ 256 → onward.BeginPre L S M R A
   walk_asked p h l = let s = p.some in record { some = (s.0, s.1, s.2, first_asked s.5.search h l) }
 
-  module _ {R' A' : List ℕ} {o : Out} (b : Begun L S M tables room width before R' A' o) where
+  module _ {R' A' : List ℕ} {o : Result ℕ Halt} (b : Begun L S M tables room width before R' A' o) where
     abbrev Asked : Term → Pattern → List Kind → List Expression → List Constraint → Type 0
     Asked = BeginAsked L S M tables room width before
 
@@ -68,15 +77,15 @@ module _ {L S M tables : List ℕ} {room width : ℕ} {before : List ℕ} where
     walked_long : length R' ≡ 32
     walked_long = first_long b.pre.some.5.search b.long b.rows_long b.walked
 
-    pub begun_fail : {budget : ℕ} → o ≡ answer.Fail → Post budget (record { ending = 0; records = 0; tries = 0 }) before
+    pub begun_fail : {budget : ℕ} → o ≡ (Err halt.Fail) → Post budget (record { ending = All; records = 0; tries = 0 }) before
     begun_fail {budget} e = record { all = λ T P Q es cs a. first_fail (fixed a) budget (ap outcome (failed (rw e at (answered a)))) }
 
-    module _ {n : ℕ} (e : o ≡ answer.Ok n) where
+    module _ {n : ℕ} (e : o ≡ Ok n) where
       said : {T : Term} {P : Pattern} {Q : List Kind} {es : List Expression} {cs : List Constraint} (a : Asked T P Q es cs)
           → (B : List Entry) × (walk (Allowed cs) (allowed? cs) P T [] ≡ ok B []) × (take (length (numbers B)) R' ≡ numbers B)
       said a = matched (rw e at (answered a))
 
-      pub begun_full : {budget : ℕ} → room ≡ 0 → Post budget (record { ending = 1; records = 0; tries = 0 }) before
+      pub begun_full : {budget : ℕ} → room ≡ 0 → Post budget (record { ending = Room; records = 0; tries = 0 }) before
       begun_full {budget} f = record { all = λ T P Q es cs a. let d = said a in first_full (fixed a) budget (numbers d.0) (ap outcome d.1) f }
 
       pub begun_put : (room ≡ 0 → ⊥) → (width ≤ 32) × (length R' ≡ 32) × (0 + width ≤ length before)
@@ -84,10 +93,10 @@ module _ {L S M tables : List ℕ} {room width : ℕ} {before : List ℕ} where
           let a = b.pre.some.5 in
           (omega (arith, a.wide, a.search.allowing.few), walked_long, omega (arith, first_room (fixed a) f))
 
-      pub begun_done : {budget : ℕ} → (room ≡ 0 → ⊥) → Post budget (record { ending = 0; records = 1; tries = 0 }) (paste before 0 R' width)
+      pub begun_done : {budget : ℕ} → (room ≡ 0 → ⊥) → Post budget (record { ending = All; records = 1; tries = 0 }) (paste before 0 R' width)
       begun_done {budget} f = record { all = λ T P Q es cs a. let d = said a in first_done (fixed a) budget (numbers d.0) R' (ap outcome d.1) d.2 f }
 
-    module _ {p x s : ℕ} (e : o ≡ answer.Need (stop_at p x s)) where
+    module _ {p x s : ℕ} (e : o ≡ Err (halt.Need (stop_at p x s))) where
       -- no choice is made, and no level stands yet
       abbrev none : List ℕ
       none = replicate 256 0
@@ -148,8 +157,8 @@ module _ {L S M tables : List ℕ} {room width : ℕ} {before : List ℕ} where
             let h = b.pre.some in
             record { record_long = walked_long; some = (h.0, h.1, h.2, h.3, h.4, none, asked h.5) }
 
-        -- the levels in one list
-        module _ {W : List ℕ} (w : Entered (replicate 1536 0) 0 p x s lo n W) where
+        -- the levels of the code
+        module _ {W : List Level} (w : Entered (replicate 256 unentered) 0 p x s lo n W) where
           pub go_asked : GoPre L S M tables room width R' A' (places W) (variables W) (starts W) (rows W) (nexts W) (lefts W) 1 before
           go_asked =
               let f = first_level w in

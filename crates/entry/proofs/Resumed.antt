@@ -7,35 +7,29 @@ use Rattle.meaning.specs.Forest.{Term}
 use Rattle.meaning.specs.Pattern.{Pattern, Kind}
 use Rattle.expression.specs.Expression.{Expression}
 use Rattle.constraint.specs.Obeys.{Constraint}
+use Rattle.levels.specs.declared.Level.{Level}
 use Rattle.levels.specs.Columns.{places, variables, starts, rows, nexts, lefts}
 use Rattle.page.specs.Page.{ReachPre, Arrived, ReachPost, nowhere, reached}
-use Rattle.page.specs.declared.Reached.{Reached}
-use Rattle.page.specs.declared.Reached.TheVariants.{Nowhere, At}
+use Rattle.std.specs.Prelude.{Some, None}
 use Rattle.search.specs.Search.{GoAsked, GoPre, GoPost}
 use Rattle.search.specs.declared.Found.{Found}
 use Rattle.entry.specs.Resumed.{ResumeAsked, ResumePre, ResumePost, not_there, from_there}
-use Rattle.entry.specs.declared.Paged.TheVariants.{NoMatcher, Page}
+use Rattle.letters.specs.declared.Tables.{Tables}
 
-module _ {L S M tables list : List ℕ} {room width : ℕ} {before : List ℕ} where
-  pub reach_asked : {R A W : List ℕ} → ResumePre L S M tables list room width before → length R ≡ 32 → length A ≡ 256 → length W ≡ 1536 → ReachPre L S M tables list R A W
+module _ {L S M : List ℕ} {tables : Tables} {list : List ℕ} {room width : ℕ} {before : List ℕ} where
+  pub reach_asked : {R A : List ℕ} {W : List Level} → ResumePre L S M tables list room width before → length R ≡ 32 → length A ≡ 256 → length W ≡ 256 → ReachPre L S M tables list R A W
   reach_asked p r a w =
       let s = p.some in
       record { record_long = r; rows_long = a; levels_long = w; some = (s.0, s.1, s.2, s.3, s.4, s.5.asked) }
 
-  module _ {R A W : List ℕ} where
-    pub resumed_nowhere : {budget : ℕ} {o : Reached} → ReachPost L S M tables list R A W o → o ≡ Nowhere → ResumePost L S M tables list budget room width before before NoMatcher
-    resumed_nowhere {budget} post e = go (rw e at post)
-      where
-        go : ReachPost L S M tables list R A W Nowhere → ResumePost L S M tables list budget room width before before NoMatcher
-        go (nowhere n) = not_there refl (λ T P Q es cs a i. n T P Q es cs a.asked i)
+  module _ {R A : List ℕ} {W : List Level} where
+    pub resumed_nowhere : {budget : ℕ} → ReachPost L S M tables list R A W None → ResumePost L S M tables list budget room width before before None
+    resumed_nowhere (nowhere n) = not_there refl (λ T P Q es cs a i. n T P Q es cs a.asked i)
 
-pub arrived : {L S M tables list R A W : List ℕ} {depth : ℕ} {o : Reached} → ReachPost L S M tables list R A W o → o ≡ At depth → Arrived L S M tables list R A W depth
-arrived {L} {S} {M} {tables} {list} {R} {A} {W} post e = go (rw e at post)
-  where
-    go : {depth : ℕ} → ReachPost L S M tables list R A W (At depth) → Arrived L S M tables list R A W depth
-    go (reached r) = r
+pub arrived : {L S M : List ℕ} {tables : Tables} {list R A : List ℕ} {W : List Level} {depth : ℕ} → ReachPost L S M tables list R A W (Some depth) → Arrived L S M tables list R A W depth
+arrived (reached r) = r
 
-module _ {L S M tables list : List ℕ} {room width : ℕ} {before R A W : List ℕ} {depth : ℕ} (at : Arrived L S M tables list R A W depth) where
+module _ {L S M : List ℕ} {tables : Tables} {list : List ℕ} {room width : ℕ} {before R A : List ℕ} {W : List Level} {depth : ℕ} (at : Arrived L S M tables list R A W depth) where
   asked : {T : Term} {P : Pattern} {Q : List Kind} {es : List Expression} {cs : List Constraint} (a : ResumeAsked L S M tables list room width before T P Q es cs)
       → GoAsked L S M tables room width R A (places W) (variables W) (starts W) (rows W) (nexts W) (lefts W) depth before T P Q es cs (at.each T P Q es cs a.asked).vals
   asked {T} {P} {Q} {es} {cs} a =
@@ -48,7 +42,7 @@ module _ {L S M tables list : List ℕ} {room width : ℕ} {before R A W : List 
       record { record_long = at.record_long; some = (s.0, s.1, s.2, s.3, s.4, _, asked s.5) }
 
   pub resumed_page : {budget : ℕ} {f : Found} {after : List ℕ} → GoPost L S M tables budget room width R A (places W) (variables W) (starts W) (rows W) (nexts W) (lefts W) depth before f after
-      → ResumePost L S M tables list budget room width before after (Page f)
+      → ResumePost L S M tables list budget room width before after (Some f)
   resumed_page go =
       from_there
       (λ T P Q es cs a.

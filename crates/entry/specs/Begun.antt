@@ -10,21 +10,23 @@ use Rattle.catalogue.proofs.Events.{events}
 use Rattle.catalogue.proofs.Fill.{fill}
 use Rattle.catalogue.proofs.Whole.{walked}
 use Rattle.levels.specs.Levels.{Search}
+use Rattle.meaning.specs.Ending.{number}
 use Rattle.search.specs.declared.Found.{Found}
+use Rattle.letters.specs.declared.Tables.{Tables}
 
-pub record BeginAsked (L S M tables : List ℕ) (room width : ℕ) (before : List ℕ)
+pub record BeginAsked (L S M : List ℕ) (tables : Tables) (room width : ℕ) (before : List ℕ)
     (T : Term) (P : Pattern) (Q : List Kind) (es : List Expression) (cs : List Constraint) : Type 0 where
   pub search : Search L S M tables T P Q es cs
   pub wide : width ≡ length Q + length Q
   pub fits : room * width ≤ length before
 
-pub record BeginPre (L S M tables : List ℕ) (room width : ℕ) (before : List ℕ) : Type 0 where
+pub record BeginPre (L S M : List ℕ) (tables : Tables) (room width : ℕ) (before : List ℕ) : Type 0 where
   pub some : (T : Term) × (P : Pattern) × (Q : List Kind) × (es : List Expression) × (cs : List Constraint)
       × BeginAsked L S M tables room width before T P Q es cs
 
 -- the list is filled as all events of the walk fill it
-pub record BeginPost (L S M tables : List ℕ) (budget room width : ℕ) (before : List ℕ) (r : Found) (after : List ℕ) : Type 0 where
+pub record BeginPost (L S M : List ℕ) (tables : Tables) (budget room width : ℕ) (before : List ℕ) (r : Found) (after : List ℕ) : Type 0 where
   pub all : (T : Term) (P : Pattern) (Q : List Kind) (es : List Expression) (cs : List Constraint)
       → (a : BeginAsked L S M tables room width before T P Q es cs)
       → fill budget room width 0 0 before (events (walked (Allowed cs) (allowed? cs) a.search.pattern.numbered T) (count Q) [])
-      ≡ record { ending = r.ending; records = r.records; tries = r.tries; out = after }
+      ≡ record { ending = number r.ending; records = r.records; tries = r.tries; out = after }

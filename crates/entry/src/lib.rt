@@ -1,34 +1,37 @@
 // How the search is entered: from its first walk on, before any choice; or from the levels that stand at a record.
 #![tactic(auto)]
 
+ghost use Rattle.walk.specs.Packed.{numbers_of};
 ghost use Rattle.entry.specs.Begun.{BeginPre, BeginPost};
 ghost use Rattle.entry.specs.Resumed.{ResumePre, ResumePost};
 
-use meaning::endings::{ALL, ROOM};
+use letters::Tables;
+use meaning::endings::Ending;
 use search::{Found, Limits};
+use tree::Tree;
+use walk::{Halt, PatternRow};
 
 // The search from its first walk on, before any choice.
 pub fn begin(
-    label: &[u32],
-    size: &[u32],
-    pattern: &[u32; 1536],
-    tables: &[u64; 320],
+    tree: &Tree,
+    pattern: &[PatternRow; 256],
+    tables: &Tables,
     budget: u32,
     room: usize,
     width: usize,
     out: &mut [u32],
 ) -> Found
-    requires { BeginPre label.now size.now pattern.now tables.now room width out.old }
-    ensures { BeginPost label.now size.now pattern.now tables.now budget room width out.old result out.new }
+    requires { BeginPre tree.now.label.now tree.now.size.now (numbers_of pattern.now) tables.now room width out.old }
+    ensures { BeginPost tree.now.label.now tree.now.size.now (numbers_of pattern.now) tables.now budget room width out.old result out.new }
 {
     let mut record = [0u32; 32];
     let mut at = [0usize; 256];
-    match walk::begin(label, size, pattern, &mut record, &mut at) {
-        walk::Out::Fail => search::ended(ALL, 0, 0),
-        walk::Out::Need(w) => {
-            let mut levels = [0usize; 1536];
+    match walk::begin(tree, pattern, &mut record, &mut at) {
+        Err(Halt::Fail) => search::ended(Ending::All, 0, 0),
+        Err(Halt::Need(w)) => {
+            let mut levels = [levels::UNENTERED; 256];
             let least = choice::least(pattern, w.place, w.start);
-            let values = choice::values(size, pattern, &at, w.place, w.start);
+            let values = choice::values(tree.size, pattern, &at, w.place, w.start);
             levels::enter(&mut levels, 0, w, least, values);
             let limits = Limits {
                 budget,
@@ -36,8 +39,7 @@ pub fn begin(
                 width,
             };
             search::go(
-                label,
-                size,
+                tree,
                 pattern,
                 tables,
                 limits,
@@ -48,37 +50,29 @@ pub fn begin(
                 out,
             )
         }
-        walk::Out::Ok(_) => {
+        Ok(_) => {
             if room == 0 {
-                return search::ended(ROOM, 0, 0);
+                return search::ended(Ending::Room, 0, 0);
             }
             search::put(out, 0, &record, width);
-            search::ended(ALL, 1, 0)
+            search::ended(Ending::All, 1, 0)
         }
     }
 }
 
-// What the search comes to from a record on, if it is that of a matcher.
-#[derive(Drop)]
-pub enum Paged {
-    NoMatcher,
-    Page(Found),
-}
-
-// The search from the levels that stand at a record.
+// The search from the levels that stand at a record, if it is that of a matcher.
 pub fn resume(
-    label: &[u32],
-    size: &[u32],
-    pattern: &[u32; 1536],
-    tables: &[u64; 320],
+    tree: &Tree,
+    pattern: &[PatternRow; 256],
+    tables: &Tables,
     list: &[u32],
     budget: u32,
     room: usize,
     width: usize,
     out: &mut [u32],
-) -> Paged
-    requires { ResumePre label.now size.now pattern.now tables.now list.now room width out.old }
-    ensures { ResumePost label.now size.now pattern.now tables.now list.now budget room width out.old out.new result }
+) -> Option<Found>
+    requires { ResumePre tree.now.label.now tree.now.size.now (numbers_of pattern.now) tables.now list.now room width out.old }
+    ensures { ResumePost tree.now.label.now tree.now.size.now (numbers_of pattern.now) tables.now list.now budget room width out.old out.new result }
 {
     let limits = Limits {
         budget,
@@ -87,29 +81,25 @@ pub fn resume(
     };
     let mut record = [0u32; 32];
     let mut at = [0usize; 256];
-    let mut levels = [0usize; 1536];
-    match page::reach(
-        label,
-        size,
+    let mut levels = [levels::UNENTERED; 256];
+    let depth = page::reach(
+        tree,
         pattern,
         tables,
         list,
         &mut record,
         &mut at,
         &mut levels,
-    ) {
-        page::Reached::Nowhere => Paged::NoMatcher,
-        page::Reached::At(depth) => Paged::Page(search::go(
-            label,
-            size,
-            pattern,
-            tables,
-            limits,
-            &mut record,
-            &mut at,
-            &mut levels,
-            depth,
-            out,
-        )),
-    }
+    )?;
+    Some(search::go(
+        tree,
+        pattern,
+        tables,
+        limits,
+        &mut record,
+        &mut at,
+        &mut levels,
+        depth,
+        out,
+    ))
 }

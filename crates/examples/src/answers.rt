@@ -1,126 +1,129 @@
-// One function for each word: it hands the line's lists to the check or the test of that name, and prints the answer.
-use lines::lists::part;
+// One function for each word: it hands the line's lists to the check or the test of that name. None where there are more lists or fewer than it takes.
+use expression::Table;
+use meaning::Refusal;
+use pattern::Pattern;
+use problem::Problem;
 use std::io;
+use tree::Tree;
+
+fn tree(lists: &[Vec<u32>]) -> Option<bool> {
+    let [label, size] = lists else {
+        return None;
+    };
+    Some(tree::good(&Tree { label, size }))
+}
+
+fn pattern(lists: &[Vec<u32>]) -> Option<bool> {
+    let [kind, name, size] = lists else {
+        return None;
+    };
+    Some(pattern::check(&Pattern { kind, name, size }).good)
+}
+
+fn expression(lists: &[Vec<u32>]) -> Option<bool> {
+    let [kind, name, size] = lists else {
+        return None;
+    };
+    Some(expression::good(&Table { kind, name, size }))
+}
+
+fn constraint(lists: &[Vec<u32>]) -> Option<bool> {
+    let [
+        kind,
+        name,
+        size,
+        table_kind,
+        table_name,
+        table_size,
+        constraint,
+    ] = lists
+    else {
+        return None;
+    };
+    let pattern = Pattern { kind, name, size };
+    let table = Table {
+        kind: table_kind,
+        name: table_name,
+        size: table_size,
+    };
+    Some(constraint::good(&pattern, &table, constraint))
+}
+
+fn record(lists: &[Vec<u32>]) -> Option<bool> {
+    let [label, size, kind, name, pattern_size, record] = lists else {
+        return None;
+    };
+    let pattern = Pattern {
+        kind,
+        name,
+        size: pattern_size,
+    };
+    Some(record::good(&Tree { label, size }, &pattern, record))
+}
+
+fn test(lists: &[Vec<u32>]) -> Option<Result<bool, Refusal>> {
+    let [
+        label,
+        size,
+        kind,
+        name,
+        pattern_size,
+        table_kind,
+        table_name,
+        table_size,
+        constraint,
+        record,
+    ] = lists
+    else {
+        return None;
+    };
+    let problem = Problem {
+        tree: Tree { label, size },
+        pattern: Pattern {
+            kind,
+            name,
+            size: pattern_size,
+        },
+        table: Table {
+            kind: table_kind,
+            name: table_name,
+            size: table_size,
+        },
+        constraint,
+    };
+    Some(test::test(&problem, record))
+}
 
 pub fn unreadable(rt: &impl Print) -> io::Result<()> {
     println!(rt; ": cannot be read")
 }
 
-fn checked(rt: &impl Print, good: bool) -> io::Result<()> {
-    if good {
-        println!(rt; ": good")
-    } else {
-        println!(rt; ": bad")
+fn checked(rt: &impl Print, good: Option<bool>) -> io::Result<()> {
+    match good {
+        Some(true) => println!(rt; ": good"),
+        Some(false) => println!(rt; ": bad"),
+        None => unreadable(rt),
     }
 }
 
-fn refused(rt: &impl Print, problem: u32) -> io::Result<()> {
-    println!(rt; ": refused {problem}")
-}
-
-fn tested(rt: &impl Print, answer: test::Tested) -> io::Result<()> {
+fn tested(rt: &impl Print, answer: Option<Result<bool, Refusal>>) -> io::Result<()> {
     match answer {
-        test::Tested::Refused(problem) => refused(rt, problem),
-        test::Tested::Yes => println!(rt; ": yes"),
-        test::Tested::No => println!(rt; ": no"),
+        Some(Err(refusal)) => println!(rt; ": refused {}", u32::from(refusal)),
+        Some(Ok(true)) => println!(rt; ": yes"),
+        Some(Ok(false)) => println!(rt; ": no"),
+        None => unreadable(rt),
     }
 }
 
-fn tree(rt: &impl Print, numbers: &[u32], ends: &[usize]) -> io::Result<()> {
-    if ends.len() != 2 {
-        return unreadable(rt);
-    }
-    let good = tree::good(part(numbers, ends, 0), part(numbers, ends, 1));
-    checked(rt, good)
-}
-
-fn pattern(rt: &impl Print, numbers: &[u32], ends: &[usize]) -> io::Result<()> {
-    if ends.len() != 3 {
-        return unreadable(rt);
-    }
-    let found = pattern::check(
-        part(numbers, ends, 0),
-        part(numbers, ends, 1),
-        part(numbers, ends, 2),
-    );
-    checked(rt, found.good)
-}
-
-fn expression(rt: &impl Print, numbers: &[u32], ends: &[usize]) -> io::Result<()> {
-    if ends.len() != 3 {
-        return unreadable(rt);
-    }
-    let good = expression::good(
-        part(numbers, ends, 0),
-        part(numbers, ends, 1),
-        part(numbers, ends, 2),
-    );
-    checked(rt, good)
-}
-
-fn constraint(rt: &impl Print, numbers: &[u32], ends: &[usize]) -> io::Result<()> {
-    if ends.len() != 7 {
-        return unreadable(rt);
-    }
-    let good = constraint::good(
-        part(numbers, ends, 0),
-        part(numbers, ends, 1),
-        part(numbers, ends, 2),
-        part(numbers, ends, 3),
-        part(numbers, ends, 4),
-        part(numbers, ends, 5),
-        part(numbers, ends, 6),
-    );
-    checked(rt, good)
-}
-
-fn record(rt: &impl Print, numbers: &[u32], ends: &[usize]) -> io::Result<()> {
-    if ends.len() != 6 {
-        return unreadable(rt);
-    }
-    let good = record::good(
-        part(numbers, ends, 0),
-        part(numbers, ends, 1),
-        part(numbers, ends, 2),
-        part(numbers, ends, 3),
-        part(numbers, ends, 4),
-        part(numbers, ends, 5),
-    );
-    checked(rt, good)
-}
-
-fn test(rt: &impl Print, numbers: &[u32], ends: &[usize]) -> io::Result<()> {
-    if ends.len() != 10 {
-        return unreadable(rt);
-    }
-    let answer = test::test(
-        part(numbers, ends, 0),
-        part(numbers, ends, 1),
-        part(numbers, ends, 2),
-        part(numbers, ends, 3),
-        part(numbers, ends, 4),
-        part(numbers, ends, 5),
-        part(numbers, ends, 6),
-        part(numbers, ends, 7),
-        part(numbers, ends, 8),
-        part(numbers, ends, 9),
-    );
-    tested(rt, answer)
-}
-
-// Prints the answer to a line with this word and these lists. The arms are in the order of the words.
-pub fn answer(rt: &impl Print, word: &[u8], numbers: &[u32], ends: &[usize]) -> io::Result<()> {
-    match lines::fields::place(
-        b"tree pattern expression constraint record test",
-        b' ',
-        word,
-    ) {
-        0 => tree(rt, numbers, ends),
-        1 => pattern(rt, numbers, ends),
-        2 => expression(rt, numbers, ends),
-        3 => constraint(rt, numbers, ends),
-        4 => record(rt, numbers, ends),
-        5 => test(rt, numbers, ends),
+// Prints the answer to a line with this word and these lists.
+pub fn answer(rt: &impl Print, word: &[u8], lists: &[Vec<u32>]) -> io::Result<()> {
+    match word {
+        b"tree" => checked(rt, tree(lists)),
+        b"pattern" => checked(rt, pattern(lists)),
+        b"expression" => checked(rt, expression(lists)),
+        b"constraint" => checked(rt, constraint(lists)),
+        b"record" => checked(rt, record(lists)),
+        b"test" => tested(rt, test(lists)),
         _ => unreadable(rt),
     }
 }

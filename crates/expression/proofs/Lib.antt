@@ -3,6 +3,6 @@ pub mod Stands
 pub mod Placed
 pub mod Columns
 pub mod Small
-pub mod Table
+pub mod Tables
 pub mod Unique
 pub mod Places

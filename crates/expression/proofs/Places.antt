@@ -11,7 +11,7 @@ use Rattle.expression.specs.Rows.{GoodTable, StartsAt}
 use Rattle.expression.specs.Columns.{rows, preorder, size_rows}
 use Rattle.expression.proofs.Columns.{table_long}
 use Rattle.expression.proofs.Placed.{rows_positive, rows_many, total, all_many, Placed, Laid}
-use Rattle.expression.proofs.Table.{PlacedIn, kind_length, good_laid}
+use Rattle.expression.proofs.Tables.{PlacedIn, kind_length, good_laid}
 use Rattle.expression.specs.Rule.{number_at}
 
 pub place_total : {es : List Expression} {e : Expression} {row : ℕ} (s : StartsAt es e row) → row ≡ total s.before

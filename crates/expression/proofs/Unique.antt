@@ -7,7 +7,7 @@ use Rattle.expression.specs.Expression.{Expression, symbol, empty, concatenation
 use Rattle.expression.specs.Rows.{GoodTable}
 use Rattle.expression.specs.Columns.{rows}
 use Rattle.expression.proofs.Placed.{rows_positive, total, Placed, Laid, placed_size}
-use Rattle.expression.proofs.Table.{kind_length, good_laid}
+use Rattle.expression.proofs.Tables.{kind_length, good_laid}
 use Rattle.expression.specs.Rule.{number_at}
 
 abbrev node : ℕ → ℕ → Expression → Expression → Expression

@@ -1,4 +1,4 @@
-// The kinds of an expression table's rows.
+// The kinds of an expression table's rows: numbers and no enum, since they stand in lists that C lends.
 pub const SYMBOL: u32 = 0;
 
 pub const EMPTY: u32 = 1;

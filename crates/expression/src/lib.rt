@@ -10,7 +10,14 @@ ghost use Rattle.expression.specs.Rule.{number_at, NameFits, SizeFits};
 pub mod kinds;
 
 use kinds::{REPETITION, SYMBOL};
-use meaning::wide;
+
+// An expression table as it is lent: the kind, the name and the size of each row, whole expressions one after another in preorder.
+#[derive(Clone, Copy)]
+pub struct Table<'a> {
+    pub kind: &'a [u32],
+    pub name: &'a [u32],
+    pub size: &'a [u32],
+}
 
 // Whether a row of this kind may have this name.
 fn named(kind: u32, name: u32) -> bool
@@ -29,7 +36,7 @@ fn sized(kind: &[u32], size: &[u32], row: usize) -> bool
 {
     let n = kind.len();
     let k = kind[row];
-    let own = wide(size[row]);
+    let own = size[row] as usize;
     if 5 <= k {
         return false;
     }
@@ -40,7 +47,7 @@ fn sized(kind: &[u32], size: &[u32], row: usize) -> bool
     if n <= l {
         return false;
     }
-    let left = wide(size[l]);
+    let left = size[l] as usize;
     if k == REPETITION {
         return own == left + 1;
     }
@@ -48,33 +55,31 @@ fn sized(kind: &[u32], size: &[u32], row: usize) -> bool
     if n <= r {
         return false;
     }
-    let right = wide(size[r]);
+    let right = size[r] as usize;
     own == left + right + 1
 }
 
 // Code 13: whether the three lists are whole expressions one after another, within the limits.
-pub fn good(kind: &[u32], name: &[u32], size: &[u32]) -> bool
-    ensures { Says result ((es : List Expression) × GoodTable kind.now name.now size.now es) }
+pub fn good(table: &Table) -> bool
+    ensures { Says result ((es : List Expression) × GoodTable table.now.kind.now table.now.name.now table.now.size.now es) }
 {
-    let n = kind.len();
+    let n = table.kind.len();
     if 64 < n {
         return false;
     }
-    if name.len() != n {
+    if table.name.len() != n {
         return false;
     }
-    if size.len() != n {
+    if table.size.len() != n {
         return false;
     }
-    let mut i = 0;
-    while i < n {
-        if !named(kind[i], name[i]) {
+    for i in 0..n {
+        if !named(table.kind[i], table.name[i]) {
             return false;
         }
-        if !sized(kind, size, i) {
+        if !sized(table.kind, table.size, i) {
             return false;
         }
-        i += 1;
     }
     true
 }
@@ -89,7 +94,7 @@ pub fn starts(size: &[u32], row: usize) -> bool
         if row <= at {
             return row == at;
         }
-        at += wide(size[at]);
+        at += size[at] as usize;
     }
     false
 }

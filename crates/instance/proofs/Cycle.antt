@@ -15,16 +15,10 @@ use Rattle.instance.specs.Pieces.{IndividualPre, IndividualPost, SequencePre, Se
 use Rattle.instance.specs.Cycle.{TermPre, TermPost, HeadedPre}
 use Rattle.instance.proofs.Glue.{written_both, written_head, written_none, same_room, part_room, hole_room, term_row, is_individual, is_context, is_headed, is_nil, is_sequence, is_cons}
 
--- a term that is a context variable x
-pub record AtContext (L S K N Z W OL OS : List ℕ) (p t x : ℕ) : Type 0 where
+-- a term that is a context variable
+pub record AtContext (L S K N Z W OL OS : List ℕ) (p t : ℕ) : Type 0 where
   pub pre : TermPre L S K N Z W OL OS p t
   pub kind : get_or K p 0 ≡ 4
-  pub name : x ≡ get_or N p 0
-
--- a term with a symbol or a function variable as its head, and its arguments up to the row e
-pub record AtHead (L S K N Z W OL OS : List ℕ) (p t e : ℕ) : Type 0 where
-  pub asked : HeadedPre L S K N Z W OL OS p t
-  pub next : e ≡ p + get_or Z p 0
 
 -- the instances of the arguments from p up to e are to be written from t on
 pub record ArgumentsPre (L S K N Z W OL OS : List ℕ) (p e t : ℕ) : Type 0 where
@@ -43,12 +37,11 @@ pub record Writing (L S K N Z W OL OS : List ℕ) (p e t : ℕ) (NL NS : List �
   pub labelled : length NL ≡ length OL
   pub sized : length NS ≡ length OS
 
--- arguments of which a sequence variable x is the first
-pub record AtSequence (L S K N Z W OL OS : List ℕ) (p e t x : ℕ) : Type 0 where
+-- arguments of which a sequence variable is the first
+pub record AtSequence (L S K N Z W OL OS : List ℕ) (p e t : ℕ) : Type 0 where
   pub pre : ArgumentsPre L S K N Z W OL OS p e t
   pub more : p ≢ e
   pub kind : get_or K p 0 ≡ 2
-  pub name : x ≡ get_or N p 0
 
 -- arguments of which a term is the first
 pub record AtTerm (L S K N Z W OL OS : List ℕ) (p e t : ℕ) : Type 0 where
@@ -76,68 +69,68 @@ module _ {L S K N Z W OL OS : List ℕ} {p t : ℕ} where
         }
 
   -- a context variable: the row of its hole, what fills the hole, and what stands around
-  module _ {x : ℕ} (place : AtContext L S K N Z W OL OS p t x) where
-    pub filling_pre : length OL < 18446744073709551616 → FillingPre W x t
+  module _ (place : AtContext L S K N Z W OL OS p t) where
+    pub filling_pre : length OL < 18446744073709551616 → FillingPre W (get_or N p 0) t
     unfolding apply
     filling_pre m =
         let s = place.pre.some in
         let i = is_context s.4 place.kind in
         let r = rw i.1 at s.5 in
         let l = hole_room (as_context (at (meant W s.0 s.1) (get_or N p 0))) (apply (meant W s.0 s.1) i.0) in
-        rw place.name (record { some = (L, S, s.0, s.1, s.3, i.2, omega (arith, r.labelled, l)) })
+        record { some = (L, S, s.0, s.1, s.3, i.2, omega (arith, r.labelled, l)) }
 
     pub under_falls : (get_or Z p 0 ≡ suc (get_or Z (p + 1) 0)) × (p < length K)
     under_falls = ((is_context place.pre.some.4 place.kind).3, (term_row place.pre.some.4).0)
 
-    module _ {f : ℕ} (o : FillingPost W x t f) where
+    module _ {f : ℕ} (o : FillingPost W (get_or N p 0) t f) where
       pub under_pre : TermPre L S K N Z W OL OS (p + 1) f
       unfolding apply
       under_pre =
           let s = place.pre.some in
           let i = is_context s.4 place.kind in
           let r = rw i.1 at s.5 in
-          let z = (rw place.name at o).is L S s.0 s.1 s.3 i.2 in
+          let z = o.is L S s.0 s.1 s.3 i.2 in
           let l = hole_room (as_context (at (meant W s.0 s.1) (get_or N p 0))) (apply (meant W s.0 s.1) i.0) in
           record { some = (s.0, s.1, i.0, s.3, i.4, part_room r (omega arith) (omega arith)) }
 
       module _ {e : ℕ} {NL NS : List ℕ} (u : TermPost L S K N Z W OL OS (p + 1) f e NL NS) where
-        pub context_pre : length NL ≡ length OL → length NS ≡ length OS → ContextPre L S W NL NS x t f e
+        pub context_pre : length NL ≡ length OL → length NS ≡ length OS → ContextPre L S W NL NS (get_or N p 0) t f e
         unfolding apply
         context_pre a b =
             let s = place.pre.some in
             let i = is_context s.4 place.kind in
             let r = rw i.1 at s.5 in
-            let z = (rw place.name at o).is L S s.0 s.1 s.3 i.2 in
+            let z = o.is L S s.0 s.1 s.3 i.2 in
             let y = (u.is s.0 s.1 i.0 s.3 i.4).0 in
-            rw place.name (record { some = (s.0, s.1, apply (meant W s.0 s.1) i.0, s.3, i.2, z, y, same_room a b r) })
+            record { some = (s.0, s.1, apply (meant W s.0 s.1) i.0, s.3, i.2, z, y, same_room a b r) }
 
-        pub context_post : {r : ℕ} {ML MS : List ℕ} → ContextPost L S W NL NS x t f e r ML MS → TermPost L S K N Z W OL OS p t r ML MS
+        pub context_post : {r : ℕ} {ML MS : List ℕ} → ContextPost L S W NL NS (get_or N p 0) t f e r ML MS → TermPost L S K N Z W OL OS p t r ML MS
         unfolding apply
         context_post {r} {ML} {MS} h =
             record {
               is = λ Q R q g a.
                   let i = is_context a place.kind in
                   let y = u.is Q R i.0 g i.4 in
-                  let z = (rw place.name at o).is L S Q R g i.2 in
-                  rw i.1 ((rw place.name at h).is Q R (apply (meant W Q R) i.0) OL OS g i.2 z y.0 y.1);
+                  let z = o.is L S Q R g i.2 in
+                  rw i.1 (h.is Q R (apply (meant W Q R) i.0) OL OS g i.2 z y.0 y.1);
             }
 
   -- a symbol or a function variable: its arguments, and then its row
-  module _ {last : ℕ} (place : AtHead L S K N Z W OL OS p t last) where
-    pub below_pre : ArgumentsPre L S K N Z W OL OS (p + 1) last (t + 1)
+  module _ (asked : HeadedPre L S K N Z W OL OS p t) where
+    pub below_pre : ArgumentsPre L S K N Z W OL OS (p + 1) (p + get_or Z p 0) (t + 1)
     below_pre =
-        let s = place.asked.pre.some in
-        let i = is_headed (meant W s.0 s.1) s.4 place.asked.not_individual place.asked.not_context in
+        let s = asked.pre.some in
+        let i = is_headed (meant W s.0 s.1) s.4 asked.not_individual asked.not_context in
         let r = rw i.is at s.5 in
-        rw place.next (record { some = (s.0, s.1, i.arguments, s.3, i.placed, part_room r (omega arith) (omega arith)) })
+        record { some = (s.0, s.1, i.arguments, s.3, i.placed, part_room r (omega arith) (omega arith)) }
 
-    module _ {e : ℕ} {NL NS : List ℕ} (u : ArgumentsPost L S K N Z W OL OS (p + 1) last (t + 1) e NL NS) where
+    module _ {e : ℕ} {NL NS : List ℕ} (u : ArgumentsPost L S K N Z W OL OS (p + 1) (p + get_or Z p 0) (t + 1) e NL NS) where
       pub head_pre : length NL ≡ length OL → length NS ≡ length OS → HeadPre L K N W NL NS p t e
       head_pre a b =
-          let s = place.asked.pre.some in
-          let i = is_headed (meant W s.0 s.1) s.4 place.asked.not_individual place.asked.not_context in
+          let s = asked.pre.some in
+          let i = is_headed (meant W s.0 s.1) s.4 asked.not_individual asked.not_context in
           let r = rw i.is at s.5 in
-          let x = ((rw place.next at u).is s.0 s.1 i.arguments s.3 i.placed).0 in
+          let x = (u.is s.0 s.1 i.arguments s.3 i.placed).0 in
           let w = term_row s.4 in
           record {
             in_kind = w.0;
@@ -151,8 +144,8 @@ module _ {L S K N Z W OL OS : List ℕ} {p t : ℕ} where
       head_post {ML} {MS} h =
           record {
             is = λ Q R q g a.
-                let i = is_headed (meant W Q R) a place.asked.not_individual place.asked.not_context in
-                let x = (rw place.next at u).is Q R i.arguments g i.placed in
+                let i = is_headed (meant W Q R) a asked.not_individual asked.not_context in
+                let x = u.is Q R i.arguments g i.placed in
                 let z : e - t ≡ suc (rows (apply_all (meant W Q R) i.arguments)) = omega (arith, x.0) in
                 rw i.is (omega (arith, x.0), written_head i.label (apply_all (meant W Q R) i.arguments) x.1 (h.labelled S Q R i.label g i.head) (rw z at h.sized));
           }
@@ -169,17 +162,17 @@ module _ {L S K N Z W OL OS : List ℕ} {p e t : ℕ} where
       }
 
   -- a sequence variable first
-  module _ {x : ℕ} (place : AtSequence L S K N Z W OL OS p e t x) where
-    pub sequence_pre : SequencePre L S W OL OS x t
+  module _ (place : AtSequence L S K N Z W OL OS p e t) where
+    pub sequence_pre : SequencePre L S W OL OS (get_or N p 0) t
     unfolding apply_all
     sequence_pre =
         let s = place.pre.some in
         let i = is_sequence s.4 place.more place.kind in
         let r = rw i.1 at s.5 in
         let z = rows_of (as_forest (at (meant W s.0 s.1) (get_or N p 0))) (apply_all (meant W s.0 s.1) i.0) in
-        rw place.name (record { some = (s.0, s.1, s.3, i.2, part_room r (omega arith) (omega arith)) })
+        record { some = (s.0, s.1, s.3, i.2, part_room r (omega arith) (omega arith)) }
 
-    module _ {f : ℕ} {NL NS : List ℕ} (u : SequencePost L S W OL OS x t f NL NS) where
+    module _ {f : ℕ} {NL NS : List ℕ} (u : SequencePost L S W OL OS (get_or N p 0) t f NL NS) where
       pub behind_pre : length NL ≡ length OL → length NS ≡ length OS → ArgumentsPre L S K N Z W NL NS (p + 1) e f
       unfolding apply_all
       behind_pre a b =
@@ -187,7 +180,7 @@ module _ {L S K N Z W OL OS : List ℕ} {p e t : ℕ} where
           let i = is_sequence s.4 place.more place.kind in
           let r = rw i.1 at s.5 in
           let z = rows_of (as_forest (at (meant W s.0 s.1) (get_or N p 0))) (apply_all (meant W s.0 s.1) i.0) in
-          let y = ((rw place.name at u).is s.0 s.1 s.3 i.2).0 in
+          let y = (u.is s.0 s.1 s.3 i.2).0 in
           record { some = (s.0, s.1, i.0, s.3, i.3, part_room (same_room a b r) (omega arith) (omega arith)) }
 
       pub behind_post : {r : ℕ} {ML MS : List ℕ} → ArgumentsPost L S K N Z W NL NS (p + 1) e f r ML MS → ArgumentsPost L S K N Z W OL OS p e t r ML MS
@@ -197,7 +190,7 @@ module _ {L S K N Z W OL OS : List ℕ} {p e t : ℕ} where
             is = λ Q R ps g a.
                 let i = is_sequence a place.more place.kind in
                 let v = as_forest (at (meant W Q R) (get_or N p 0)) in
-                let w = (rw place.name at u).is Q R g i.2 in
+                let w = u.is Q R g i.2 in
                 let y = h.is Q R i.0 g i.3 in
                 rw i.1 (omega (arith, w.0, y.0, rows_of v (apply_all (meant W Q R) i.0)), written_both v (apply_all (meant W Q R) i.0) w.1 w.0 y.1);
           }
@@ -247,7 +240,7 @@ module _ {L S K N Z W OL OS : List ℕ} {p e t : ℕ} where
     writing_done z = w.then u NL NS (end_post z)
 
     module _ {f : ℕ} {ML MS : List ℕ} (a : length ML ≡ length NL) (b : length MS ≡ length NS) where
-      pub writing_sequence : {x : ℕ} → AtSequence L S K N Z W NL NS q e u x → SequencePost L S W NL NS x u f ML MS → Writing L S K N Z W OL OS p e t ML MS (q + 1) f
+      pub writing_sequence : AtSequence L S K N Z W NL NS q e u → SequencePost L S W NL NS (get_or N q 0) u f ML MS → Writing L S K N Z W OL OS p e t ML MS (q + 1) f
       writing_sequence place o =
           record {
             later = omega (arith, w.later);

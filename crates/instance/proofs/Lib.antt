@@ -8,6 +8,6 @@ pub mod Sums
 pub mod Rows
 pub mod Glue
 pub mod Cycle
-pub mod Packs
 pub mod Whole
 pub mod Promises
+pub mod Longer

@@ -1,6 +1,6 @@
 -- The promises: the contract settles the answer and both lists, and for the record of a matcher the instance is the tree.
 use Prim.Native.Nat.{ℕ, ◌<◌, ◌≤◌}
-use mathlib.Core.Path.{◌≡◌, refl, ap, ap₂, ◌∙◌, sym}
+use mathlib.Core.Path.{◌≡◌, ap, ap₂, ◌∙◌, sym}
 use mathlib.Core.Logic.{inl, inr}
 use mathlib.Core.List.{List, ◌++◌}
 use lib.ListN.{length, drop}
@@ -16,8 +16,9 @@ use Rattle.meaning.proofs.Means.{matcher_means}
 use Rattle.tree.specs.Rows.{labels, sizes, GoodTree}
 use Rattle.tree.proofs.Unique.{good_lengths}
 use Rattle.pattern.specs.Rows.{GoodPattern}
-use Rattle.instance.specs.declared.Made.{Made}
-use Rattle.instance.specs.declared.Made.TheVariants.{Refused, Rows}
+use Rattle.std.specs.Prelude.{Result, Ok, Err}
+use Rattle.meaning.specs.declared.refusal.Refusal.{Refusal}
+use Rattle.meaning.proofs.Refusals.{code_some, one_refusal}
 use Rattle.instance.specs.Instance.{code_given, rows_given, InstanceLists, Instance, InstanceCodes, InstanceSettled}
 use Rattle.instance.proofs.Whole.{one_instance}
 
@@ -27,14 +28,14 @@ one_code l m n a b =
     one_refuse 11 _ _ a b λ a b. one_refuse 12 _ _ a b λ a b. one_refuse 15 _ _ a b λ a b. one_refuse 16 _ _ a b λ a b. one_refuse 17 _ accept a b one_accept
 
 -- the two numbers tell the answers apart, where an instance has rows
-one_number : (r s : Made) → code_given r ≡ code_given s → rows_given r ≡ rows_given s → (code_given r ≡ 0 → 0 < rows_given r) → r ≡ s
-one_number (Refused a) (Refused b) p q h = ap Refused p
-one_number (Refused a) (Rows n) p q h = absurd (omega (arith, h p))
-one_number (Rows m) (Refused b) p q h = absurd (omega (arith, h refl))
-one_number (Rows m) (Rows n) p q h = ap Rows q
+one_number : (r s : Result ℕ Refusal) → code_given r ≡ code_given s → rows_given r ≡ rows_given s → (code_given r ≡ 0 → 0 < rows_given r) → r ≡ s
+one_number (Err a) (Err b) p q h = ap Err (one_refusal a b p)
+one_number (Err a) (Ok n) p q h = absurd (code_some a p)
+one_number (Ok m) (Err b) p q h = absurd (code_some b (sym p))
+one_number (Ok m) (Ok n) p q h = ap Ok q
 
 -- the answer and both lists afterwards are settled
-pub one_making : (l : InstanceLists) (OL OS : List ℕ) (r s : Made) (NL NS XL XS : List ℕ) → InstanceSettled l OL OS r NL NS → InstanceSettled l OL OS s XL XS → (r ≡ s) × (NL ≡ XL) × (NS ≡ XS)
+pub one_making : (l : InstanceLists) (OL OS : List ℕ) (r s : Result ℕ Refusal) (NL NS XL XS : List ℕ) → InstanceSettled l OL OS r NL NS → InstanceSettled l OL OS s XL XS → (r ≡ s) × (NL ≡ XL) × (NS ≡ XS)
 one_making l OL OS r s NL NS XL XS x y = go (ℕ_discrete (code_given r) 0)
   where
     same : code_given r ≡ code_given s
@@ -82,25 +83,25 @@ accepted_code {U = U} i h a b c (inr (_, inr (_, inr (_, inr (_, inl (x, _))))))
 accepted_code i h a b c (inr (_, inr (_, inr (_, inr (_, inr (_, e)))))) = e
 
 -- an instance is written where it fits
-pub instance_made : (l : InstanceLists) (OL OS : List ℕ) (r : Made) (NL NS : List ℕ) (U : Term) → Instance l U → size U ≤ 2048 → size U ≤ length OL → size U ≤ length OS → InstanceSettled l OL OS r NL NS
-    → (r ≡ Rows (size U)) × (NL ≡ labels (U ◂ none) ++ drop (size U) OL) × (NS ≡ sizes (U ◂ none) ++ drop (size U) OS)
+pub instance_made : (l : InstanceLists) (OL OS : List ℕ) (r : Result ℕ Refusal) (NL NS : List ℕ) (U : Term) → Instance l U → size U ≤ 2048 → size U ≤ length OL → size U ≤ length OS → InstanceSettled l OL OS r NL NS
+    → (r ≡ Ok (size U)) × (NL ≡ labels (U ◂ none) ++ drop (size U) OL) × (NS ≡ sizes (U ◂ none) ++ drop (size U) OS)
 instance_made l OL OS r NL NS U i h a b s =
     let e = accepted_code i h a b (code_given r) s.coded in
     let x = s.accepted e in
     let u = one_instance x.its i in (
-      one_number r (Rows (size U)) e (x.answered ∙ ap size u) (λ _. omega (arith, x.answered)),
+      one_number r (Ok (size U)) e (x.answered ∙ ap size u) (λ _. omega (arith, x.answered)),
       x.labelled ∙ ap (λ (X : Term). labels (X ◂ none) ++ drop (size X) OL) u,
       x.sized ∙ ap (λ (X : Term). sizes (X ◂ none) ++ drop (size X) OS) u,
     )
 
 -- for the record of a matcher that is the tree
-pub matcher_made : (Allowed : ℕ → Value → Type 0) (allowed? : (x : ℕ) (v : Value) → Dec (Allowed x v)) (l : InstanceLists) (T : Term) (P : Pattern) (Q : List Kind) (OL OS : List ℕ) (r : Made) (NL NS : List ℕ)
+pub matcher_made : (Allowed : ℕ → Value → Type 0) (allowed? : (x : ℕ) (v : Value) → Dec (Allowed x v)) (l : InstanceLists) (T : Term) (P : Pattern) (Q : List Kind) (OL OS : List ℕ) (r : Result ℕ Refusal) (NL NS : List ℕ)
     → GoodTree l.label l.size T → GoodPattern l.kind l.name l.pattern_size P Q → IsRecord Allowed Q P T l.numbers → InstanceSettled l OL OS r NL NS
     → length l.label ≤ length OL → length l.label ≤ length OS
-    → (r ≡ Rows (length l.label)) × (NL ≡ l.label ++ drop (length l.label) OL) × (NS ≡ l.size ++ drop (length l.label) OS)
+    → (r ≡ Ok (length l.label)) × (NL ≡ l.label ++ drop (length l.label) OL) × (NS ≡ l.size ++ drop (length l.label) OS)
 unfolding rows
 matcher_made Allowed allowed? l T P Q OL OS r NL NS t p m s a b =
     let n = good_lengths t in
     let z : size T ≡ length l.label = omega (arith, n.0) in
     let x = instance_made l OL OS r NL NS T (matcher_instance Allowed allowed? t p m) (omega (arith, t.few)) (omega arith) (omega arith) s in
-    (x.0 ∙ ap Rows z, x.1 ∙ ap₂ (λ (xs : List ℕ) (k : ℕ). xs ++ drop k OL) (sym t.labelled) z, x.2 ∙ ap₂ (λ (xs : List ℕ) (k : ℕ). xs ++ drop k OS) (sym t.sized) z)
+    (x.0 ∙ ap Ok z, x.1 ∙ ap₂ (λ (xs : List ℕ) (k : ℕ). xs ++ drop k OL) (sym t.labelled) z, x.2 ∙ ap₂ (λ (xs : List ℕ) (k : ℕ). xs ++ drop k OS) (sym t.sized) z)

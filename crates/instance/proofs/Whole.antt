@@ -2,7 +2,7 @@
 use Prim.Native.Nat.{ℕ, ◌<◌, ◌≤◌}
 use mathlib.Core.Path.{◌≡◌, refl, ap, ◌∙◌, sym}
 use mathlib.Core.Logic.{◌⊎◌, inl, inr}
-use mathlib.Core.Bool.{Bool, false}
+use mathlib.Core.Bool.{Bool, true, false}
 use mathlib.Core.List.{List}
 use lib.ListN.{length, get_or}
 use native.Mathlib.Omega.{arith}
@@ -15,20 +15,27 @@ use Rattle.meaning.proofs.Means.{means_read}
 use Rattle.tree.specs.Rows.{labels, sizes, GoodRows}
 use Rattle.tree.proofs.Lists.{labels_rows, sizes_rows}
 use Rattle.tree.proofs.Unique.{unique, good_lengths}
+use Rattle.tree.specs.declared.Tree.{Tree}
 use Rattle.pattern.specs.Rows.{GoodPatternRows}
+use Rattle.pattern.specs.Answer.{PatternSettled}
+use Rattle.pattern.specs.declared.Checked.{Checked}
+use Rattle.pattern.specs.declared.Pattern.{Pattern as PatternRows}
 use Rattle.pattern.specs.Lists.{kind_tree, name_tree}
 use Rattle.pattern.proofs.Unique.{kind_sizes, one_pattern, one_list}
 use Rattle.pattern.proofs.Placed.{good_placed}
 use Rattle.record.specs.Good.{GoodRecordList}
-use Rattle.record.proofs.Whole.{tree_at}
-use Rattle.instance.specs.declared.Made.TheVariants.{Refused, Rows}
-use Rattle.instance.specs.Instance.{InstanceLists, Instance, InstanceCodes, InstanceSettled}
+use Rattle.record.specs.Pairs.{RecordPost}
+use Rattle.record.proofs.Whole.{tree_at, record_judged}
+use Rattle.std.specs.Prelude.{Ok, Err}
+use Rattle.meaning.specs.Refusal.{code}
+use Rattle.meaning.specs.declared.refusal.Refusal.{Refusal}
+use Rattle.meaning.specs.declared.refusal.Refusal.TheVariants as refusals
+use Rattle.meaning.proofs.Refusals.{code_some}
+use Rattle.instance.specs.Instance.{InstanceLists, lists_of, Instance, InstanceCodes, InstanceSettled}
 use Rattle.instance.specs.Places.{Ground, Written}
 use Rattle.instance.specs.Counting.{RowsPre, RowsPost}
-use Rattle.instance.specs.Packed.{PackPre, Packed}
-use Rattle.instance.specs.Cycle.{TermAsks, TermGives}
+use Rattle.instance.specs.Cycle.{TermPre, TermPost}
 use Rattle.instance.proofs.Writes.{sets_whole}
-use Rattle.instance.proofs.Packs.{packed_pre, packed_post}
 
 -- the values that the record means are those that are read off the tree
 read_of : {l : InstanceLists} {U : Term} (i : Instance l U) → U ≡ apply (read_off i.kinds (i.tree ◂ none) l.numbers) i.pattern
@@ -46,20 +53,26 @@ one_instance {l} x y =
 pub its_instance : (l : InstanceLists) (g : GoodRecordList l.label l.size l.kind l.name l.pattern_size l.numbers) → Instance l (apply g.3 g.1)
 its_instance l g = record { tree = g.0; pattern = g.1; kinds = g.2; values = g.3; good_tree = g.4; good_pattern = g.5; meant = g.6; is = refl }
 
+-- where the three checks have passed, the lists have one
+pub found : (tree : Tree) (pattern : PatternRows) (numbers : List ℕ) {checked : Checked} {fits : Bool} → GoodRows tree.label.now tree.size.now
+    → PatternSettled pattern.kind.now pattern.name.now pattern.size.now checked → checked.good ≡ true
+    → RecordPost tree.size.now checked.kinds checked.variables numbers fits → fits ≡ true → (U : Term) × Instance (lists_of tree pattern numbers) U
+found tree pattern numbers rows settled e post f = (_, its_instance (lists_of tree pattern numbers) ((record_judged rows settled e post).0 f))
+
 -- a refusal
-refusal : (l : InstanceLists) (OL OS : List ℕ) (c : ℕ) → 0 < c → InstanceCodes l (length OL) (length OS) c → InstanceSettled l OL OS (Refused c) OL OS
-refusal l OL OS c h x = record { coded = x; accepted = λ e. absurd (omega arith); refused = λ _. (refl, refl, refl) }
+refusal : (l : InstanceLists) (OL OS : List ℕ) (e : Refusal) → InstanceCodes l (length OL) (length OS) (code e) → InstanceSettled l OL OS (Err e) OL OS
+refusal l OL OS e x = record { coded = x; accepted = λ z. absurd (code_some e z); refused = λ _. (refl, refl, refl) }
 
 module _ (l : InstanceLists) (OL OS : List ℕ) where
-  pub refused_tree : {r : Bool} → Says r (GoodRows l.label l.size) → r ≡ false → InstanceSettled l OL OS (Refused 11) OL OS
-  refused_tree s e = refusal l OL OS 11 (omega arith) (inl (said_no s e, refl))
+  pub refused_tree : {r : Bool} → Says r (GoodRows l.label l.size) → r ≡ false → InstanceSettled l OL OS (Err refusals.Tree) OL OS
+  refused_tree s e = refusal l OL OS refusals.Tree (inl (said_no s e, refl))
 
-  pub refused_pattern : {r : Bool} → GoodRows l.label l.size → Says r (GoodPatternRows l.kind l.name l.pattern_size) → r ≡ false → InstanceSettled l OL OS (Refused 12) OL OS
-  refused_pattern t s e = refusal l OL OS 12 (omega arith) (inr (t, inl (said_no s e, refl)))
+  pub refused_pattern : {r : Bool} → GoodRows l.label l.size → Says r (GoodPatternRows l.kind l.name l.pattern_size) → r ≡ false → InstanceSettled l OL OS (Err refusals.Pattern) OL OS
+  refused_pattern t s e = refusal l OL OS refusals.Pattern (inr (t, inl (said_no s e, refl)))
 
   pub refused_record : {r : Bool} → GoodRows l.label l.size → GoodPatternRows l.kind l.name l.pattern_size
-      → Says r (GoodRecordList l.label l.size l.kind l.name l.pattern_size l.numbers) → r ≡ false → InstanceSettled l OL OS (Refused 15) OL OS
-  refused_record t p s e = refusal l OL OS 15 (omega arith) (inr (t, inr (p, inl (said_no s e, refl))))
+      → Says r (GoodRecordList l.label l.size l.kind l.name l.pattern_size l.numbers) → r ≡ false → InstanceSettled l OL OS (Err refusals.Record) OL OS
+  refused_record t p s e = refusal l OL OS refusals.Record (inr (t, inr (p, inl (said_no s e, refl))))
 
   module _ {U : Term} (i : Instance l U) where
     -- the lists are good
@@ -74,18 +87,18 @@ module _ (l : InstanceLists) (OL OS : List ℕ) where
     as_large : {X : Term} → Instance l X → size X ≡ size U
     as_large j = ap size (one_instance j i)
 
-    pub refused_rows : 2048 < size U → InstanceSettled l OL OS (Refused 16) OL OS
-    refused_rows h = refusal l OL OS 16 (omega arith) (passed 16 (inl (λ x. omega (arith, x.2, as_large x.1), refl)))
+    pub refused_rows : 2048 < size U → InstanceSettled l OL OS (Err refusals.TooLarge) OL OS
+    refused_rows h = refusal l OL OS refusals.TooLarge (passed 16 (inl (λ x. omega (arith, x.2, as_large x.1), refl)))
 
-    pub refused_room : size U ≤ 2048 → (length OL < size U) ⊎ (length OS < size U) → InstanceSettled l OL OS (Refused 17) OL OS
-    refused_room h g = refusal l OL OS 17 (omega arith) (passed 17 (inr ((U, i, h), inl (too_narrow g, refl))))
+    pub refused_room : size U ≤ 2048 → (length OL < size U) ⊎ (length OS < size U) → InstanceSettled l OL OS (Err refusals.NoRoom) OL OS
+    refused_room h g = refusal l OL OS refusals.NoRoom (passed 17 (inr ((U, i, h), inl (too_narrow g, refl))))
       where
         too_narrow : (length OL < size U) ⊎ (length OS < size U) → (X : Term) × Instance l X × (size X ≤ length OL) × (size X ≤ length OS) → ⊥
         too_narrow (inl g) (X, j, a, b) = omega (arith, as_large j)
         too_narrow (inr g) (X, j, a, b) = omega (arith, as_large j)
 
     -- the instance is written
-    pub made_whole : {n : ℕ} {NL NS : List ℕ} → size U ≤ 2048 → size U ≤ length OL → size U ≤ length OS → n ≡ size U → Written OL OS NL NS 0 (U ◂ none) → InstanceSettled l OL OS (Rows n) NL NS
+    pub made_whole : {n : ℕ} {NL NS : List ℕ} → size U ≤ 2048 → size U ≤ length OL → size U ≤ length OS → n ≡ size U → Written OL OS NL NS 0 (U ◂ none) → InstanceSettled l OL OS (Ok n) NL NS
     unfolding rows
     made_whole {n} {NL} {NS} h a b z w =
         record {
@@ -107,7 +120,7 @@ module _ {l : InstanceLists} {U : Term} (i : Instance l U) where
   ground = record { tree = tree_at i.good_tree; few = omega (arith, i.good_tree.few, (good_lengths i.good_tree).1); good = (means_read i.meant).0 }
 
   -- the pattern's lists are as long as its root's size
-  long : (length l.name ≡ length l.kind) × (get_or l.pattern_size 0 0 ≡ length l.kind) × (length l.pattern_size ≡ length l.kind)
+  long : (length l.name ≡ length l.kind) × (get_or l.pattern_size 0 0 ≡ length l.kind)
   unfolding sizes rows
   long =
       let P = i.pattern in
@@ -116,13 +129,7 @@ module _ {l : InstanceLists} {U : Term} (i : Instance l U) where
       let n = ap length g.names ∙ labels_rows (name_tree P) in
       let s = sym (sizes_rows (kind_tree P)) ∙ ap length (kind_sizes P) ∙ sizes_rows (name_tree P) in
       let z = ap (λ (xs : List ℕ). get_or xs 0 0) g.sized in
-      let m = ap length g.sized ∙ sizes_rows (name_tree P) in
-      (omega arith, omega arith, omega arith)
-
-  pub pack_pre : {M : List ℕ} → length M ≡ 768 → PackPre l.kind l.name l.pattern_size M
-  pack_pre r =
-      let f = i.good_pattern.few in
-      record { kinds = f; names = omega (arith, f, long.0); sizes = omega (arith, f, long.2); room = r }
+      (omega arith, omega arith)
 
   pub rows_pre : RowsPre l.size l.kind l.name l.numbers
   rows_pre =
@@ -136,22 +143,20 @@ module _ {l : InstanceLists} {U : Term} (i : Instance l U) where
   rows_is p =
       p.is l.label i.kinds (i.tree ◂ none) l.pattern_size i.pattern ground (good_placed i.good_pattern) long.1 ∙ sym (ap size (read_of i))
 
-  module _ {M : List ℕ} (m : Packed l.kind l.name l.pattern_size M) where
-    pub term_whole : {OL OS : List ℕ} → size U ≤ 2048 → size U ≤ length OL → size U ≤ length OS → TermAsks l.label l.size M l.numbers OL OS 0 0
-    term_whole h a b =
-        let z = ap size (read_of i) in
-        packed_pre m
-        (record {
-          some = (
-            i.kinds,
-            i.tree ◂ none,
-            i.pattern,
-            ground,
-            good_placed i.good_pattern,
-            record { labelled = omega arith; sized = omega arith; few = omega arith },
-          );
-        })
+  pub term_whole : {OL OS : List ℕ} → size U ≤ 2048 → size U ≤ length OL → size U ≤ length OS
+      → TermPre l.label l.size l.kind l.name l.pattern_size l.numbers OL OS 0 0
+  term_whole h a b =
+      let z = ap size (read_of i) in
+      record {
+        some = (
+          i.kinds,
+          i.tree ◂ none,
+          i.pattern,
+          ground,
+          good_placed i.good_pattern,
+          record { labelled = omega arith; sized = omega arith; few = omega arith },
+        );
+      }
 
-    pub written_whole : {OL OS NL NS : List ℕ} {r : ℕ} → TermGives l.label l.size M l.numbers OL OS 0 0 r NL NS → Written OL OS NL NS 0 (U ◂ none)
-    written_whole {OL} {OS} {NL} {NS} p =
-        rw (read_of i) ((packed_post m p).is i.kinds (i.tree ◂ none) i.pattern ground (good_placed i.good_pattern)).1
+  pub written_whole : {OL OS NL NS : List ℕ} {r : ℕ} → TermPost l.label l.size l.kind l.name l.pattern_size l.numbers OL OS 0 0 r NL NS → Written OL OS NL NS 0 (U ◂ none)
+  written_whole {OL} {OS} {NL} {NS} p = rw (read_of i) (p.is i.kinds (i.tree ◂ none) i.pattern ground (good_placed i.good_pattern)).1

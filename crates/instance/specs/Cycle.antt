@@ -5,7 +5,6 @@ use Rattle.meaning.specs.Pattern.{Pattern, Kind}
 use Rattle.meaning.specs.Matcher.{apply}
 use Rattle.pattern.specs.Places.{PatternAt}
 use Rattle.instance.specs.Places.{Ground, meant, Room, Written}
-use Rattle.instance.specs.Packed.{names_of, sizes_of}
 
 -- the instance of the pattern at row p is written from t on; the answer is the row behind
 pub record TermPre (L S K N Z W OL OS : List ℕ) (p t : ℕ) : Type 0 where
@@ -20,13 +19,3 @@ pub record HeadedPre (L S K N Z W OL OS : List ℕ) (p t : ℕ) : Type 0 where
   pub pre : TermPre L S K N Z W OL OS p t
   pub not_individual : get_or K p 0 ≢ 1
   pub not_context : get_or K p 0 ≢ 4
-
--- the same where the pattern is packed
-abbrev pub TermAsks : (L S M W OL OS : List ℕ) (p t : ℕ) → Type 0
-TermAsks L S M = TermPre L S M (names_of M) (sizes_of M)
-
-abbrev pub TermGives : (L S M W OL OS : List ℕ) (p t r : ℕ) (NL NS : List ℕ) → Type 0
-TermGives L S M = TermPost L S M (names_of M) (sizes_of M)
-
-abbrev pub HeadedAsks : (L S M W OL OS : List ℕ) (p t : ℕ) → Type 0
-HeadedAsks L S M = HeadedPre L S M (names_of M) (sizes_of M)

@@ -1,25 +1,27 @@
 -- 01, "What a matcher is": "The instance maker writes labels and sizes of the pattern under a record and answers its rows. It takes no
 -- constraints and looks at none." And "Numbers and order of checks": the codes 11, 12 and 15 to 17; "a refusal writes nothing".
-use Rattle.std.specs.Prelude.{ℕ, ◌≤◌, ◌≡◌, List, ◌++◌, length, drop}
+use Rattle.std.specs.Prelude.{ℕ, ◌≤◌, ◌≡◌, List, ◌++◌, length, drop, Result, Ok, Err}
 use Rattle.meaning.specs.Forest.{none, Term, ◌◂◌, size}
 use Rattle.meaning.specs.Pattern.{Pattern, Kind}
 use Rattle.meaning.specs.Matcher.{Value, apply}
 use Rattle.meaning.specs.Means.{RecordMeans}
 use Rattle.meaning.specs.Calls.{refuse, accept}
+use Rattle.meaning.specs.Refusal.{code}
+use Rattle.meaning.specs.declared.refusal.Refusal.{Refusal}
 use Rattle.tree.specs.Rows.{labels, sizes, GoodTree, GoodRows}
 use Rattle.pattern.specs.Rows.{GoodPattern, GoodPatternRows}
 use Rattle.record.specs.Good.{GoodRecordList}
-use Rattle.instance.specs.declared.Made.{Made}
-use Rattle.instance.specs.declared.Made.TheVariants.{Refused, Rows}
+use Rattle.tree.specs.declared.Tree.{Tree}
+use Rattle.pattern.specs.declared.Pattern.{Pattern as PatternRows}
 
 -- the answer as 01's two numbers: the code, and the rows, which are 0 in a refusal
-abbrev pub code_given : Made → ℕ
-code_given (Refused c) = c
-code_given (Rows n) = 0
+abbrev pub code_given : Result ℕ Refusal → ℕ
+code_given (Ok rows) = 0
+code_given (Err e) = code e
 
-abbrev pub rows_given : Made → ℕ
-rows_given (Refused c) = 0
-rows_given (Rows n) = n
+abbrev pub rows_given : Result ℕ Refusal → ℕ
+rows_given (Ok rows) = rows
+rows_given (Err e) = 0
 
 -- the lists that are read: a tree, a pattern, a record
 pub record InstanceLists : Type 0 where
@@ -32,6 +34,9 @@ pub record InstanceLists : Type 0 where
 
 abbrev pub lists : (label size kind name pattern_size numbers : List ℕ) → InstanceLists
 lists l s k n z r = record { label = l; size = s; kind = k; name = n; pattern_size = z; numbers = r }
+
+abbrev pub lists_of : Tree → PatternRows → List ℕ → InstanceLists
+lists_of tree pattern numbers = lists tree.label.now tree.size.now pattern.kind.now pattern.name.now pattern.size.now numbers
 
 -- U is the pattern under the substitution that the record means: a repeated variable has one value, that of its record
 pub record Instance (l : InstanceLists) (U : Term) : Type 0 where
@@ -55,7 +60,7 @@ InstanceCodes l label_room size_room =
     accept))))
 
 -- the instance is made: its rows are answered and written, and the entries after them are unchanged
-pub record MadeOf (l : InstanceLists) (out_label out_size : List ℕ) (r : Made) (new_label new_size : List ℕ) : Type 0 where
+pub record MadeOf (l : InstanceLists) (out_label out_size : List ℕ) (r : Result ℕ Refusal) (new_label new_size : List ℕ) : Type 0 where
   pub made : Term
   pub its : Instance l made
   pub answered : rows_given r ≡ size made
@@ -63,7 +68,7 @@ pub record MadeOf (l : InstanceLists) (out_label out_size : List ℕ) (r : Made)
   pub sized : new_size ≡ sizes (made ◂ none) ++ drop (size made) out_size
 
 -- the answer and the two lent lists afterwards, on all inputs; a refusal has no rows and writes nothing
-pub record InstanceSettled (l : InstanceLists) (out_label out_size : List ℕ) (r : Made) (new_label new_size : List ℕ) : Type 0 where
+pub record InstanceSettled (l : InstanceLists) (out_label out_size : List ℕ) (r : Result ℕ Refusal) (new_label new_size : List ℕ) : Type 0 where
   pub coded : InstanceCodes l (length out_label) (length out_size) (code_given r)
   pub accepted : code_given r ≡ 0 → MadeOf l out_label out_size r new_label new_size
   pub refused : (code_given r ≡ 0 → ⊥) → (rows_given r ≡ 0) × (new_label ≡ out_label) × (new_size ≡ out_size)

@@ -1,6 +1,5 @@
 pub mod Instance
 pub mod Places
 pub mod Pieces
-pub mod Packed
 pub mod Cycle
 pub mod Counting

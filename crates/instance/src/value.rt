@@ -1,23 +1,41 @@
 // What is written of one value: its rows copied, and for a context what stands around its hole.
-ghost use Rattle.std.specs.Prelude.{◌≡◌};
+ghost use Rattle.std.specs.Prelude.{◌≡◌, ◌+◌};
 ghost use Rattle.std.proofs.lemmas.List.Edits.{sets};
 ghost use Rattle.instance.specs.Places.{along, number, resized};
 ghost use Rattle.instance.specs.Pieces.{CopyPre, ResizedPre, AbovePre, AroundPre, AroundPost, IndividualPre, IndividualPost, SequencePre, SequencePost, FillingPre, FillingPost, ContextPre, ContextPost, HeadPre, HeadPost};
-ghost use Rattle.instance.specs.Packed.{names_of};
 
-use super::packed::{kind, name};
 use meaning::kinds::SYMBOL;
+use pattern::Pattern;
+use tree::Tree;
 
 // Copies so many numbers, to the places from `to` on.
-pub fn copy(list: &[u32], from: usize, count: usize, out: &mut [u32], to: usize)
+fn copy(list: &[u32], from: usize, count: usize, out: &mut [u32], to: usize)
     requires { CopyPre list.now out.old from count to }
     ensures { out.new ≡ sets out.old to (along (number list.now) from count) }
 {
-    let mut i = 0;
-    while i < count {
-        out[to + i] = list[from + i];
-        i += 1;
-    }
+    out[to..to + count].copy_from_slice(&list[from..from + count]);
+}
+
+// Copies so many rows, to the rows from `to` on, and answers the row behind them.
+// The two lists that are written stay two parameters, here and in all that call it: into a struct of two `&mut` a function could put other
+// lists, so that each clause had to say besides that it holds the same two (their ghost names) and that they are as long as before.
+fn copy_rows(
+    tree: &Tree,
+    from: usize,
+    count: usize,
+    to: usize,
+    out_label: &mut [u32],
+    out_size: &mut [u32],
+) -> usize
+    requires labels { CopyPre tree.now.label.now out_label.old from count to }
+    requires sizes { CopyPre tree.now.size.now out_size.old from count to }
+    ensures labels { out_label.new ≡ sets out_label.old to (along (number tree.now.label.now) from count) }
+    ensures sizes { out_size.new ≡ sets out_size.old to (along (number tree.now.size.now) from count) }
+    ensures end { result ≡ to + count }
+{
+    copy(tree.label, from, count, out_label, to);
+    copy(tree.size, from, count, out_size, to);
+    to + count
 }
 
 // The size of a row where the term at the hole, of so many rows, has made place for another.
@@ -46,17 +64,14 @@ fn copy_above(
     requires { AbovePre size.now out.old from count hole taken filled to }
     ensures { out.new ≡ sets out.old to (along (resized size.now hole taken filled) from count) }
 {
-    let mut i = 0;
-    while i < count {
+    for i in 0..count {
         out[to + i] = resized(size, hole, taken, filled, from + i);
-        i += 1;
     }
 }
 
 // Writes what stands around the hole of the context from `start` to `hole`, where the hole is filled already.
 fn around(
-    label: &[u32],
-    size: &[u32],
+    tree: &Tree,
     start: usize,
     hole: usize,
     to: usize,
@@ -64,60 +79,53 @@ fn around(
     out_label: &mut [u32],
     out_size: &mut [u32],
 ) -> usize
-    requires { AroundPre label.now size.now out_label.old out_size.old start hole to filled }
-    ensures { AroundPost label.now size.now out_label.old out_size.old start hole to filled result out_label.new out_size.new }
+    requires { AroundPre tree.now.label.now tree.now.size.now out_label.old out_size.old start hole to filled }
+    ensures { AroundPost tree.now.label.now tree.now.size.now out_label.old out_size.old start hole to filled result out_label.new out_size.new }
 {
     let left = hole - start;
-    let taken = tree::at(size, hole);
+    let taken = tree::at(tree.size, hole);
     let behind = hole + taken;
-    let right = tree::next(size, start) - behind;
+    let right = tree::next(tree.size, start) - behind;
     let next = to + left + filled;
-    copy(label, behind, right, out_label, next);
-    copy(size, behind, right, out_size, next);
-    copy(label, start, left, out_label, to);
-    copy_above(size, start, left, hole, taken, filled, out_size, to);
-    next + right
+    let end = copy_rows(tree, behind, right, next, out_label, out_size);
+    copy(tree.label, start, left, out_label, to);
+    copy_above(tree.size, start, left, hole, taken, filled, out_size, to);
+    end
 }
 
 // Writes the value of an individual variable.
 pub fn individual(
-    label: &[u32],
-    size: &[u32],
+    tree: &Tree,
     record: &[u32],
     variable: usize,
     to: usize,
     out_label: &mut [u32],
     out_size: &mut [u32],
 ) -> usize
-    requires { IndividualPre label.now size.now «record».now out_label.old out_size.old variable to }
-    ensures { IndividualPost label.now size.now «record».now out_label.old out_size.old variable to result out_label.new out_size.new }
+    requires { IndividualPre tree.now.label.now tree.now.size.now «record».now out_label.old out_size.old variable to }
+    ensures { IndividualPost tree.now.label.now tree.now.size.now «record».now out_label.old out_size.old variable to result out_label.new out_size.new }
 {
     let row = tree::at(record, variable + variable);
-    let rows = tree::at(size, row);
-    copy(label, row, rows, out_label, to);
-    copy(size, row, rows, out_size, to);
-    to + rows
+    let rows = tree::at(tree.size, row);
+    copy_rows(tree, row, rows, to, out_label, out_size)
 }
 
 // Writes the value of a sequence variable.
 pub fn sequence(
-    label: &[u32],
-    size: &[u32],
+    tree: &Tree,
     record: &[u32],
     variable: usize,
     to: usize,
     out_label: &mut [u32],
     out_size: &mut [u32],
 ) -> usize
-    requires { SequencePre label.now size.now «record».now out_label.old out_size.old variable to }
-    ensures { SequencePost label.now size.now «record».now out_label.old out_size.old variable to result out_label.new out_size.new }
+    requires { SequencePre tree.now.label.now tree.now.size.now «record».now out_label.old out_size.old variable to }
+    ensures { SequencePost tree.now.label.now tree.now.size.now «record».now out_label.old out_size.old variable to result out_label.new out_size.new }
 {
     let start = tree::at(record, variable + variable);
     let count = tree::at(record, variable + variable + 1);
-    let rows = tree::past(size, start, count) - start;
-    copy(label, start, rows, out_label, to);
-    copy(size, start, rows, out_size, to);
-    to + rows
+    let rows = tree::past(tree.size, start, count) - start;
+    copy_rows(tree, start, rows, to, out_label, out_size)
 }
 
 // The row of a context variable's hole, where the context starts at the row `to`.
@@ -132,8 +140,7 @@ pub fn filling(record: &[u32], variable: usize, to: usize) -> usize
 
 // Writes the value of a context variable around what is written from `first` up to `end`, in its hole.
 pub fn context(
-    label: &[u32],
-    size: &[u32],
+    tree: &Tree,
     record: &[u32],
     variable: usize,
     to: usize,
@@ -142,27 +149,18 @@ pub fn context(
     out_label: &mut [u32],
     out_size: &mut [u32],
 ) -> usize
-    requires { ContextPre label.now size.now «record».now out_label.old out_size.old variable to first end }
-    ensures { ContextPost label.now size.now «record».now out_label.old out_size.old variable to first end result out_label.new out_size.new }
+    requires { ContextPre tree.now.label.now tree.now.size.now «record».now out_label.old out_size.old variable to first end }
+    ensures { ContextPost tree.now.label.now tree.now.size.now «record».now out_label.old out_size.old variable to first end result out_label.new out_size.new }
 {
     let start = tree::at(record, variable + variable);
     let hole = tree::at(record, variable + variable + 1);
-    around(
-        label,
-        size,
-        start,
-        hole,
-        to,
-        end - first,
-        out_label,
-        out_size,
-    )
+    around(tree, start, hole, to, end - first, out_label, out_size)
 }
 
 // Writes the row of a symbol or a function variable, whose arguments end at `end`.
 pub fn head(
     label: &[u32],
-    pattern: &[u32],
+    pattern: &Pattern,
     record: &[u32],
     row: usize,
     to: usize,
@@ -170,15 +168,15 @@ pub fn head(
     out_label: &mut [u32],
     out_size: &mut [u32],
 )
-    requires { HeadPre label.now pattern.now (names_of pattern.now) «record».now out_label.old out_size.old row to end }
-    ensures { HeadPost label.now pattern.now (names_of pattern.now) «record».now out_label.old out_size.old row to end out_label.new out_size.new }
+    requires { HeadPre label.now pattern.now.kind.now pattern.now.name.now «record».now out_label.old out_size.old row to end }
+    ensures { HeadPost label.now pattern.now.kind.now pattern.now.name.now «record».now out_label.old out_size.old row to end out_label.new out_size.new }
 {
     out_size[to] = (end - to) as u32;
-    let name = name(pattern, row);
-    if kind(pattern, row) == SYMBOL {
-        out_label[to] = name as u32;
+    if pattern.kind[row] == SYMBOL {
+        out_label[to] = pattern.name[row];
         return;
     }
+    let name = pattern.name[row] as usize;
     let place = tree::at(record, name + name);
     out_label[to] = label[place];
 }

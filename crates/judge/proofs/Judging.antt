@@ -1,5 +1,5 @@
 -- What the pass over a document keeps, and what it ends with.
-use mathlib.Core.Path.{◌≡◌, refl, sym, ap, ◌∙◌}
+use mathlib.Core.Path.{◌≡◌, refl, sym, ap, subst, ◌∙◌}
 use mathlib.Core.Bool.{false, true≢false}
 use mathlib.Core.List.{List, [], ◌∷◌}
 use Prim.Native.Nat.{ℕ, zero, suc, ◌+◌, ◌*◌, ◌-◌, ◌≤◌, ◌<◌, max}
@@ -18,16 +18,21 @@ use Rattle.grammar.proofs.Theory.{accepted, accepts}
 use Rattle.grammar.proofs.Trees.{leaf_rows, content_rows, content_depth, one_leaf, shape_rows, shape_depth}
 use Rattle.grammar.proofs.Positions.{pos_s, at_good, at_place, three}
 use Rattle.tokens.specs.Tokens.{Span, bytes, level_of, run_at}
-use Rattle.judge.specs.Tags.{RunTo, Closed, closed, OpenedTo, EmptyTo, Top, Tagging, Done, too_deep, too_many, done, Last, ended, early}
+use Rattle.std.specs.Prelude.{Result, Ok, Err, IsErrAnd, MatchResult}
+use Rattle.judge.specs.declared.tags.Tag.{Tag}
+use Rattle.judge.specs.declared.refusal.Refusal.{Refusal}
+use Rattle.judge.specs.declared.refusal.Refusal.TheVariants.{Outside}
+use Rattle.judge.specs.Answer.{code_of, place_of, rows_of}
+use Rattle.judge.specs.Tags.{RunTo, Closed, closed, OpenedTo, EmptyTo, Does, Top, Tagging, Tagged, Done, too_deep, too_many, done, Last, ended, early}
 use Rattle.judge.specs.Verdict.{Verdict, outside, deep, many, read}
 use Rattle.openings.specs.OpenNames.{opened, NameFrom, AllFrom, none_open, one_more, InnermostKept, all_closed, innermost, Keeping, LowNames, OpenedOne, MayClose, ClosedOne}
 use Rattle.judge.proofs.Machine.{run_walk, run_refused}
 use Rattle.openings.proofs.OpenNames.{some_kept, kept_low_names}
 
 -- THE LAST RUN
-pub early_is : {length at depth rows deep c p n : ℕ} → (c ≡ 3) × (p ≡ at) × (n ≡ 0) → (length ≤ at → depth ≡ 0 → 0 < rows → ⊥) →
-    Last length at depth rows deep c p n
-early_is h k = rw (h.0, h.1, h.2) (early k)
+pub early_is : {length at depth rows deep : ℕ} {r : Refusal} → r ≡ Outside at → ((length ≤ at) × (depth ≡ 0) × (0 < rows) → ⊥) →
+    Last length at depth rows deep (code_of (Err r)) (place_of (Err r)) (rows_of (Err r))
+early_is h k = rw h (early (λ p q r. k (p, q, r)))
 
 -- WHAT THE OPEN ELEMENTS HAVE MADE
 unfoldable pub rows_o : List Open → ℕ
@@ -197,6 +202,10 @@ verdict short k is_m is_d (too_deep h) = deep short k (omega (arith, is_d))
 verdict short k is_m is_d (too_many h j) = many short k (omega (arith, is_d)) (omega (arith, is_m))
 verdict short k is_m is_d (done h j) = rw is_m (read short k (omega (arith, is_d)) (omega (arith, is_m)))
 
+-- WHAT `map_err` MAKES of a tag's answer: a refusal in the place's stead
+abbrev Mapped : Result Tag ℕ → Result Tag Refusal → Type 0
+Mapped r m = MatchResult r (λ x. m ≡ Ok x) (λ q. IsErrAnd m (λ e. e ≡ Outside q))
+
 -- A TURN: the run that starts at i ends at a, and makes n rows
 module _ {w K L : List ℕ} {i kept depth rows deep : ℕ} (k : Scanned w K L i kept depth rows deep) {a n : ℕ} (run : RunTo w depth i a n) (short : length w ≤ 32768) where
   abbrev T : Bytes
@@ -255,6 +264,28 @@ module _ {w K L : List ℕ} {i kept depth rows deep : ℕ} (k : Scanned w K L i 
     -- x is read off the kept names
     pub tagging : {x : ℕ} → (0 < kept → x ≡ get_or K (kept - 1) 0) → get_or w a 0 ≡ 60 → Tagging w x depth m₁ a k.o k.f T
     tagging is_x h = rw seen.0 (to_tag walked run (top_kept k.held is_x) h)
+
+    -- what is read of the tag, and what `map_err` made of that
+    module _ {x : ℕ} (is_x : 0 < kept → x ≡ get_or K (kept - 1) 0) (h : get_or w a 0 ≡ 60) (r : Result Tag ℕ) (tagged : Tagged w x depth m₁ a r) where
+      told : Does w (a + 1) k.o k.f T r
+      told = tagged _ _ _ (tagging is_x h)
+
+      pub place_short : (q : ℕ) → r ≡ Err q → q ≤ 32768
+      place_short q e = let z : OutsideAt w q = subst (Does w (a + 1) k.o k.f T) e told in omega (arith, z.within)
+
+      pub refused_at : {e : Refusal} → Mapped r (Err e) → (q : ℕ) × OutsideAt w q × (e ≡ Outside q)
+      refused_at {e} = go r told
+        where
+          go : (r : Result Tag ℕ) → Does w (a + 1) k.o k.f T r → Mapped r (Err e) → (q : ℕ) × OutsideAt w q × (e ≡ Outside q)
+          go (Ok y) d m = absurd (cc)
+          go (Err q) d m = (q, d, m)
+
+      pub tag_at : {y z : Tag} → Mapped r (Ok y) → y ≡ z → Does w (a + 1) k.o k.f T (Ok z)
+      tag_at {y} {z} = go r told
+        where
+          go : (r : Result Tag ℕ) → Does w (a + 1) k.o k.f T r → Mapped r (Ok y) → y ≡ z → Does w (a + 1) k.o k.f T (Ok z)
+          go (Ok v) d m is = let e : v ≡ z = cc in subst (λ (u : Tag). Does w (a + 1) k.o k.f T (Ok u)) e d
+          go (Err q) d m is = absurd m
 
     pub bound_now : m₁ ≤ 65537
     bound_now = omega (arith, seen.0, k.few, from, run.span.passed.within, made_few, short)
@@ -337,5 +368,7 @@ module _ {w K L : List ℕ} {i kept depth rows deep : ℕ} (k : Scanned w K L i 
     ends b (early h) = outside short (refused walked run b (λ q d r. h q d (omega (arith, r, seen.0))))
 
 -- code 3
-pub outside_is : {w : List ℕ} {q c p n : ℕ} → length w ≤ 32768 → OutsideAt w q → (c ≡ 3) × (p ≡ q) × (n ≡ 0) → Verdict w c p n
-outside_is short h e = rw (e.0, e.1, e.2) (outside short h)
+pub outside_is : {w : List ℕ} {q : ℕ} {e : Refusal} (r : Result ℕ Refusal) → IsErrAnd r (λ x. x ≡ e) → length w ≤ 32768 → OutsideAt w q → e ≡ Outside q →
+    Verdict w (code_of r) (place_of r) (rows_of r)
+outside_is (Ok n) h short o e = absurd h
+outside_is (Err x) h short o e = rw (h, e) (outside short o)

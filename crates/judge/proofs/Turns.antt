@@ -12,12 +12,13 @@ use Rattle.grammar.specs.Grammar.{Bytes, ε, ◌⊲◌, Content, OutsideAt}
 use Rattle.grammar.specs.Tokens.{inner, no_element, may_open}
 use Rattle.grammar.specs.Rows.{inked, #}
 use Rattle.grammar.specs.Machine.{Open, in_run, after_less, in_end_name, level, At}
+use Rattle.std.specs.Prelude.{Result, Ok, Err}
 use Rattle.judge.specs.declared.tags.Tag.{Tag}
-use Rattle.judge.specs.declared.tags.Tag.TheVariants.{Refused, Opens, Empty, Closes}
+use Rattle.judge.specs.declared.tags.Tag.TheVariants.{Opens, Empty, Closes}
 use Rattle.judge.specs.declared.tags.Kind.TheVariants.{Nothing, Start, End}
 use Rattle.tokens.specs.Tokens.{Passed, Span, bytes, white_at, name_at, level_of, run_at, is_text_at, same_at}
 use Rattle.judge.specs.Tags.{RunTo, closed, Does, Ends, Started, Ended, Top, Tagging, Tagged, KindOf, second_root, root, inner_start, inner_end}
-use Rattle.tokens.proofs.Spans.{text_yes, less_stops}
+use Rattle.tokens.proofs.Spans.{text_yes, less_stops, start_yes, few_classes}
 use Rattle.openings.specs.OpenNames.{Named}
 use Rattle.openings.proofs.LastTag.{start_name}
 use Rattle.judge.proofs.Machine.{at_byte, at_same, there, refuse, start_refused, opens, empties, slash_refused, space_refused, end_refused, closes, close_refused}
@@ -110,7 +111,11 @@ count w a (suc n) = ap suc (count w a n)
 name_ends : (w : List ℕ) (a e : ℕ) → a + 1 ≤ e → e ≡ a + # (bytes w a (e - a))
 name_ends w a e h = sym (ap (λ (k : ℕ). a + k) (count w a (e - a)) ∙ omega arith)
 
-pub start_none : {w : List ℕ} {a : ℕ} → name_start (get_or w a 0) ≡ false → Started w a (Refused a)
+-- behind a start tag's first test the byte starts a name
+pub name_begins : (b : ℕ) {c : ℕ} → c ≡ class_number b → 5 ≤ c → name_start b ≡ true
+name_begins b e h = start_yes _ _ e h (rw e (few_classes b))
+
+pub start_none : {w : List ℕ} {a : ℕ} → name_start (get_or w a 0) ≡ false → Started w a (Err a)
 start_none e o f t h k = start_refused o f t h e k
 
 module _ {w : List ℕ} {a e s : ℕ} (first : name_start (get_or w a 0) ≡ true) (name : Span (name_at w) w (a + 1) e) (space : Span (white_at w) w e s) where
@@ -133,7 +138,7 @@ module _ {w : List ℕ} {a e s : ℕ} (first : name_start (get_or w a 0) ≡ tru
   before : a < s
   before = omega (arith, name.passed.from, space.passed.from)
 
-  pub start_opens : get_or w s 0 ≡ 62 → Started w a (Opens e (s + 1))
+  pub start_opens : get_or w s 0 ≡ 62 → Started w a (Ok (Opens e (s + 1)))
   start_opens h o f t k q = (
     omega (arith, before),
     record {
@@ -145,7 +150,7 @@ module _ {w : List ℕ} {a e s : ℕ} (first : name_start (get_or w a 0) ≡ tru
     },
   )
 
-  pub start_empties : get_or w s 0 ≡ 47 → get_or w (s + 1) 0 ≡ 62 → Started w a (Empty e (s + 2))
+  pub start_empties : get_or w s 0 ≡ 47 → get_or w (s + 1) 0 ≡ 62 → Started w a (Ok (Empty e (s + 2)))
   start_empties h j o f t k q = (
     omega (arith, before),
     record {
@@ -157,31 +162,31 @@ module _ {w : List ℕ} {a e s : ℕ} (first : name_start (get_or w a 0) ≡ tru
     },
   )
 
-  pub start_slash : get_or w s 0 ≡ 47 → (get_or w (s + 1) 0 ≡ 62 → ⊥) → Started w a (Refused (s + 1))
+  pub start_slash : get_or w s 0 ≡ 47 → (get_or w (s + 1) 0 ≡ 62 → ⊥) → Started w a (Err (s + 1))
   start_slash h j o f t k q = slash_refused o f t k first (name_there w a first) name space h j
 
-  pub start_other : (get_or w s 0 ≡ 62 → ⊥) → (get_or w s 0 ≡ 47 → ⊥) → Started w a (Refused s)
+  pub start_other : (get_or w s 0 ≡ 62 → ⊥) → (get_or w s 0 ≡ 47 → ⊥) → Started w a (Err s)
   start_other h j o f t k q = space_refused o f t k first (name_there w a first) name space h j
 
 -- AN END TAG
 module _ {w : List ℕ} {x a e : ℕ} (same : Span (same_at w x a) w a e) where
-  pub end_differs : name_byte (get_or w (x + (e - a)) 0) ≡ true → Ended w x a (Refused e)
+  pub end_differs : name_byte (get_or w (x + (e - a)) 0) ≡ true → Ended w x a (Err e)
   end_differs n p o f t h k = end_refused p o f t h k same n
 
   module _ (whole : name_byte (get_or w (x + (e - a)) 0) ≡ false) {s : ℕ} (space : Span (white_at w) w e s) where
-    pub end_closes : get_or w s 0 ≡ 62 → Ended w x a (Closes (s + 1))
+    pub end_closes : get_or w s 0 ≡ 62 → Ended w x a (Ok (Closes (s + 1)))
     end_closes h p o f t k n =
         (omega (arith, same.passed.from, space.passed.from), closed (bytes w e (s - e)) (closes p o f t k n same whole space h))
 
-    pub end_other : (get_or w s 0 ≡ 62 → ⊥) → Ended w x a (Refused s)
+    pub end_other : (get_or w s 0 ≡ 62 → ⊥) → Ended w x a (Err s)
     end_other h p o f t k n = close_refused p o f t k n same whole space h
 
 -- A TAG
-does : (w : List ℕ) (a b : ℕ) (o : List Open) (f : Content) (t : Bytes) → b ≤ a → (r : Tag) → Ends w a o f t r → Does w b o f t r
-does w a b o f t h (Refused p) k = k
-does w a b o f t h (Opens e r) k = absurd k
-does w a b o f t h (Empty e r) k = absurd k
-does w a b o f t h (Closes e) k = (omega (arith, k.0), k.1)
+does : (w : List ℕ) (a b : ℕ) (o : List Open) (f : Content) (t : Bytes) → b ≤ a → (r : Result Tag ℕ) → Ends w a o f t r → Does w b o f t r
+does w a b o f t h (Err p) k = k
+does w a b o f t h (Ok (Opens e r)) k = absurd k
+does w a b o f t h (Ok (Empty e r)) k = absurd k
+does w a b o f t h (Ok (Closes e)) k = (omega (arith, k.0), k.1)
 
 pub end_within : {w : List ℕ} {depth rows a : ℕ} → KindOf w depth rows a End → (0 < depth) × (a + 2 ≤ length w)
 end_within {w} {depth} {rows} {a} (inner_end d e) = (positive depth d, omega (arith, there w (a + 1) 46 e))
@@ -192,7 +197,7 @@ end_within {w} {depth} {rows} {a} (inner_end d e) = (positive depth d, omega (ar
 
 module _ {w : List ℕ} {x depth rows a : ℕ} where
   -- a second root
-  pub none_stands : KindOf w depth rows a Nothing → Tagged w x depth rows a (Refused a)
+  pub none_stands : KindOf w depth rows a Nothing → Tagged w x depth rows a (Err a)
   none_stands (second_root d r) o f t h = go o h.depth_is h.here
     where
       go : (o : List Open) → depth ≡ length o → At w a (in_run o f t) → OutsideAt w a
@@ -209,7 +214,7 @@ module _ {w : List ℕ} {x depth rows a : ℕ} where
         may [] e = sym (h.none_yet e) ∙ eq-eqb rows 0 (r e)
         may (p ∷ o) e = refl
 
-  pub start_stands : (r : Tag) → KindOf w depth rows a Start → Started w (a + 1) r → Tagged w x depth rows a r
+  pub start_stands : (r : Result Tag ℕ) → KindOf w depth rows a Start → Started w (a + 1) r → Tagged w x depth rows a r
   start_stands r (inner_start d e) s o f t h = s o f t (less h (λ q. absurd (d q))) (λ q. absurd (e q))
   start_stands r (root d e) s o f t h = s o f t (less h (λ q. e)) (λ q. go o h.depth_is)
     where
@@ -217,7 +222,7 @@ module _ {w : List ℕ} {x depth rows a : ℕ} where
       go [] y = refl
       go (p ∷ o) y = absurd (omega (arith, d, y))
 
-  pub end_stands : (r : Tag) → KindOf w depth rows a End → Ended w x (a + 2) r → Tagged w x depth rows a r
+  pub end_stands : (r : Result Tag ℕ) → KindOf w depth rows a End → Ended w x (a + 2) r → Tagged w x depth rows a r
   unfolding name_start class_number
   end_stands r (inner_end d e) s o f t h = go o h.depth_is h.top (less h (λ q. absurd (d q)))
     where

@@ -1,12 +1,12 @@
 -- Not needed to believe the promise: what a run and a tag of the document do to the byte machine.
-use Rattle.std.specs.Prelude.{◌≡◌, true, cond, List, [], ◌∷◌, ℕ, ◌+◌, ◌-◌, ◌≤◌, ◌<◌, eqb, length, get_or}
+use Rattle.std.specs.Prelude.{◌≡◌, true, cond, List, [], ◌∷◌, ℕ, ◌+◌, ◌-◌, ◌≤◌, ◌<◌, eqb, length, get_or, Result, Ok, Err}
 use Rattle.grammar.specs.Classes.{name_start}
 use Rattle.grammar.specs.Grammar.{Bytes, ε, ◌⊲◌, less, slash, Content, nothing, empty_element, element, OutsideAt}
 use Rattle.grammar.specs.Tokens.{no_element}
 use Rattle.grammar.specs.Rows.{inked, #}
 use Rattle.grammar.specs.Machine.{Open, in_run, after_less, in_end_name, At}
 use Rattle.judge.specs.declared.tags.Tag.{Tag}
-use Rattle.judge.specs.declared.tags.Tag.TheVariants.{Refused, Opens, Empty, Closes}
+use Rattle.judge.specs.declared.tags.Tag.TheVariants.{Opens, Empty, Closes}
 use Rattle.judge.specs.declared.tags.Kind.{Kind}
 use Rattle.judge.specs.declared.tags.Kind.TheVariants.{Nothing, Start, End}
 use Rattle.tokens.specs.Tokens.{Span, bytes, name_at, level_of, run_at}
@@ -41,29 +41,29 @@ pub record EmptyTo (w : List ℕ) (a e r : ℕ) (o : List Open) (f : Content) (t
   pub here : At w r (in_run o (empty_element f t name space) ε)
 
 -- what the tag does whose < stands before a, in the open elements o, behind the content f and the run t
-abbrev pub Does : List ℕ → ℕ → List Open → Content → Bytes → Tag → Type 0
-Does w a o f t (Refused p) = OutsideAt w p
-Does w a o f t (Opens e r) = (a < r) × OpenedTo w a e r o f t
-Does w a o f t (Empty e r) = (a < r) × EmptyTo w a e r o f t
-Does w a o f t (Closes e) = (a < e) × Closed w e o f t
+abbrev pub Does : List ℕ → ℕ → List Open → Content → Bytes → Result Tag ℕ → Type 0
+Does w a o f t (Err p) = OutsideAt w p
+Does w a o f t (Ok (Opens e r)) = (a < r) × OpenedTo w a e r o f t
+Does w a o f t (Ok (Empty e r)) = (a < r) × EmptyTo w a e r o f t
+Does w a o f t (Ok (Closes e)) = (a < e) × Closed w e o f t
 
 -- what the tag does whose </ stands before a
-abbrev pub Ends : List ℕ → ℕ → List Open → Content → Bytes → Tag → Type 0
-Ends w a o f t (Refused p) = OutsideAt w p
-Ends w a o f t (Opens e r) = ⊥
-Ends w a o f t (Empty e r) = ⊥
-Ends w a o f t (Closes e) = (a < e) × Closed w e o f t
+abbrev pub Ends : List ℕ → ℕ → List Open → Content → Bytes → Result Tag ℕ → Type 0
+Ends w a o f t (Err p) = OutsideAt w p
+Ends w a o f t (Ok (Opens e r)) = ⊥
+Ends w a o f t (Ok (Empty e r)) = ⊥
+Ends w a o f t (Ok (Closes e)) = (a < e) × Closed w e o f t
 
 -- the byte at a may be a / only where no element is open
-abbrev pub Started : List ℕ → ℕ → Tag → Type 0
+abbrev pub Started : List ℕ → ℕ → Result Tag ℕ → Type 0
 Started w a r =
     (o : List Open) (f : Content) (t : Bytes) → At w a (after_less o f t) → (get_or w a 0 ≡ slash → o ≡ []) → Does w a o f t r
 
 -- .. whatever the name that ends at e, behind which it is looked on
-abbrev pub Shut : List ℕ → ℕ → Tag → Type 0
+abbrev pub Shut : List ℕ → ℕ → Result Tag ℕ → Type 0
 Shut w e r = (a : ℕ) → name_start (get_or w a 0) ≡ true → Span (name_at w) w (a + 1) e → Started w a r
 
-abbrev pub Ended : List ℕ → ℕ → ℕ → Tag → Type 0
+abbrev pub Ended : List ℕ → ℕ → ℕ → Result Tag ℕ → Type 0
 Ended w name a r =
     (p : Open) (o : List Open) (f : Content) (t : Bytes) → At w a (in_end_name p o f t ε (p.name ⊲ [])) → Named w name p.name →
     Ends w a (p ∷ o) f t r
@@ -87,7 +87,7 @@ pub data KindOf (w : List ℕ) (depth rows a : ℕ) : Kind → Type 0 where
   inner_start : (depth ≡ 0 → ⊥) → (get_or w (a + 1) 0 ≡ slash → ⊥) → KindOf w depth rows a Start
   inner_end : (depth ≡ 0 → ⊥) → get_or w (a + 1) 0 ≡ slash → KindOf w depth rows a End
 
-abbrev pub Tagged : List ℕ → ℕ → ℕ → ℕ → ℕ → Tag → Type 0
+abbrev pub Tagged : List ℕ → ℕ → ℕ → ℕ → ℕ → Result Tag ℕ → Type 0
 Tagged w name depth rows a r =
     (o : List Open) (f : Content) (t : Bytes) → Tagging w name depth rows a o f t → Does w (a + 1) o f t r
 

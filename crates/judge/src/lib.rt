@@ -2,53 +2,50 @@
 #![tactic(auto)]
 
 ghost use Rattle.std.specs.Prelude.{◌≡◌, ◌+◌, ◌≤◌, ◌<◌, max, length};
-ghost use Rattle.tokens.specs.Tokens.{Classed};
+ghost use Rattle.meaning.specs.Calls.{Says};
+ghost use Rattle.judge.specs.Answer.{code_of, place_of, rows_of};
 ghost use Rattle.judge.specs.Tags.{RunTo, Done, Last};
 ghost use Rattle.judge.specs.Verdict.{Verdict};
 
-pub mod codes;
+pub mod limits;
+pub mod refusal;
 pub mod tags;
 
-use codes::{DEEPEST, MOST_BYTES, MOST_ROWS, OUTSIDE, READ, TOO_DEEP, TOO_LONG, TOO_MANY};
-use openings::names::{close, innermost, open};
+use limits::{DEEPEST, MOST_BYTES, MOST_ROWS};
+use openings::names::OpenNames;
+use refusal::{Refusal, outside};
 use tags::{Tag, next_tag};
-use tokens::class::{byte_at, table};
+use tokens::class::{Classes, byte_at};
 use tokens::{text_end, white_end};
 
 // Where a run ends, and how many rows it makes: none if it is white space only, else one.
-#[derive(Drop)]
+#[derive(Clone, Copy)]
 pub struct Run {
     pub end: usize,
     pub rows: usize,
 }
 
 // Byte by byte: the judge is asked only of documents beyond the limits, and what is called once is put in line.
-pub fn run_end(document: &[u8], class: &[u8; 512], depth: usize, start: usize) -> Run
-    requires { Classed class.now × (start ≤ length document.now) }
+pub fn run_end(document: &[u8], classes: &Classes, depth: usize, start: usize) -> Run
+    requires { start ≤ length document.now }
     ensures { RunTo document.now depth start result.end result.rows }
 {
-    let white = white_end(document, class, start);
+    let white = white_end(document, classes, start);
     if depth == 0 {
         return Run {
             end: white,
             rows: 0,
         };
     }
-    let end = text_end(document, class, start, white);
+    let end = text_end(document, classes, start, white);
     if white < end {
-        return Run { end: end, rows: 1 };
+        return Run { end, rows: 1 };
     }
-    Run { end: end, rows: 0 }
-}
-
-fn larger(a: usize, b: usize) -> usize
-    ensures { result ≡ max a b }
-{
-    if a < b { b } else { a }
+    Run { end, rows: 0 }
 }
 
 // How many rows there are so far, and how deep the deepest is.
-#[derive(Drop)]
+#[derive(Clone, Copy)]
 struct Seen {
     rows: usize,
     deep: usize,
@@ -61,94 +58,62 @@ fn more(seen: Seen, rows: usize, depth: usize) -> Seen
 {
     Seen {
         rows: seen.rows + rows,
-        deep: larger(seen.deep, depth),
+        deep: seen.deep.max(depth),
     }
 }
 
-// The code of the first rule that is broken, or 0; the place, 0 unless the code is 3; the rows, 0 unless it is 0.
-#[derive(Drop)]
-pub struct Judged {
-    pub code: u32,
-    pub place: u32,
-    pub rows: u32,
-}
-
-pub fn outside(place: usize) -> Judged
-    requires { place ≤ 32768 }
-    ensures { (result.code ≡ 3) × (result.place ≡ place) × (result.rows ≡ 0) }
+// Is that a whole document, where no tag follows and the last run ends at `at`?
+pub fn is_whole(length: usize, at: usize, depth: usize, rows: usize) -> bool
+    ensures { Says result ((length ≤ at) × (depth ≡ 0) × (0 < rows)) }
 {
-    Judged {
-        code: OUTSIDE,
-        place: place as u32,
-        rows: 0,
-    }
+    length <= at && depth == 0 && 0 < rows
 }
 
 // A whole document's answer.
-fn whole(rows: usize, deep: usize) -> Judged
-    ensures { Done rows deep result.code result.place result.rows }
+fn within(rows: usize, deep: usize) -> Result<u32, Refusal>
+    ensures { Done rows deep (code_of result) (place_of result) (rows_of result) }
 {
     if DEEPEST < deep {
-        return Judged {
-            code: TOO_DEEP,
-            place: 0,
-            rows: 0,
-        };
+        return Err(Refusal::TooDeep);
     }
     if MOST_ROWS < rows {
-        return Judged {
-            code: TOO_MANY,
-            place: 0,
-            rows: 0,
-        };
+        return Err(Refusal::TooMany);
     }
-    Judged {
-        code: READ,
-        place: 0,
-        rows: rows as u32,
-    }
+    Ok(rows as u32)
 }
 
 // The answer where no tag follows: the last run ends at `at`.
-fn last(length: usize, at: usize, depth: usize, rows: usize, deep: usize) -> Judged
+fn last(length: usize, at: usize, depth: usize, rows: usize, deep: usize) -> Result<u32, Refusal>
     requires { at ≤ 32768 }
-    ensures { Last length at depth rows deep result.code result.place result.rows }
+    ensures { Last length at depth rows deep (code_of result) (place_of result) (rows_of result) }
 {
-    if at < length {
-        return outside(at);
+    if !is_whole(length, at, depth, rows) {
+        return Err(outside(at));
     }
-    if 0 < depth {
-        return outside(at);
-    }
-    if rows == 0 {
-        return outside(at);
-    }
-    whole(rows, deep)
+    within(rows, deep)
 }
 
-// The pass. `names` and `levels` have `kept` names of open elements, that of the innermost among them.
-fn pass(document: &[u8], class: &[u8; 512]) -> Judged
-    requires { Classed class.now × (length document.now ≤ 32768) }
-    ensures { Verdict document.now result.code result.place result.rows }
+// The pass. `names` has names of open elements, that of the innermost among them.
+fn pass(document: &[u8], classes: &Classes) -> Result<u32, Refusal>
+    requires { length document.now ≤ 32768 }
+    ensures { Verdict document.now (code_of result) (place_of result) (rows_of result) }
 {
-    let mut names = [0u16; 64];
-    let mut levels = [0u16; 64];
-    let mut kept: usize = 0;
+    let mut names = OpenNames::new();
     let mut depth: usize = 0;
     let mut seen = Seen { rows: 0, deep: 0 };
     let mut i: usize = 0;
     loop {
-        let text = run_end(document, class, depth, i);
+        let text = run_end(document, classes, depth, i);
         let at = text.end;
         seen = more(seen, text.rows, depth + text.rows);
         if byte_at(document, at) != b'<' {
             return last(document.len(), at, depth, seen.rows, seen.deep);
         }
-        let name = innermost(&names, kept);
-        match next_tag(document, class, name, depth, seen.rows, at) {
-            Tag::Refused(place) => return outside(place),
+        let name = names.innermost();
+        let tag = next_tag(document, classes, name, depth, seen.rows, at).map_err(outside)?;
+        match tag {
             Tag::Opens(_, next) => {
-                kept = open(&mut names, &mut levels, kept, depth, at + 1);
+                names.open(depth, at + 1);
                 depth = depth + 1;
                 seen = more(seen, 1, depth);
                 i = next;
@@ -159,23 +124,20 @@ fn pass(document: &[u8], class: &[u8; 512]) -> Judged
             }
             Tag::Closes(next) => {
                 depth = depth - 1;
-                kept = close(document, &mut names, &mut levels, kept, depth);
+                names.close(document, depth);
                 i = next;
             }
         }
     }
 }
 
-pub fn judge(document: &[u8]) -> Judged
-    ensures { Verdict document.now result.code result.place result.rows }
+// The rows of a document within the limits, or the first rule that is broken.
+pub fn judge(document: &[u8]) -> Result<u32, Refusal>
+    ensures { Verdict document.now (code_of result) (place_of result) (rows_of result) }
 {
     if MOST_BYTES < document.len() {
-        return Judged {
-            code: TOO_LONG,
-            place: 0,
-            rows: 0,
-        };
+        return Err(Refusal::TooLong);
     }
-    let class = table();
-    pass(document, &class)
+    let classes = Classes::new();
+    pass(document, &classes)
 }

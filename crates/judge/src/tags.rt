@@ -1,69 +1,68 @@
 // One tag: where it ends and what it does, or where no document goes on.
 ghost use Rattle.std.specs.Prelude.{◌≤◌, ◌<◌, length};
-ghost use Rattle.tokens.specs.Tokens.{Classed};
 ghost use Rattle.judge.specs.Tags.{Shut, Started, Ended, Tagged, KindOf};
 
-use tokens::class::{FIRST, WHITE, byte_at, class_of};
+use tokens::class::{Classes, FIRST, WHITE, byte_at};
 use tokens::{name_end, same_end, white_end};
 
-// Each holds a place: that of code 3, or that behind the tag; a start tag also where its name ends.
-#[derive(Drop)]
+// Each holds the place behind the tag; a start tag also where its name ends. Where there is no tag, the place of code 3 stands in its stead.
+#[derive(Clone, Copy)]
 pub enum Tag {
-    Refused(usize),
     Opens(usize, usize),
     Empty(usize, usize),
     Closes(usize),
 }
 
 // What stands behind a start tag's name, which ends at `end`.
-pub fn shut(document: &[u8], class: &[u8; 512], end: usize) -> Tag
-    requires { Classed class.now × (end ≤ length document.now) }
+pub fn shut(document: &[u8], classes: &Classes, end: usize) -> Result<Tag, usize>
+    requires { end ≤ length document.now }
     ensures { Shut document.now end result }
 {
-    let shut = white_end(document, class, end);
+    let shut = white_end(document, classes, end);
     let b = byte_at(document, shut);
     if b == b'>' {
-        return Tag::Opens(end, shut + 1);
+        return Ok(Tag::Opens(end, shut + 1));
     }
     if b == b'/' {
         if byte_at(document, shut + 1) == b'>' {
-            return Tag::Empty(end, shut + 2);
+            return Ok(Tag::Empty(end, shut + 2));
         }
-        return Tag::Refused(shut + 1);
+        return Err(shut + 1);
     }
-    Tag::Refused(shut)
+    Err(shut)
 }
 
-// The tag whose `<` stands before `at`.
-fn start_tag(document: &[u8], class: &[u8; 512], at: usize) -> Tag
-    requires { Classed class.now × (at ≤ length document.now) }
+// The tag whose `<` stands before `at`. The rows read tags likewise, but several bytes at a time and with a name's length known: what is the
+// same in both is shared (`stands`, `shut`).
+fn start_tag(document: &[u8], classes: &Classes, at: usize) -> Result<Tag, usize>
+    requires { at ≤ length document.now }
     ensures { Started document.now at result }
 {
-    if class_of(class, byte_at(document, at)) < FIRST {
-        return Tag::Refused(at);
+    if classes.class_of(byte_at(document, at)) < FIRST {
+        return Err(at);
     }
-    shut(document, class, name_end(document, class, at + 1))
+    shut(document, classes, name_end(document, classes, at + 1))
 }
 
 // The end tag whose `</` stands before `at`; the innermost open element's name starts at `name`.
-pub fn end_tag(document: &[u8], class: &[u8; 512], name: usize, at: usize) -> Tag
-    requires { Classed class.now × (at ≤ length document.now) × (name < 65536) }
+pub fn end_tag(document: &[u8], classes: &Classes, name: usize, at: usize) -> Result<Tag, usize>
+    requires { (at ≤ length document.now) × (name < 65536) }
     ensures { Ended document.now name at result }
 {
-    let end = same_end(document, class, name, at);
+    let end = same_end(document, classes, name, at);
     let rest = name + (end - at);
-    if WHITE < class_of(class, byte_at(document, rest)) {
-        return Tag::Refused(end);
+    if WHITE < classes.class_of(byte_at(document, rest)) {
+        return Err(end);
     }
-    let shut = white_end(document, class, end);
+    let shut = white_end(document, classes, end);
     if byte_at(document, shut) == b'>' {
-        return Tag::Closes(shut + 1);
+        return Ok(Tag::Closes(shut + 1));
     }
-    Tag::Refused(shut)
+    Err(shut)
 }
 
 // What may stand at a `<`: nothing, behind the root; a start tag; or an end tag.
-#[derive(Drop)]
+#[derive(Clone, Copy)]
 pub enum Kind {
     Nothing,
     Start,
@@ -90,18 +89,18 @@ pub fn stands(document: &[u8], depth: usize, rows: usize, at: usize) -> Kind
 // The tag whose `<` stands at `at`, in `depth` open elements and behind `rows` rows.
 pub fn next_tag(
     document: &[u8],
-    class: &[u8; 512],
+    classes: &Classes,
     name: usize,
     depth: usize,
     rows: usize,
     at: usize,
-) -> Tag
-    requires { Classed class.now × (at < length document.now) × (name < 65536) }
+) -> Result<Tag, usize>
+    requires { (at < length document.now) × (name < 65536) }
     ensures { Tagged document.now name depth rows at result }
 {
     match stands(document, depth, rows, at) {
-        Kind::Nothing => Tag::Refused(at),
-        Kind::Start => start_tag(document, class, at + 1),
-        Kind::End => end_tag(document, class, name, at + 2),
+        Kind::Nothing => Err(at),
+        Kind::Start => start_tag(document, classes, at + 1),
+        Kind::End => end_tag(document, classes, name, at + 2),
     }
 }

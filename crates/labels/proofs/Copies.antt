@@ -6,10 +6,6 @@ use lib.ListN.{length, take, drop}
 use lib.Seq.{take_at}
 use Rattle.meaning.specs.Calls.{Filled}
 use Rattle.labels.specs.Lists.{Holds}
-use Rattle.labels.proofs.Upto.{Upto}
-
-pub copied_so : {xs before after : List ℕ} {i : ℕ} (n : ℕ) → Upto xs before i after → i ≡ n → after ≡ take n xs ++ drop n before
-copied_so {xs} {before} n h e = h.is ∙ ap (λ (m : ℕ). take m xs ++ drop m before) e
 
 -- the rows that are noted, copied into a lent list
 pub copied : {xs l after : List ℕ} (before : List ℕ) {n : ℕ} → Holds xs l → length xs ≡ n → after ≡ take n l ++ drop n before → Filled xs before after

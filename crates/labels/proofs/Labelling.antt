@@ -5,7 +5,9 @@ use mathlib.Core.List.{List, [], ◌∷◌, ◌++◌}
 use Prim.Native.Nat.{ℕ, ◌+◌, ◌-◌, ◌*◌, ◌≤◌, ◌<◌}
 use native.Mathlib.Omega.{arith}
 use native.Mathlib.Numerals.{add-one}
-use lib.Dec.{ltb}
+use Rattle.std.specs.Int.{from_bool}
+use lib.Dec.{eqb, ltb}
+use borrow.Author.Tests.{eqb-true, eqb-false, ltb-true, ltb-false}
 use lib.ListN.{length, get_or, set, take, length-append}
 use lib.Seq.{take-suc}
 use Rattle.meaning.specs.Calls.{Filled}
@@ -29,6 +31,16 @@ learn_count ns v = go (ltb (place_of ns v) (length ns))
     go : (t : Bool) → length (cond t ns (ns ++ (v ∷ []))) ≡ cond t (length ns) (length ns + 1)
     go true = refl
     go false = length-append ns (v ∷ [])
+
+-- how many are known after a number was found: one that is not among the known ones is new
+pub counted_new : (count found : ℕ) {new : ℕ} → found ≤ count → new ≡ from_bool (eqb found count) → count + new ≡ cond (ltb found count) count (count + 1)
+counted_new count found {new} h = go (ltb found count) refl (eqb found count) refl
+  where
+    go : (s : Bool) → ltb found count ≡ s → (t : Bool) → eqb found count ≡ t → new ≡ from_bool t → count + new ≡ cond s count (count + 1)
+    go true p true q e = absurd (omega (arith, ltb-true found count p, eqb-true found count q))
+    go true p false q e = omega (arith, e)
+    go false p true q e = omega (arith, e)
+    go false p false q e = absurd (eqb-false found count q (omega (arith, ltb-false found count p)))
 
 -- A LABEL, by the byte before the spelling
 pub told_element : {w : List ℕ} {from : ℕ} (number : ℕ) (sort : Sort) → Tells w from sort → get_or w (from - 1) 0 ≡ less → 2 * number ≡ label_of sort number
@@ -79,9 +91,6 @@ module _ {d w : List ℕ} {names : ℕ} {index₀ label₀ start width : List �
       pub to_short : to ≤ 32768
       to_short = omega (arith, to_is, (m.spells row here).inside, m.short)
 
-      pub from_short : get_or start row 0 + get_or width row 0 ≤ 32768
-      from_short = omega (arith, (m.spells row here).inside, m.short)
-
       pub may_number : MayNumber d w names index count from to (known_after known (take row ws))
       may_number = record {
         indexed = k.indexed;
@@ -113,9 +122,6 @@ module _ {d w : List ℕ} {names : ℕ} {index₀ label₀ start width : List �
 
         pub count_few : count ≤ 3071
         count_few = omega (arith, k.high, m.few_names, m.few_rows)
-
-        pub label_room_lem : row < length label
-        label_room_lem = omega (arith, k.labelled.long, m.room_label)
 
         in_ws : row < length ws
         in_ws = omega (arith, m.all)

@@ -15,10 +15,11 @@ use Rattle.expression.specs.Expression.{Expression, symbol, empty, concatenation
 use Rattle.expression.specs.Rows.{GoodTable, StartsAt}
 use Rattle.expression.specs.Columns.{rows}
 use Rattle.expression.proofs.Placed.{Placed, placed_size}
-use Rattle.expression.proofs.Table.{name_length}
+use Rattle.expression.proofs.Tables.{name_length}
 use Rattle.expression.proofs.Places.{place_total, start_placed, start_within}
-use Rattle.letters.specs.Accepts.{Accepts, flag_at}
+use Rattle.letters.specs.Accepts.{Accepts}
 use Rattle.letters.specs.State.{RowReads, StateOf, TablesOf}
+use Rattle.letters.specs.declared.Tables.{Tables}
 use Rattle.letters.specs.Tables.{name_of, first_of, null_of, cont_of, ends_of, Tabled}
 use Rattle.letters.specs.Following.{gate, HeadRow, over_set, over_end, loop_set, loop_end, Filled, AllFilled, ContsOf}
 use Rattle.letters.proofs.Automaton.{Local, accepts_sound, accepts_complete}
@@ -105,9 +106,9 @@ module _ {Letter : Type 0} (Reads Row : ℕ → Letter → Type 0) (kind name si
 -- ---- for callers
 
 -- the filled lists, laid into one, are tables of the expressions
-module _ {kind name size : List ℕ} {es : List Expression} (g : GoodTable kind name size es) (label first cont : List ℕ) (null ends : List Bool)
-    (names : (s : ℕ) → s < length name → number_at label s ≡ number_at name s)
-    (heads : (s : ℕ) → s < length kind → HeadRow (number_at kind) (number_at size) (number_at first) (flag_at null) s)
+module _ {kind name size : List ℕ} {es : List Expression} (g : GoodTable kind name size es) (label first cont : ℕ → ℕ) (null ends : ℕ → Bool)
+    (names : (s : ℕ) → s < length name → label s ≡ number_at name s)
+    (heads : (s : ℕ) → s < length kind → HeadRow (number_at kind) (number_at size) first null s)
     (conts : ContsOf first null cont ends es (length kind)) where
   at_start : {A : Type 0} (over loop : ℕ → A → A) (after : ℕ → A) (v : A) {e : Expression} {row : ℕ} → StartsAt es e row
       → AllFilled over loop after es 0 (length kind) v → Filled over loop after e row (length kind) v
@@ -123,30 +124,30 @@ module _ {kind name size : List ℕ} {es : List Expression} (g : GoodTable kind 
       → ((word : List ℕ) → Accepts (λ q c. Same (label q) c) cont ends (first row) (null row) word → In e word)
       × ((word : List ℕ) → In e word → Accepts (λ q c. Same (label q) c) cont ends (first row) (null row) word)
 
-  begins : Begins (number_at label) (number_at first) (flag_at null) (number_at cont) (flag_at ends)
+  begins : Begins label first null cont ends
   begins e row s =
-      let c = at_start (over_set (number_at first) (flag_at null)) (loop_set (number_at first) (flag_at null)) (number_at cont) 0 s conts.sets in
-      let d = at_start (over_end (number_at first) (flag_at null)) (loop_end (number_at first) (flag_at null)) (flag_at ends) true s conts.finals in
-      let labels : (i : ℕ) → i < length kind → number_at label i ≡ number_at name i = λ i h. names i (omega (arith, name_length g)) in
-      let reads : (i : ℕ) → i < length kind → (c : ℕ) → (Same (number_at label i) c → Same (number_at name i) c) × (Same (number_at name i) c → Same (number_at label i) c) =
+      let c = at_start (over_set first null) (loop_set first null) cont 0 s conts.sets in
+      let d = at_start (over_end first null) (loop_end first null) ends true s conts.finals in
+      let labels : (i : ℕ) → i < length kind → label i ≡ number_at name i = λ i h. names i (omega (arith, name_length g)) in
+      let reads : (i : ℕ) → i < length kind → (c : ℕ) → (Same (label i) c → Same (number_at name i) c) × (Same (number_at name i) c → Same (label i) c) =
       λ i h c. (λ q. sym (labels i h) ∙ q, λ q. labels i h ∙ q) in (
-        read_sound Same (λ q c. Same (number_at label q) c) (number_at kind) (number_at name) (number_at size) (number_at first) (number_at cont)
-            (flag_at null) (flag_at ends) (length kind) reads heads e row (start_placed g s) (start_within g s) c d,
-        read_complete Same (λ q c. Same (number_at label q) c) (number_at kind) (number_at name) (number_at size) (number_at first) (number_at cont)
-            (flag_at null) (flag_at ends) (length kind) reads heads e row (start_placed g s) (start_within g s) c d,
+        read_sound Same (λ q c. Same (label q) c) (number_at kind) (number_at name) (number_at size) first cont
+            null ends (length kind) reads heads e row (start_placed g s) (start_within g s) c d,
+        read_complete Same (λ q c. Same (label q) c) (number_at kind) (number_at name) (number_at size) first cont
+            null ends (length kind) reads heads e row (start_placed g s) (start_within g s) c d,
       )
 
-  pub tables_are : {tables : List ℕ} → Tabled label first null cont ends tables → TablesOf es tables
+  pub tables_are : {tables : Tables} → Tabled label first null cont ends tables → TablesOf es tables
   tables_are {tables} h =
       let b : Begins (name_of tables) (first_of tables) (null_of tables) (cont_of tables) (ends_of tables) =
       subst (λ (f : ℕ → ℕ). Begins f (first_of tables) (null_of tables) (cont_of tables) (ends_of tables)) (sym h.names)
-      (subst (λ (f : ℕ → ℕ). Begins (number_at label) f (null_of tables) (cont_of tables) (ends_of tables)) (sym h.firsts)
-      (subst (λ (f : ℕ → Bool). Begins (number_at label) (number_at first) f (cont_of tables) (ends_of tables)) (sym h.nulls)
-      (subst (λ (f : ℕ → ℕ). Begins (number_at label) (number_at first) (flag_at null) f (ends_of tables)) (sym h.conts)
-      (subst (λ (f : ℕ → Bool). Begins (number_at label) (number_at first) (flag_at null) (number_at cont) f) (sym h.finals) begins)))) in
+      (subst (λ (f : ℕ → ℕ). Begins label f (null_of tables) (cont_of tables) (ends_of tables)) (sym h.firsts)
+      (subst (λ (f : ℕ → Bool). Begins label first f (cont_of tables) (ends_of tables)) (sym h.nulls)
+      (subst (λ (f : ℕ → ℕ). Begins label first null f (ends_of tables)) (sym h.conts)
+      (subst (λ (f : ℕ → Bool). Begins label first null cont f) (sym h.finals) begins)))) in
       record { starts = λ {e} {row} s. record { sound = (b e row s).0; complete = (b e row s).1 } }
 
-module _ {tables : List ℕ} {e : Expression} {word : List ℕ} {next : ℕ} {end : Bool} (state : StateOf tables e word next end) where
+module _ {tables : Tables} {e : Expression} {word : List ℕ} {next : ℕ} {end : Bool} (state : StateOf tables e word next end) where
   -- a state's end decides the language
   pub decides : Says end (In e word)
   decides = (λ q. rw append-nil at (state.sound [] q), λ i. state.complete [] (rw append-nil i))

@@ -1,7 +1,7 @@
 -- One turn of the loop that fills what comes after the rows, from the first row down; the value of a row is left open.
-use mathlib.Core.Path.{◌≡◌, sym, ◌∙◌, subst}
+use mathlib.Core.Path.{◌≡◌, sym, ap, ◌∙◌, subst}
 use mathlib.Core.Logic.{⊎_elim}
-use mathlib.Core.Bool.{Bool, true, false}
+use mathlib.Core.Bool.{Bool, true}
 use mathlib.Core.List.{List, [], ◌∷◌, ◌++◌}
 use Prim.Native.Nat.{ℕ, zero, suc, ◌+◌, ◌≤◌, ◌<◌}
 use native.Mathlib.Numerals.{add-one}
@@ -16,9 +16,9 @@ use Rattle.expression.proofs.Small.{SymbolsFit, AllFit, small_all}
 use Rattle.expression.specs.Rule.{number_at, left_of, right_of}
 use Rattle.expression.proofs.Ways.{two_ways, three_ways}
 use Rattle.expression.proofs.Placed.{rows_positive, total, Placed, Laid, placed_size}
-use Rattle.expression.proofs.Table.{placed_fits, kind_length, good_laid}
-use Rattle.letters.specs.Accepts.{flag_at}
-use Rattle.letters.specs.Following.{PartsAre, followed, over_set, over_end, loop_set, loop_end, Filled, AllFilled, ContsOf}
+use Rattle.expression.proofs.Tables.{placed_fits, kind_length, good_laid}
+use Rattle.letters.specs.declared.State.{State}
+use Rattle.letters.specs.Following.{state_in, next_in, end_in, PartsAre, followed, over_set, over_end, loop_set, loop_end, Filled, AllFilled, ContsOf}
 
 -- ---- what a turn changes
 
@@ -29,15 +29,16 @@ pub record Turn {A : Type 0} (over loop : ℕ → A → A) (old new : ℕ → A)
   pub left : new (left_of k i) ≡ followed k (over (right_of k i z) (old i)) (loop (right_of k i z) (old i)) (old i)
   pub right : (right_of k i z ≡ left_of k i → ⊥) → new (right_of k i z) ≡ old i
 
-pub turn : {A : Type 0} (over loop : ℕ → A → A) (xs : List A) (d w : A) (i k z l r : ℕ) → l ≡ left_of k i → r ≡ right_of k i z
-    → l < length xs → r < length xs → w ≡ followed k (over r (get_or xs i d)) (loop r (get_or xs i d)) (get_or xs i d)
-    → Turn over loop (λ j. get_or xs j d) (λ j. get_or (set (set xs r (get_or xs i d)) l w) j d) i k z
-turn over loop xs d w i k z l r pl pr hl hr q =
+-- .. of what p reads from a list
+pub turn : {A X : Type 0} (over loop : ℕ → A → A) (p : X → A) (xs : List X) (d w : X) (i k z l r : ℕ) → l ≡ left_of k i → r ≡ right_of k i z
+    → l < length xs → r < length xs → p w ≡ followed k (over r (p (get_or xs i d))) (loop r (p (get_or xs i d))) (p (get_or xs i d))
+    → Turn over loop (λ j. p (get_or xs j d)) (λ j. p (get_or (set (set xs r (get_or xs i d)) l w) j d)) i k z
+turn over loop p xs d w i k z l r pl pr hl hr q =
     record {
-      other = λ j a b. get_or-set_other (set xs r (get_or xs i d)) l j w d (λ e. a (e ∙ pl)) ∙ get_or-set_other xs r j (get_or xs i d) d (λ e. b (e ∙ pr));
-      left = rw (sym pl, sym pr) (get_or-set_same (set xs r (get_or xs i d)) l w d (rw (length-set xs r (get_or xs i d)) hl) ∙ q);
+      other = λ j a b. ap p (get_or-set_other (set xs r (get_or xs i d)) l j w d (λ e. a (e ∙ pl)) ∙ get_or-set_other xs r j (get_or xs i d) d (λ e. b (e ∙ pr)));
+      left = rw (sym pl, sym pr) (ap p (get_or-set_same (set xs r (get_or xs i d)) l w d (rw (length-set xs r (get_or xs i d)) hl)) ∙ q);
       right = λ a.
-          rw (sym pr) (get_or-set_other (set xs r (get_or xs i d)) l r w d (λ e. a (sym pr ∙ e ∙ pl)) ∙ get_or-set_same xs r (get_or xs i d) d hr);
+          rw (sym pr) (ap p (get_or-set_other (set xs r (get_or xs i d)) l r w d (λ e. a (sym pr ∙ e ∙ pl)) ∙ get_or-set_same xs r (get_or xs i d) d hr));
     }
 
 module _ {A : Type 0} (over loop : ℕ → A → A) where
@@ -208,33 +209,32 @@ module _ {A : Type 0} (over loop : ℕ → A → A) where
 
 -- ---- the loop over a good table
 
-module _ {kind name size : List ℕ} {es : List Expression} (g : GoodTable kind name size es) (first : List ℕ) (null : List Bool) where
-  abbrev fs : ℕ → ℕ
-  fs = number_at first
+module _ {kind name size : List ℕ} {es : List Expression} (g : GoodTable kind name size es) (first : ℕ → ℕ) (null : ℕ → Bool) where
+  abbrev fresh_states : List State
+  fresh_states = replicate 64 (record { next = 0; end = true })
 
-  abbrev ns : ℕ → Bool
-  ns = flag_at null
-
-  pub conts_begin : ContsOf first null (replicate 64 0) (replicate 64 true) es 0
+  pub conts_begin : ContsOf first null (next_in fresh_states) (end_in fresh_states) es 0
   conts_begin =
       let fits : 0 + total es ≤ 64 = omega (arith, kind_length g, g.most) in
+      let each : (j : ℕ) → j < 64 → state_in fresh_states j ≡ record { next = 0; end = true } = λ j h. get_or-replicate 64 j _ _ h in
       record {
-        sets = all_fresh (over_set fs ns) (loop_set fs ns) (number_at (replicate 64 0)) 0 64 (λ j h. get_or-replicate 64 j 0 0 h) es 0 fits;
-        finals = all_fresh (over_end fs ns) (loop_end fs ns) (flag_at (replicate 64 true)) true 64 (λ j h. get_or-replicate 64 j true false h) es 0 fits;
+        sets = all_fresh (over_set first null) (loop_set first null) (next_in fresh_states) 0 64 (λ j h. ap (λ (x : State). x.next) (each j h)) es 0 fits;
+        finals = all_fresh (over_end first null) (loop_end first null) (end_in fresh_states) true 64 (λ j h. ap (λ (x : State). x.end) (each j h)) es 0 fits;
       }
 
-  pub conts_turn : (cont : List ℕ) (ends : List Bool) (i l r next : ℕ) (end : Bool) → i < length kind → length kind ≤ length cont → length kind ≤ length ends
+  pub conts_turn : (states : List State) (i l r : ℕ) (after : State) → i < length kind → length kind ≤ length states
       → PartsAre (number_at kind i) i (number_at size (i + 1)) l r → (l < length kind) × (r < length kind)
-      → next ≡ followed (number_at kind i) (over_set fs ns r (number_at cont i)) (loop_set fs ns r (number_at cont i)) (number_at cont i)
-      → end ≡ followed (number_at kind i) (over_end fs ns r (flag_at ends i)) (loop_end fs ns r (flag_at ends i)) (flag_at ends i)
-      → ContsOf first null cont ends es i → ContsOf first null (set (set cont r (number_at cont i)) l next) (set (set ends r (flag_at ends i)) l end) es (i + 1)
-  conts_turn cont ends i l r next end h hc he parts rows qc qe t =
-      let tc = turn (over_set fs ns) (loop_set fs ns) cont 0 next i (number_at kind i) (number_at size (i + 1)) l r parts.0 parts.1
-      (omega (arith, rows.0)) (omega (arith, rows.1)) qc in
-      let te = turn (over_end fs ns) (loop_end fs ns) ends false end i (number_at kind i) (number_at size (i + 1)) l r parts.0 parts.1
-      (omega (arith, rows.0)) (omega (arith, rows.1)) qe in
+      → after.next ≡ followed (number_at kind i) (over_set first null r (next_in states i)) (loop_set first null r (next_in states i)) (next_in states i)
+      → after.end ≡ followed (number_at kind i) (over_end first null r (end_in states i)) (loop_end first null r (end_in states i)) (end_in states i)
+      → ContsOf first null (next_in states) (end_in states) es i
+      → ContsOf first null (next_in (set (set states r (state_in states i)) l after)) (end_in (set (set states r (state_in states i)) l after)) es (i + 1)
+  conts_turn states i l r after h few parts rows next end t =
+      let tc = turn (over_set first null) (loop_set first null) (λ (x : State). x.next) states _ after i (number_at kind i) (number_at size (i + 1)) l r parts.0 parts.1
+      (omega (arith, rows.0)) (omega (arith, rows.1)) next in
+      let te = turn (over_end first null) (loop_end first null) (λ (x : State). x.end) states _ after i (number_at kind i) (number_at size (i + 1)) l r parts.0 parts.1
+      (omega (arith, rows.0)) (omega (arith, rows.1)) end in
       let below : i < 0 + total es = omega (arith, kind_length g) in
       record {
-        sets = all_turn (over_set fs ns) (loop_set fs ns) _ _ i (number_at kind) (number_at name) (number_at size) tc es 0 0 (good_laid g) (small_all g) (omega arith) below t.sets;
-        finals = all_turn (over_end fs ns) (loop_end fs ns) _ _ i (number_at kind) (number_at name) (number_at size) te es 0 true (good_laid g) (small_all g) (omega arith) below t.finals;
+        sets = all_turn (over_set first null) (loop_set first null) _ _ i (number_at kind) (number_at name) (number_at size) tc es 0 0 (good_laid g) (small_all g) (omega arith) below t.sets;
+        finals = all_turn (over_end first null) (loop_end first null) _ _ i (number_at kind) (number_at name) (number_at size) te es 0 true (good_laid g) (small_all g) (omega arith) below t.finals;
       }

@@ -2,15 +2,15 @@
 use mathlib.Core.Path.{◌≡◌, refl, sym, ap, ap₂, ◌∙◌, subst}
 use mathlib.Core.Logic.{◌⊎◌, inl, inr}
 use mathlib.Core.List.{List}
-use mathlib.Core.Bool.{Bool, false}
+use mathlib.Core.Bool.{Bool}
 use Prim.Native.Nat.{ℕ, zero, suc, ◌+◌, ◌-◌, ◌≤◌, ◌<◌}
 use native.Mathlib.Omega.{arith}
 use native.Mathlib.Nat.{eq-zero-or-pos}
-use lib.ListN.{length, get_or, set}
+use lib.ListN.{length, set}
 use lib.Seq.{get_or-set_same, get_or-set_other}
-use Rattle.expression.specs.Rule.{left_of, right_of, number_at}
-use Rattle.letters.specs.Following.{head_set, head_null, HeadRow, Shape, PartsAre, followed}
-use Rattle.letters.specs.Accepts.{flag_at}
+use Rattle.expression.specs.Rule.{left_of, right_of}
+use Rattle.letters.specs.declared.Head.{Head}
+use Rattle.letters.specs.Following.{head_in, first_in, null_in, head_set, head_null, HeadRow, Shape, PartsAre, followed}
 
 left_least : (k s : ℕ) → s ≤ left_of k s
 left_least zero s = omega arith
@@ -81,28 +81,37 @@ module _ (kind size f f' : ℕ → ℕ) (g g' : ℕ → Bool) (i : ℕ) (F : (j 
   null_same (suc (suc (suc zero))) z = rw (G (i + 1) (omega arith), G (i + 1 + z) (omega arith))
   null_same (suc (suc (suc (suc k)))) z = refl
 
-module _ (kind size : ℕ → ℕ) (fs : List ℕ) (ns : List Bool) (i n v : ℕ) (b : Bool) (hf : i < length fs) (hn : i < length ns)
-    (ev : v ≡ head_set (kind i) i (get_or fs (left_of (kind i) i) 0) (get_or ns (left_of (kind i) i) false) (get_or fs (right_of (kind i) i (size (i + 1))) 0))
-    (eb : b ≡ head_null (kind i) (get_or ns (left_of (kind i) i) false) (get_or ns (right_of (kind i) i (size (i + 1))) false)) where
-  pub heads_turn : ((s : ℕ) → i + 1 ≤ s → s < n → HeadRow kind size (number_at fs) (flag_at ns) s)
-      → (s : ℕ) → i ≤ s → s < n → HeadRow kind size (number_at (set fs i v)) (flag_at (set ns i b)) s
-  heads_turn r s h l = go (eq-zero-or-pos (s - i))
+module _ (kind size : ℕ → ℕ) (heads : List Head) (i n : ℕ) (h : Head) (few : i < length heads)
+    (first : h.first ≡ head_set (kind i) i (first_in heads (left_of (kind i) i)) (null_in heads (left_of (kind i) i)) (first_in heads (right_of (kind i) i (size (i + 1)))))
+    (null : h.null ≡ head_null (kind i) (null_in heads (left_of (kind i) i)) (null_in heads (right_of (kind i) i (size (i + 1))))) where
+  abbrev more : List Head
+  more = set heads i h
+
+  pub heads_turn : ((s : ℕ) → i + 1 ≤ s → s < n → HeadRow kind size (first_in heads) (null_in heads) s)
+      → (s : ℕ) → i ≤ s → s < n → HeadRow kind size (first_in more) (null_in more) s
+  heads_turn r s g l = go (eq-zero-or-pos (s - i))
     where
-      F : (j : ℕ) → i < j → get_or (set fs i v) j 0 ≡ get_or fs j 0
-      F j h = get_or-set_other fs i j v 0 (omega arith)
+      same : (j : ℕ) → i < j → head_in more j ≡ head_in heads j
+      same j g = get_or-set_other heads i j h _ (omega arith)
 
-      G : (j : ℕ) → i < j → get_or (set ns i b) j false ≡ get_or ns j false
-      G j h = get_or-set_other ns i j b false (omega arith)
+      F : (j : ℕ) → i < j → first_in more j ≡ first_in heads j
+      F j g = ap (λ (x : Head). x.first) (same j g)
 
-      here : HeadRow kind size (number_at (set fs i v)) (flag_at (set ns i b)) i
+      G : (j : ℕ) → i < j → null_in more j ≡ null_in heads j
+      G j g = ap (λ (x : Head). x.null) (same j g)
+
+      own : head_in more i ≡ h
+      own = get_or-set_same heads i h _ few
+
+      here : HeadRow kind size (first_in more) (null_in more) i
       here = (
-        get_or-set_same fs i v 0 hf ∙ ev ∙ set_same kind size _ _ _ _ i F G (kind i) (size (i + 1)),
-        get_or-set_same ns i b false hn ∙ eb ∙ null_same kind size (number_at fs) (number_at (set fs i v)) _ _ i F G (kind i) (size (i + 1)),
+        ap (λ (x : Head). x.first) own ∙ first ∙ set_same kind size _ _ _ _ i F G (kind i) (size (i + 1)),
+        ap (λ (x : Head). x.null) own ∙ null ∙ null_same kind size (first_in heads) (first_in more) _ _ i F G (kind i) (size (i + 1)),
       )
 
-      go : (s - i ≡ 0) ⊎ (0 < s - i) → HeadRow kind size (number_at (set fs i v)) (flag_at (set ns i b)) s
-      go (inl e) = subst (λ (s : ℕ). HeadRow kind size (number_at (set fs i v)) (flag_at (set ns i b)) s) (omega arith) here
-      go (inr p) = head_same kind size (number_at fs) (number_at (set fs i v)) (flag_at ns) (flag_at (set ns i b)) i F G s (omega arith) (r s (omega arith) l)
+      go : (s - i ≡ 0) ⊎ (0 < s - i) → HeadRow kind size (first_in more) (null_in more) s
+      go (inl e) = subst (λ (s : ℕ). HeadRow kind size (first_in more) (null_in more) s) (omega arith) here
+      go (inr p) = head_same kind size (first_in heads) (first_in more) (null_in heads) (null_in more) i F G s (omega arith) (r s (omega arith) l)
 
 pub parts_in : (kind size : ℕ → ℕ) (n s l r : ℕ) → Shape kind size n → s < n → PartsAre (kind s) s (size (s + 1)) l r
     → PartsAre (kind s) s (size (s + 1)) l r × ((l < n) × (r < n))
@@ -123,12 +132,3 @@ follow_loop (suc zero) o l v h = absurd (omega arith)
 follow_loop (suc (suc zero)) o l v h = absurd (omega arith)
 follow_loop (suc (suc (suc zero))) o l v h = absurd (omega arith)
 follow_loop (suc (suc (suc (suc k)))) o l v h = refl
-
--- a list that is right before i, and one store more
-pub set_more : (xs : List ℕ) (d : ℕ) (f : ℕ → ℕ) (i : ℕ) → i < length xs → ((j : ℕ) → j < i → get_or xs j d ≡ f j)
-    → (j : ℕ) → j < i + 1 → get_or (set xs i (f i)) j d ≡ f j
-set_more xs d f i h r j l = go (eq-zero-or-pos (i - j))
-  where
-    go : (i - j ≡ 0) ⊎ (0 < i - j) → get_or (set xs i (f i)) j d ≡ f j
-    go (inl z) = subst (λ (j : ℕ). get_or (set xs i (f i)) j d ≡ f j) (omega arith) (get_or-set_same xs i (f i) d h)
-    go (inr p) = get_or-set_other xs i j (f i) d (omega arith) ∙ r j (omega arith)

@@ -1,6 +1,6 @@
 pub mod Sets
 pub mod Visit
-pub mod Five
+pub mod Laid
 pub mod Automaton
 pub mod OneLetter
 pub mod Firsts

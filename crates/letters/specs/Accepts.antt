@@ -1,9 +1,5 @@
 -- Not needed to believe the promise: 01, "Patterns and constraints": "A set of its letters fits one 64-bit number, visited from the lowest set bit up."
-use Rattle.std.specs.Prelude.{◌≡◌, Bool, true, false, List, [], ◌∷◌, ℕ, zero, suc, ◌/◌, ◌%◌, get_or}
-
--- the flag of a row, no where there is none
-abbrev pub flag_at : List Bool → ℕ → Bool
-flag_at list = λ row. get_or list row false
+use Rattle.std.specs.Prelude.{◌≡◌, Bool, true, List, [], ◌∷◌, ℕ, zero, suc, ◌/◌, ◌%◌}
 
 -- q is in the set s: its bit q is set
 abbrev pub Has : ℕ → ℕ → Type 0

@@ -1,10 +1,31 @@
 -- Not needed to believe the promise: how the tables are filled, row by row.
-use Rattle.std.specs.Prelude.{◌≡◌, Bool, true, false, ◌&&◌, ◌||◌, List, [], ◌∷◌, ℕ, zero, suc, ◌+◌, ◌<◌, ◌^◌}
+use Rattle.std.specs.Prelude.{◌≡◌, Bool, true, false, ◌&&◌, ◌||◌, List, [], ◌∷◌, ℕ, zero, suc, ◌+◌, ◌<◌, ◌^◌, get_or}
 use Rattle.std.specs.Int.Bits.{bit_or}
 use Rattle.expression.specs.Expression.{Expression, symbol, empty, concatenation, choice, repetition}
 use Rattle.expression.specs.Columns.{rows}
-use Rattle.expression.specs.Rule.{number_at, left_of, right_of}
-use Rattle.letters.specs.Accepts.{flag_at}
+use Rattle.expression.specs.Rule.{left_of, right_of}
+use Rattle.letters.specs.declared.Head.{Head}
+use Rattle.letters.specs.declared.State.{State}
+
+-- ---- the lists of the code by rows; beyond them nothing is there
+
+abbrev pub head_in : List Head → ℕ → Head
+head_in heads row = get_or heads row (record { first = 0; null = false })
+
+abbrev pub first_in : List Head → ℕ → ℕ
+first_in heads = λ row. (head_in heads row).first
+
+abbrev pub null_in : List Head → ℕ → Bool
+null_in heads = λ row. (head_in heads row).null
+
+abbrev pub state_in : List State → ℕ → State
+state_in states row = get_or states row (record { next = 0; end = false })
+
+abbrev pub next_in : List State → ℕ → ℕ
+next_in states = λ row. (state_in states row).next
+
+abbrev pub end_in : List State → ℕ → Bool
+end_in states = λ row. (state_in states row).end
 
 -- ---- what may come first in a row's words, and whether the empty word is one: from the last row up
 
@@ -77,7 +98,7 @@ module _ {A : Type 0} (over loop : ℕ → A → A) (after : ℕ → A) where
   AllFilled [] s i v = Unit {0}
   AllFilled (e ∷ es) s i v = Filled e s i v × AllFilled es (s + rows e) i v
 
--- the same for the tables of the expressions es: after a top-level expression nothing comes, and the word may end
-pub record ContsOf (first : List ℕ) (null : List Bool) (cont : List ℕ) (ends : List Bool) (es : List Expression) (i : ℕ) : Type 0 where
-  pub sets : AllFilled (over_set (number_at first) (flag_at null)) (loop_set (number_at first) (flag_at null)) (number_at cont) es 0 i 0
-  pub finals : AllFilled (over_end (number_at first) (flag_at null)) (loop_end (number_at first) (flag_at null)) (flag_at ends) es 0 i true
+-- the same for the expressions es: after a top-level expression nothing comes, and the word may end
+pub record ContsOf (first : ℕ → ℕ) (null : ℕ → Bool) (cont : ℕ → ℕ) (ends : ℕ → Bool) (es : List Expression) (i : ℕ) : Type 0 where
+  pub sets : AllFilled (over_set first null) (loop_set first null) cont es 0 i 0
+  pub finals : AllFilled (over_end first null) (loop_end first null) ends es 0 i true

@@ -5,28 +5,21 @@ ghost use Rattle.std.specs.Int.Bits.{bit_or};
 ghost use Rattle.expression.specs.Expression.{Expression};
 ghost use Rattle.expression.specs.Rows.{GoodTable, StartsAt};
 ghost use Rattle.expression.specs.Rule.{number_at};
-ghost use Rattle.letters.specs.Accepts.{flag_at};
 ghost use Rattle.letters.specs.State.{StateOf, TablesOf};
-ghost use Rattle.letters.specs.Tables.{noted, five, LayPre, Tabled};
-ghost use Rattle.letters.specs.Following.{gate, head_set, head_null, HeadRow, Shape, PartsAre, followed, ContsOf};
+ghost use Rattle.letters.specs.Tables.{Tabled};
+ghost use Rattle.letters.specs.Following.{first_in, null_in, next_in, end_in, gate, head_set, head_null, HeadRow, Shape, PartsAre, followed, ContsOf};
 
+use expression::Table;
 use expression::kinds::{CHOICE, CONCATENATION, EMPTY, SYMBOL};
-use meaning::wide;
 
 // The rows that may read the next letter, and whether the word may end here.
-#[derive(Drop)]
+#[derive(Clone, Copy)]
 pub struct State {
     pub next: u64,
     pub end: bool,
 }
 
-// A flag as a number.
-pub fn number(flag: bool) -> usize
-    ensures { result ≡ noted flag }
-{
-    if flag { 1 } else { 0 }
-}
-
+// The set x where a flag is on: a word for what both parts below say.
 fn gated(on: bool, x: u64) -> u64
     ensures { result ≡ gate on x }
 {
@@ -34,7 +27,7 @@ fn gated(on: bool, x: u64) -> u64
 }
 
 // The rows of the parts of a row; a leaf stands for its own parts.
-#[derive(Drop)]
+#[derive(Clone, Copy)]
 struct Parts {
     left: usize,
     right: usize,
@@ -57,14 +50,14 @@ fn parts_of(kind: &[u32], size: &[u32], row: usize) -> Parts
     if k < 4 {
         return Parts {
             left: l,
-            right: l + wide(size[l]),
+            right: l + size[l] as usize,
         };
     }
     Parts { left: l, right: l }
 }
 
 // The rows that may read first, and whether the empty word is one.
-#[derive(Drop)]
+#[derive(Clone, Copy)]
 struct Head {
     first: u64,
     null: bool,
@@ -83,13 +76,10 @@ fn head_of(kind: u32, row: usize, l: Head, r: Head) -> Head
             first: 0,
             null: true,
         },
-        CONCATENATION => {
-            let more = gated(l.null, r.first);
-            Head {
-                first: l.first | more,
-                null: l.null & r.null,
-            }
-        }
+        CONCATENATION => Head {
+            first: l.first | gated(l.null, r.first),
+            null: l.null & r.null,
+        },
         CHOICE => Head {
             first: l.first | r.first,
             null: l.null | r.null,
@@ -101,46 +91,22 @@ fn head_of(kind: u32, row: usize, l: Head, r: Head) -> Head
     }
 }
 
-#[derive(Drop)]
-struct Heads {
-    first: [u64; 64],
-    null: [bool; 64],
-}
-
 // Each row's head, from the last row up.
-fn heads_of(kind: &[u32], size: &[u32]) -> Heads
+fn heads_of(kind: &[u32], size: &[u32]) -> [Head; 64]
     requires { (length size.now ≡ length kind.now) × (length kind.now ≤ 64)
         × Shape (number_at kind.now) (number_at size.now) (length kind.now) }
-    ensures { (length result.first ≡ 64) × (length result.null ≡ 64)
-        × ((s : ℕ) → s < length kind.now → HeadRow (number_at kind.now) (number_at size.now) (number_at result.first) (flag_at result.null) s) }
+    ensures { (s : ℕ) → s < length kind.now → HeadRow (number_at kind.now) (number_at size.now) (first_in result) (null_in result) s }
 {
-    let mut first = [0u64; 64];
-    let mut null = [false; 64];
-    let mut i = kind.len();
-    while 0 < i {
-        i -= 1;
-        let p = parts_of(kind, size, i);
-        let l = p.left;
-        let r = p.right;
-        let h = head_of(
-            kind[i],
-            i,
-            Head {
-                first: first[l],
-                null: null[l],
-            },
-            Head {
-                first: first[r],
-                null: null[r],
-            },
-        );
-        first[i] = h.first;
-        null[i] = h.null;
+    let none = Head {
+        first: 0,
+        null: false,
+    };
+    let mut heads = [none; 64];
+    for row in (0..kind.len()).rev() {
+        let parts = parts_of(kind, size, row);
+        heads[row] = head_of(kind[row], row, heads[parts.left], heads[parts.right]);
     }
-    Heads {
-        first: first,
-        null: null,
-    }
+    heads
 }
 
 // What may come after the left part of a row: `head` is that of the right part, `here` is what may come after the row.
@@ -149,9 +115,8 @@ fn follow(kind: u32, head: Head, here: State) -> State
         × (result.end ≡ followed kind (head.null && here.end) here.end here.end) }
 {
     if kind == CONCATENATION {
-        let more = gated(head.null, here.next);
         return State {
-            next: head.first | more,
+            next: head.first | gated(head.null, here.next),
             end: head.null & here.end,
         };
     }
@@ -164,156 +129,105 @@ fn follow(kind: u32, head: Head, here: State) -> State
     }
 }
 
-#[derive(Drop)]
-struct Conts {
-    cont: [u64; 64],
-    ends: [bool; 64],
-}
-
 // What may come after each row, from the first row down. After a top-level expression nothing comes.
-fn conts_of(kind: &[u32], size: &[u32], first: &[u64; 64], null: &[bool; 64]) -> Conts
+fn states_of(kind: &[u32], size: &[u32], heads: &[Head; 64]) -> [State; 64]
     requires { (length size.now ≡ length kind.now) × (length kind.now ≤ 64)
         × Shape (number_at kind.now) (number_at size.now) (length kind.now) }
-    ensures { (length result.cont ≡ 64) × (length result.ends ≡ 64)
-        × ((name : List ℕ) (es : List Expression) → GoodTable kind.now name size.now es
-        → ContsOf first.now null.now result.cont result.ends es (length kind.now)) }
+    ensures { (name : List ℕ) (es : List Expression) → GoodTable kind.now name size.now es
+        → ContsOf (first_in heads.now) (null_in heads.now) (next_in result) (end_in result) es (length kind.now) }
 {
-    let mut cont = [0u64; 64];
-    let mut ends = [true; 64];
-    let mut i = 0;
-    while i < kind.len() {
-        let p = parts_of(kind, size, i);
-        let l = p.left;
-        let r = p.right;
-        let head = Head {
-            first: first[r],
-            null: null[r],
-        };
-        let next = cont[i];
-        let end = ends[i];
-        let left = follow(
-            kind[i],
-            head,
-            State {
-                next: next,
-                end: end,
-            },
-        );
-        cont[r] = next;
-        ends[r] = end;
-        cont[l] = left.next;
-        ends[l] = left.end;
-        i += 1;
+    let last = State { next: 0, end: true };
+    let mut states = [last; 64];
+    for row in 0..kind.len() {
+        let parts = parts_of(kind, size, row);
+        let here = states[row];
+        states[parts.right] = here;
+        states[parts.left] = follow(kind[row], heads[parts.right], here);
     }
-    Conts {
-        cont: cont,
-        ends: ends,
-    }
+    states
 }
 
-#[derive(Drop)]
-struct Names {
-    name: [u32; 64],
-}
-
-fn names_of(name: &[u32]) -> Names
+fn names_of(name: &[u32]) -> [u32; 64]
     requires { length name.now ≤ 64 }
-    ensures { (length result.name ≡ 64) × ((s : ℕ) → s < length name.now → number_at result.name s ≡ number_at name.now s) }
+    ensures { (s : ℕ) → s < length name.now → number_at result s ≡ number_at name.now s }
 {
-    let mut copy = [0u32; 64];
-    let mut i = 0;
-    while i < name.len() {
-        copy[i] = name[i];
-        i += 1;
-    }
-    Names { name: copy }
+    let mut names = [0u32; 64];
+    names[..name.len()].copy_from_slice(name);
+    names
 }
 
-// The five numbers of a row: its name; the rows that may read first in it, and whether it has the empty word; the rows that may read
-// next after it, and whether the word may end after it.
-fn put(tables: &mut [u64; 320], row: usize, name: u32, head: Head, after: State)
-    requires { (row < 64) × (length tables.old ≡ 320) }
-    ensures { tables.new ≡ five tables.old row name head.first (noted head.null) after.next (noted after.end) }
-{
-    let at = 5 * row;
-    tables[at] = name as u64;
-    tables[at + 1] = head.first;
-    tables[at + 2] = number(head.null) as u64;
-    tables[at + 3] = after.next;
-    tables[at + 4] = number(after.end) as u64;
+// A row of the tables: its name; what may come first in it; and the state after its words.
+#[derive(Clone, Copy)]
+struct Row {
+    name: u32,
+    head: Head,
+    after: State,
 }
 
-// Five lists of a number for each row as one list.
-fn lay(
-    name: &[u32; 64],
-    first: &[u64; 64],
-    null: &[bool; 64],
-    cont: &[u64; 64],
-    ends: &[bool; 64],
-    tables: &mut [u64; 320],
-)
-    requires { LayPre name.now first.now null.now cont.now ends.now tables.old }
-    ensures { Tabled name.now first.now null.now cont.now ends.now tables.new }
+// The tables of an expression table: its rows, with what may come first in each and next after it.
+#[derive(Drop)]
+pub struct Tables {
+    rows: [Row; 64],
+}
+
+// All rows, one after another.
+fn lay(name: &[u32; 64], heads: &[Head; 64], states: &[State; 64]) -> Tables
+    ensures { Tabled (number_at name.now) (first_in heads.now) (null_in heads.now) (next_in states.now) (end_in states.now) result }
 {
-    let mut row = 0;
-    while row < 64 {
-        let head = Head {
-            first: first[row],
-            null: null[row],
+    let first = Row {
+        name: name[0],
+        head: heads[0],
+        after: states[0],
+    };
+    let mut rows = [first; 64];
+    for row in 0..64 {
+        rows[row] = Row {
+            name: name[row],
+            head: heads[row],
+            after: states[row],
         };
-        let after = State {
-            next: cont[row],
-            end: ends[row],
-        };
-        put(tables, row, name[row], head, after);
-        row += 1;
     }
+    Tables { rows }
 }
 
-// The tables of a good expression table, computed once for all words: five numbers a row, in one list.
-pub fn tables_of(kind: &[u32], name: &[u32], size: &[u32], tables: &mut [u64; 320])
-    requires { (length tables.old ≡ 320) × ((es : List Expression) × GoodTable kind.now name.now size.now es) }
-    ensures { (es : List Expression) → GoodTable kind.now name.now size.now es → TablesOf es tables.new }
+// The tables of a good expression table, computed once for all words.
+pub fn tables_of(table: &Table) -> Tables
+    requires { (es : List Expression) × GoodTable table.now.kind.now table.now.name.now table.now.size.now es }
+    ensures { (es : List Expression) → GoodTable table.now.kind.now table.now.name.now table.now.size.now es → TablesOf es result }
 {
-    let n = names_of(name);
-    let copy = n.name;
-    let h = heads_of(kind, size);
-    let first = h.first;
-    let null = h.null;
-    let c = conts_of(kind, size, &first, &null);
-    let cont = c.cont;
-    let ends = c.ends;
-    lay(&copy, &first, &null, &cont, &ends, tables);
+    let heads = heads_of(table.kind, table.size);
+    let states = states_of(table.kind, table.size, &heads);
+    lay(&names_of(table.name), &heads, &states)
 }
 
 // The state before the first letter, for the expression that starts at the row `root`.
-pub fn begin(tables: &[u64; 320], root: usize) -> State
+pub fn begin(tables: &Tables, root: usize) -> State
     requires { root < 64 }
     ensures { (es : List Expression) (e : Expression) → TablesOf es tables.now
         → StartsAt es e root → StateOf tables.now e [] result.next result.end }
 {
-    let at = 5 * root;
+    let head = tables.rows[root].head;
     State {
-        next: tables[at + 1],
-        end: tables[at + 2] == 1,
+        next: head.first,
+        end: head.null,
     }
 }
 
 // One more letter is read: the rows of the set that have its label are visited from the lowest up.
-pub fn step(next: u64, tables: &[u64; 320], label: u32) -> State
+pub fn step(next: u64, tables: &Tables, label: u32) -> State
     ensures { (e : Expression) (word : List ℕ) (end : Bool) → StateOf tables.now e word next end
         → StateOf tables.now e (word ++ (label ∷ [])) result.next result.end }
 {
-    let letter = label as u64;
     let mut left = next;
     let mut set: u64 = 0;
     let mut end = false;
+    // One turn for each bit that is set.
     while left != 0 {
         let p = u64::trailing_zeros(left) as usize;
-        let at = 5 * p;
-        if tables[at] == letter {
-            set = set | tables[at + 3];
-            end = end | (tables[at + 4] == 1);
+        let row = tables.rows[p];
+        if row.name == label {
+            set = set | row.after.next;
+            end = end | row.after.end;
         }
         left = left - (1u64 << p);
     }

@@ -16,15 +16,17 @@ use Rattle.walk.specs.Above.{Marks}
 use Rattle.walk.specs.Cycle.{stop_at}
 use Rattle.walk.specs.Onward.{Problem, BeginPost}
 use Rattle.walk.specs.Taken.{Answers}
-use Rattle.walk.specs.declared.Out.{Out}
-use Rattle.walk.specs.declared.Out.TheVariants as answer
+use Rattle.std.specs.Prelude.{Result, Err}
+use Rattle.walk.specs.declared.Halt.{Halt}
+use Rattle.walk.specs.declared.Halt.TheVariants as halt
 use Rattle.walk.proofs.Marks.{marks_kept}
 use Rattle.walk.proofs.Views.{need_agree}
 use Rattle.walk.proofs.Answered.{answers}
 use Rattle.levels.specs.Levels.{Search}
 use Rattle.levels.proofs.Going.{Asks, individuals, functions}
+use Rattle.letters.specs.declared.Tables.{Tables}
 
-module _ {L S M tables : List ℕ} {T : Term} {P : Pattern} {Q : List Kind} {es : List Expression} {cs : List Constraint}
+module _ {L S M : List ℕ} {tables : Tables} {T : Term} {P : Pattern} {Q : List Kind} {es : List Expression} {cs : List Constraint}
     (w : Search L S M tables T P Q es cs) {R A : List ℕ} (long : length R ≡ 32) (rows_long : length A ≡ 256) where
   pub first_asked : Problem L S M R A T P Q
   first_asked =
@@ -39,7 +41,7 @@ module _ {L S M tables : List ℕ} {T : Term} {P : Pattern} {Q : List Kind} {es 
         marks = record { few = w.pattern.few; long = rows_long };
       }
 
-  module _ {o : Out} {R' A' : List ℕ} (b : BeginPost L S M R A o R' A') where
+  module _ {o : Result ℕ Halt} {R' A' : List ℕ} (b : BeginPost L S M R A o R' A') where
     pub first_marks : Marks w.K A'
     first_marks = marks_kept (b.is T P Q first_asked).2 (record { few = w.pattern.few; long = rows_long })
 
@@ -52,7 +54,7 @@ module _ {L S M tables : List ℕ} {T : Term} {P : Pattern} {Q : List Kind} {es 
     pub first_answered : Answers R' o (walk (Allowed cs) (allowed? cs) P T [])
     first_answered = rw free (answers (b.is T P Q first_asked).0)
 
-    pub first_asks : (vals G : List ℕ) (p x s : ℕ) → o ≡ answer.Need (stop_at p x s) → Asks w R' A' vals G 0 p x s
+    pub first_asks : (vals G : List ℕ) (p x s : ℕ) → o ≡ Err (halt.Need (stop_at p x s)) → Asks w R' A' vals G 0 p x s
     unfolding first_asked
     first_asks vals G p x s e =
         let n = need_agree (rw e at (b.is T P Q first_asked).0) in

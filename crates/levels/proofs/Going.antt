@@ -34,8 +34,9 @@ use Rattle.choice.specs.Runs.{LevelPre, SkipPost}
 use Rattle.choice.specs.Runs as runs
 use Rattle.choice.proofs.Stops.{many_range, at_row, at_room}
 use Rattle.choice.proofs.Lands.{lands_inside, lands_small}
-use Rattle.walk.specs.declared.Out.{Out}
-use Rattle.walk.specs.declared.Out.TheVariants as out
+use Rattle.std.specs.Prelude.{Result, Err}
+use Rattle.walk.specs.declared.Halt.{Halt}
+use Rattle.walk.specs.declared.Halt.TheVariants as halt
 use Rattle.catalogue.proofs.Events.{Outcome}
 use Rattle.catalogue.proofs.Given.{Chosen}
 use Rattle.catalogue.proofs.Levels.{Level, level_kind, Levels, levels_next, levels_skip, levels_need, variables_rise}
@@ -44,6 +45,7 @@ use Rattle.catalogue.proofs.Loop.{Fixed}
 use Rattle.catalogue.proofs.Whole.{walked, is_tame}
 use Rattle.levels.specs.Levels.{Search, AttemptPost, Pause, Pauses}
 use Rattle.levels.proofs.Pauses.{pauses_skip, pauses_next, pauses_kept, pauses_need}
+use Rattle.letters.specs.declared.Tables.{Tables}
 
 -- individual and function variables have no constraint
 unjudged : {es : List Expression} (k : Kind) {a b : ℕ} {c : Constraint} (v : Value) → weight k ≡ 0 → Pair es k a b c → Obeys c v
@@ -60,12 +62,8 @@ few (a_sequence ∷ Q) = omega (arith, few Q)
 few (a_function ∷ Q) = omega (arith, few Q)
 few (a_context ∷ Q) = omega (arith, few Q)
 
--- an answer that fails asks for nothing
-fail_not_need : {p x s : ℕ} → out.Fail ≡ out.Need (stop_at p x s) → ⊥
-fail_not_need e = let z : ◌≡◌ {A = ℕ} 0 1 = cc in omega arith
-
 -- one problem that is searched
-module _ {L S M tables : List ℕ} {T : Term} {P : Pattern} {Q : List Kind} {es : List Expression} {cs : List Constraint}
+module _ {L S M : List ℕ} {tables : Tables} {T : Term} {P : Pattern} {Q : List Kind} {es : List Expression} {cs : List Constraint}
     (w : Search L S M tables T P Q es cs) where
   abbrev pub numbered : Numbered P Q
   numbered = w.pattern.numbered
@@ -230,21 +228,21 @@ module _ {L S M tables : List ℕ} {T : Term} {P : Pattern} {Q : List Kind} {es 
     try_taken long = (asking, last.lo, last.hi, taking long)
 
     -- what a try comes to: the walk's answer on one choice more, the levels after it, and where the last level's value stands
-    pub try_answered : {o : Out} {R' A' : List ℕ} {r : ℕ} → length R ≡ 32 → d < length U → d < length Nx → d < length F
+    pub try_answered : {o : Result ℕ Halt} {R' A' : List ℕ} {r : ℕ} → length R ≡ 32 → d < length U → d < length Nx → d < length F
         → FurtherPost S M (get_or G d 0) (get_or U d 0) (get_or F d 0 - 1) r
         → AttemptPost L S M tables R A (get_or G d 0) (get_or X d 0) (get_or St d 0) (get_or U d 0) (get_or Nx d 0) o R' A'
         → Answers R' o (walk (Allowed cs) (allowed? cs) P T (take (suc d) (set vals d (get_or Nx d 0))))
         × Leveled (set vals d (get_or Nx d 0)) X St (set Nx d (get_or Nx d 0 + 1)) (set F d (get_or F d 0 - 1)) (suc d)
         × Paused R' A' (set vals d (get_or Nx d 0)) G X St (set U d r) (set Nx d (get_or Nx d 0 + 1)) (set F d (get_or F d 0 - 1)) (suc d)
         × Before L S A' (get_or G d 0) (get_or U d 0) (get_or F d 0 - 1) w.K w.N w.Z Q
-        × ((p x s : ℕ) → o ≡ out.Need (stop_at p x s) → Asks R' A' (set vals d (get_or Nx d 0)) G (suc d) p x s)
+        × ((p x s : ℕ) → o ≡ Err (halt.Need (stop_at p x s)) → Asks R' A' (set vals d (get_or Nx d 0)) G (suc d) p x s)
     unfolding its_kind try_kind
     try_answered {o} {R'} {A'} {r} long ul nl fl further post = (answered.0, after, paused, before, answered.1)
       where
         v : ℕ
         v = get_or Nx d 0
 
-        is : ((Fitting v → ⊥) → o ≡ out.Fail)
+        is : ((Fitting v → ⊥) → o ≡ (Err halt.Fail))
             × (Fitting v → (m : ℕ) × Agree L S R' A' w.K w.N w.Z Q (get_or G d 0 + 1) m [] (λ ds. asking (v ∷ ds)) o)
             × Unchanged (get_or X d 0 + get_or X d 0) R R' × Unchanged (get_or G d 0 + 1) A A'
         is = post.is T P Q es cs its_kind.0 asking last.lo last.hi w its_kind.1 try_kind.2 (taking long)
@@ -282,21 +280,21 @@ module _ {L S M tables : List ℕ} {T : Term} {P : Pattern} {Q : List Kind} {es 
         behind k l h (no m) = omega (arith, ps.rise k d (omega arith) (omega arith))
 
         answered : Answers R' o (walk (Allowed cs) (allowed? cs) P T (take (suc d) (set vals d v)))
-            × ((p x s : ℕ) → o ≡ out.Need (stop_at p x s) → Asks R' A' (set vals d v) G (suc d) p x s)
+            × ((p x s : ℕ) → o ≡ Err (halt.Need (stop_at p x s)) → Asks R' A' (set vals d v) G (suc d) p x s)
         answered = go (allowed? cs (get_or X d 0) (value_at its_kind.0 (T ◂ none) (get_or St d 0) v))
           where
             go : Dec (Fitting v) → Answers R' o (walk (Allowed cs) (allowed? cs) P T (take (suc d) (set vals d v)))
-                × ((p x s : ℕ) → o ≡ out.Need (stop_at p x s) → Asks R' A' (set vals d v) G (suc d) p x s)
+                × ((p x s : ℕ) → o ≡ Err (halt.Need (stop_at p x s)) → Asks R' A' (set vals d v) G (suc d) p x s)
             go (no n) =
                 let h = is.0 n in
                 let j = (judged v top.low (omega (arith, top.high))).1 n in
-                (subst (λ (o : Out). Answers R' o (walk (Allowed cs) (allowed? cs) P T (take (suc d) (set vals d v)))) (sym h) (rw (chosen, j) fails), λ p x s e. absurd (fail_not_need (sym h ∙ e)))
+                (subst (λ (o : Result ℕ Halt). Answers R' o (walk (Allowed cs) (allowed? cs) P T (take (suc d) (set vals d v)))) (sym h) (rw (chosen, j) fails), λ p x s e. absurd (cc))
             go (yes a) =
                 let h = is.1 a in
                 let j = (judged v top.low (omega (arith, top.high))).0 a in (
                   rw (chosen, j) (answers h.1),
                   λ p x s e.
-                      let n = need_agree (subst (λ (o : Out). Agree L S R' A' w.K w.N w.Z Q (get_or G d 0 + 1) h.0 [] (λ ds. asking (v ∷ ds)) o) e h.1) in
+                      let n = need_agree (subst (λ (o : Result ℕ Halt). Agree L S R' A' w.K w.N w.Z Q (get_or G d 0 + 1) h.0 [] (λ ds. asking (v ∷ ds)) o) e h.1) in
                       record {
                         later = λ k l. behind k l n.0 (ℕ_discrete k d);
                         lo = n.1;

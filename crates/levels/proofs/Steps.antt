@@ -4,10 +4,11 @@ use mathlib.Core.List.{List}
 use native.Mathlib.Omega.{arith}
 use Rattle.choice.specs.Stops.{FurtherPre}
 use Rattle.choice.specs.Runs.{LevelPre, SkipPost}
+use Rattle.levels.specs.declared.Level.{Level}
 use Rattle.levels.specs.Columns.{LevelAt}
 use Rattle.levels.specs.Steps.{NextPre}
 
-module _ {L S M A W : List ℕ} {d budget tries p x s u v n : ℕ} (pre : NextPre L S M A W d budget tries) (e : LevelAt W d p x s u v n) where
+module _ {L S M A : List ℕ} {W : List Level} {d budget tries p x s u v n : ℕ} (pre : NextPre L S M A W d budget tries) (e : LevelAt W d p x s u v n) where
   pub some_left : 0 < n
   some_left = rw e.left pre.live
 

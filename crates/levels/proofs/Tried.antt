@@ -17,15 +17,19 @@ use Rattle.constraint.specs.Obeys.{Constraint}
 use Rattle.constraint.specs.Reading.{ObeysPre, ObeysPost}
 use Rattle.problem.specs.Allowing.{AllowedPost}
 use Rattle.problem.proofs.Allows.{kind_number, allowed_asks, allowed_by}
+use Rattle.memory.specs.declared.Memory.{Memory}
+use Rattle.paths.specs.declared.Path.{Path}
 use Rattle.memory.specs.Memory.{Both, GrowPre}
 use Rattle.walk.specs.Packed.{root_of}
 use Rattle.walk.specs.Above.{Stands, before_terms, over_term}
 use Rattle.walk.specs.Taken.{TakeAsked, TakePre, TakePost}
-use Rattle.walk.specs.declared.Out.{Out}
-use Rattle.walk.specs.declared.Out.TheVariants as out
+use Rattle.std.specs.Prelude.{Result, Err}
+use Rattle.walk.specs.declared.Halt.{Halt}
+use Rattle.walk.specs.declared.Halt.TheVariants as halt
 use Rattle.walk.proofs.Marks.{unchanged_same}
 use Rattle.walk.proofs.Resumes.{stop_row}
 use Rattle.levels.specs.Levels.{Search, AttemptPre, AttemptPost}
+use Rattle.letters.specs.declared.Tables.{Tables}
 
 one_kind : {a b : Kind} → old a ≡ old b → a ≡ b
 one_kind e = cc
@@ -38,7 +42,7 @@ kind_there : {L S A K N Z : List ℕ} {Q : List Kind} {p x s : ℕ} {w : Stop} {
 kind_there (before_terms c nm d e l pt g t hd) k f = d ∙ ap code (one_kind (sym c ∙ f))
 kind_there (over_term c nm d z i g t m b) k f = d ∙ ap code (one_kind (sym c ∙ f))
 
-module _ {L S M tables R A : List ℕ} {p x s u v : ℕ}
+module _ {L S M : List ℕ} {tables : Tables} {R A : List ℕ} {p x s u v : ℕ}
     (pre : AttemptPre L S M tables R A p x s u v) where
   -- the three numbers of the choice are those of its variable
   module _ {T : Term} {P : Pattern} {Q : List Kind} {es : List Expression} {cs : List Constraint} {k : Kind} {f : List ℕ → Res} {lo hi : ℕ}
@@ -61,7 +65,7 @@ module _ {L S M tables R A : List ℕ} {p x s u v : ℕ}
     says : {r : Bool} → ObeysPost L S tables (get_or M (6 * p + 4) 0) (get_or M (6 * p + 5) 0) (get_or M (6 * p) 0) s v r → AllowedPost L S tables w.C w.kinds x s v r
     says post = allowed_by x s v (rw (its_start, its_flag, its_kind) at post)
 
-  pub try_judged : {memory path : List ℕ} → Both L S tables (root_of M) memory path → GrowPre L S M tables p s v memory path
+  pub try_judged : {memory : Memory} {path : Path} → Both L S tables (root_of M) memory path → GrowPre L S M tables p s v memory path
   try_judged both =
       let h = pre.some in
       record {
@@ -74,7 +78,7 @@ module _ {L S M tables R A : List ℕ} {p x s u v : ℕ}
   abbrev Judged : Bool → Type 0
   Judged r = ObeysPost L S tables (get_or M (6 * p + 4) 0) (get_or M (6 * p + 5) 0) (get_or M (6 * p) 0) s v r
 
-  pub try_fails : {r : Bool} → Judged r → r ≡ false → AttemptPost L S M tables R A p x s u v out.Fail R A
+  pub try_fails : {r : Bool} → Judged r → r ≡ false → AttemptPost L S M tables R A p x s u v (Err halt.Fail) R A
   try_fails post e =
       record {
         is = λ T P Q es cs k f lo hi w l g a. (λ n. refl, λ b. absurd (said_no ((says w l a post).is T Q es cs k w.allowing l g) e b), unchanged_same, unchanged_same);
@@ -83,7 +87,7 @@ module _ {L S M tables R A : List ℕ} {p x s u v : ℕ}
   pub try_asked : TakePre L S M R A p x s u v
   try_asked = let h = pre.some in record { some = (h.9.K, h.9.N, h.9.Z, h.2, h.6, h.7, h.8, h.12) }
 
-  pub try_walked : {r : Bool} {o : Out} {R' A' : List ℕ} → Judged r → r ≡ true → TakePost L S M R A p x s u v o R' A'
+  pub try_walked : {r : Bool} {o : Result ℕ Halt} {R' A' : List ℕ} → Judged r → r ≡ true → TakePost L S M R A p x s u v o R' A'
       → AttemptPost L S M tables R A p x s u v o R' A'
   try_walked post e walk =
       record {
@@ -93,7 +97,7 @@ module _ {L S M tables R A : List ℕ} {p x s u v : ℕ}
       }
 
   -- the record keeps its length
-  pub try_long : {o : Out} {R' A' : List ℕ} → AttemptPost L S M tables R A p x s u v o R' A' → length R' ≡ length R
+  pub try_long : {o : Result ℕ Halt} {R' A' : List ℕ} → AttemptPost L S M tables R A p x s u v o R' A' → length R' ≡ length R
   try_long post =
       let h = pre.some in
       (post.is h.0 h.1 h.2 h.3 h.4 h.5 h.6 h.7 h.8 h.9 h.10 h.11 h.12).2.long

@@ -1,38 +1,38 @@
--- Not needed to believe the promise: the levels of the search in one list, six numbers a level.
-use Rattle.std.specs.Prelude.{ℕ, zero, suc, ◌+◌, ◌<◌, ◌≡◌, List, [], ◌∷◌, length, get_or, set}
-
--- every sixth number of the list from the place i on, n of them
-unfoldable pub sixths : ℕ → ℕ → List ℕ → List ℕ
-sixths zero i levels = []
-sixths (suc n) i levels = get_or levels i 0 ∷ sixths n (i + 6) levels
+-- Not needed to believe the promise: the levels of the search, and the numbers of all of them, field by field.
+use Rattle.std.specs.Prelude.{ℕ, ◌<◌, ◌≡◌, List, length, get_or, set, map}
+use Rattle.levels.specs.declared.Level.{Level}
 
 -- for each level: the pattern row of its variable, the variable, the row where it starts, the row where the walk goes on with the next
 -- value, the next value, and how many are left. There are no more levels than rows of a pattern.
-abbrev pub places : List ℕ → List ℕ
-places levels = sixths 256 0 levels
+abbrev pub places : List Level → List ℕ
+places levels = map (λ (l : Level). l.place) levels
 
-abbrev pub variables : List ℕ → List ℕ
-variables levels = sixths 256 1 levels
+abbrev pub variables : List Level → List ℕ
+variables levels = map (λ (l : Level). l.variable) levels
 
-abbrev pub starts : List ℕ → List ℕ
-starts levels = sixths 256 2 levels
+abbrev pub starts : List Level → List ℕ
+starts levels = map (λ (l : Level). l.start) levels
 
-abbrev pub rows : List ℕ → List ℕ
-rows levels = sixths 256 3 levels
+abbrev pub rows : List Level → List ℕ
+rows levels = map (λ (l : Level). l.row) levels
 
-abbrev pub nexts : List ℕ → List ℕ
-nexts levels = sixths 256 4 levels
+abbrev pub nexts : List Level → List ℕ
+nexts levels = map (λ (l : Level). l.next) levels
 
-abbrev pub lefts : List ℕ → List ℕ
-lefts levels = sixths 256 5 levels
+abbrev pub lefts : List Level → List ℕ
+lefts levels = map (λ (l : Level). l.left) levels
+
+-- a level before it is entered
+abbrev pub unentered : Level
+unentered = record { place = 0; variable = 0; start = 0; row = 0; next = 0; left = 0 }
 
 -- a level's number d
-pub record Inside (levels : List ℕ) (d : ℕ) : Type 0 where
-  pub long : length levels ≡ 1536
+pub record Inside (levels : List Level) (d : ℕ) : Type 0 where
+  pub long : length levels ≡ 256
   pub few : d < 256
 
 -- what stands at the level d
-pub record LevelAt (levels : List ℕ) (d p x s u v n : ℕ) : Type 0 where
+pub record LevelAt (levels : List Level) (d p x s u v n : ℕ) : Type 0 where
   pub place : p ≡ get_or (places levels) d 0
   pub variable : x ≡ get_or (variables levels) d 0
   pub start : s ≡ get_or (starts levels) d 0
@@ -41,7 +41,7 @@ pub record LevelAt (levels : List ℕ) (d p x s u v n : ℕ) : Type 0 where
   pub left : n ≡ get_or (lefts levels) d 0
 
 -- the level d goes on to its next value
-pub record Moved (levels : List ℕ) (d row next left : ℕ) (after : List ℕ) : Type 0 where
+pub record Moved (levels : List Level) (d row next left : ℕ) (after : List Level) : Type 0 where
   pub long : length after ≡ length levels
   pub same_places : places after ≡ places levels
   pub same_variables : variables after ≡ variables levels
@@ -51,7 +51,7 @@ pub record Moved (levels : List ℕ) (d row next left : ℕ) (after : List ℕ) 
   pub new_lefts : lefts after ≡ set (lefts levels) d left
 
 -- the level d is a new one
-pub record Entered (levels : List ℕ) (d place variable start next left : ℕ) (after : List ℕ) : Type 0 where
+pub record Entered (levels : List Level) (d place variable start next left : ℕ) (after : List Level) : Type 0 where
   pub long : length after ≡ length levels
   pub new_places : places after ≡ set (places levels) d place
   pub new_variables : variables after ≡ set (variables levels) d variable

@@ -1,5 +1,5 @@
 -- Not needed to believe the promise: the levels of the search, and one try.
-use Rattle.std.specs.Prelude.{ℕ, suc, ◌+◌, ◌-◌, ◌<◌, ◌≤◌, ◌≡◌, List, [], ◌∷◌, ◌++◌, length, get_or, take}
+use Rattle.std.specs.Prelude.{ℕ, suc, ◌+◌, ◌-◌, ◌<◌, ◌≤◌, ◌≡◌, List, [], ◌∷◌, ◌++◌, length, get_or, take, Result, Err}
 use Rattle.meaning.specs.Forest.{none, Term, ◌◂◌}
 use Rattle.meaning.specs.Pattern.{Pattern, Kind, old, look}
 use Rattle.meaning.specs.Read.{value_at, Fits}
@@ -14,11 +14,12 @@ use Rattle.walk.specs.Above.{Marks, Unchanged}
 use Rattle.walk.specs.Cycle.{Needs, Agree}
 use Rattle.walk.specs.Onward.{Lands}
 use Rattle.walk.specs.Taken.{TakeAsked}
-use Rattle.walk.specs.declared.Out.{Out}
-use Rattle.walk.specs.declared.Out.TheVariants as out
+use Rattle.walk.specs.declared.Halt.{Halt}
+use Rattle.walk.specs.declared.Halt.TheVariants as halt
+use Rattle.letters.specs.declared.Tables.{Tables}
 
 -- the problem that is searched: the tree, the packed pattern, the constraints and the tables of the expressions
-pub record Search (L S M tables : List ℕ) (T : Term) (P : Pattern) (Q : List Kind) (es : List Expression) (cs : List Constraint) : Type 0 where
+pub record Search (L S M : List ℕ) (tables : Tables) (T : Term) (P : Pattern) (Q : List Kind) (es : List Expression) (cs : List Constraint) : Type 0 where
   pub K : List ℕ
   pub N : List ℕ
   pub Z : List ℕ
@@ -30,16 +31,16 @@ pub record Search (L S M tables : List ℕ) (T : Term) (P : Pattern) (Q : List K
   pub bounds : Bounds K N C M
 
 -- one try: the value v of the variable x at the pattern row p, which starts at the row s; f is the walk that asked for it
-pub record AttemptPre (L S M tables R A : List ℕ) (p x s u v : ℕ) : Type 0 where
+pub record AttemptPre (L S M : List ℕ) (tables : Tables) (R A : List ℕ) (p x s u v : ℕ) : Type 0 where
   pub long : length R ≡ 32
   pub some : (T : Term) × (P : Pattern) × (Q : List Kind) × (es : List Expression) × (cs : List Constraint) × (k : Kind) × (f : List ℕ → Res) × (lo : ℕ) × (hi : ℕ)
       × (w : Search L S M tables T P Q es cs) × (look Q x ≡ old k) × Fits k (T ◂ none) s v × TakeAsked L S M R A p x s u v w.K w.N w.Z Q f lo hi
 
 -- where the value is not allowed it fails; else the walk goes on with it. What stands before the variable is kept.
-pub record AttemptPost (L S M tables R A : List ℕ) (p x s u v : ℕ) (o : Out) (R' A' : List ℕ) : Type 0 where
+pub record AttemptPost (L S M : List ℕ) (tables : Tables) (R A : List ℕ) (p x s u v : ℕ) (o : Result ℕ Halt) (R' A' : List ℕ) : Type 0 where
   pub is : (T : Term) (P : Pattern) (Q : List Kind) (es : List Expression) (cs : List Constraint) (k : Kind) (f : List ℕ → Res) (lo hi : ℕ)
       (w : Search L S M tables T P Q es cs) → look Q x ≡ old k → Fits k (T ◂ none) s v → TakeAsked L S M R A p x s u v w.K w.N w.Z Q f lo hi
-      → ((Allowed cs x (value_at k (T ◂ none) s v) → ⊥) → o ≡ out.Fail)
+      → ((Allowed cs x (value_at k (T ◂ none) s v) → ⊥) → o ≡ (Err halt.Fail))
       × (Allowed cs x (value_at k (T ◂ none) s v) → (m : ℕ) × Agree L S R' A' w.K w.N w.Z Q (p + 1) m [] (λ ds. f (v ∷ ds)) o)
       × Unchanged (x + x) R R' × Unchanged (p + 1) A A'
 

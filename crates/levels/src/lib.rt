@@ -3,16 +3,22 @@
 
 ghost use Rattle.std.specs.Prelude.{◌≡◌, ◌+◌, ◌<◌, ◌≤◌, length};
 ghost use Rattle.catalogue.proofs.Back.{BackTo};
-ghost use Rattle.walk.specs.Packed.{root_of};
+ghost use Rattle.walk.specs.Packed.{numbers_of, root_of};
 ghost use Rattle.memory.specs.Memory.{Both};
-ghost use Rattle.levels.specs.Columns.{lefts, Inside, LevelAt, Moved, Entered};
+ghost use Rattle.levels.specs.Columns.{lefts, Inside, Moved, Entered};
 ghost use Rattle.levels.specs.Levels.{AttemptPre, AttemptPost};
 ghost use Rattle.levels.specs.Steps.{NextPre, NextPost, DeeperPre, DeeperPost};
 
+use letters::Tables;
+use memory::Memory;
+use paths::Path;
+use tree::Tree;
+use walk::{Halt, PatternRow};
+
 // A level: the pattern row of its variable, the variable, the row where it starts, the row at which the walk goes on with the next
 // value, that value, and how many are left.
-#[derive(Drop)]
-struct Level {
+#[derive(Clone, Copy)]
+pub struct Level {
     pub place: usize,
     pub variable: usize,
     pub start: usize,
@@ -21,56 +27,51 @@ struct Level {
     pub left: usize,
 }
 
-// What stands at the level d.
-fn standing(levels: &[usize; 1536], d: usize) -> Level
-    requires { Inside levels.now d }
-    ensures { LevelAt levels.now d result.place result.variable result.start result.row result.next result.left }
-{
-    let at = 6 * d;
-    Level {
-        place: levels[at],
-        variable: levels[at + 1],
-        start: levels[at + 2],
-        row: levels[at + 3],
-        next: levels[at + 4],
-        left: levels[at + 5],
-    }
-}
+// A level before it is entered.
+pub const UNENTERED: Level = Level {
+    place: 0,
+    variable: 0,
+    start: 0,
+    row: 0,
+    next: 0,
+    left: 0,
+};
 
 // The level d goes on to its next value.
-pub fn advance(levels: &mut [usize; 1536], d: usize, row: usize, next: usize, left: usize)
+pub fn advance(levels: &mut [Level; 256], d: usize, row: usize, next: usize, left: usize)
     requires { Inside levels.old d }
     ensures { Moved levels.old d row next left levels.new }
 {
-    let at = 6 * d;
-    levels[at + 3] = row;
-    levels[at + 4] = next;
-    levels[at + 5] = left;
+    let level = &mut levels[d];
+    level.row = row;
+    level.next = next;
+    level.left = left;
 }
 
 // The level d is for the variable that the walk stopped at, with so many values from the least on.
-pub fn enter(levels: &mut [usize; 1536], d: usize, w: walk::Stop, least: usize, values: usize)
+pub fn enter(levels: &mut [Level; 256], d: usize, w: walk::Stop, least: usize, values: usize)
     requires { Inside levels.old d }
     ensures { Entered levels.old d w.place w.variable w.start least values levels.new }
 {
-    let at = 6 * d;
-    levels[at] = w.place;
-    levels[at + 1] = w.variable;
-    levels[at + 2] = w.start;
-    advance(levels, d, w.start, least, values);
+    levels[d] = Level {
+        place: w.place,
+        variable: w.variable,
+        start: w.start,
+        row: w.start,
+        next: least,
+        left: values,
+    };
 }
 
 // The depth with the levels taken off that have nothing left.
-pub fn back(levels: &[usize; 1536], depth: usize) -> usize
-    requires { (depth ≤ 256) × (length levels.now ≡ 1536) }
+pub fn back(levels: &[Level; 256], depth: usize) -> usize
+    requires { (depth ≤ 256) × (length levels.now ≡ 256) }
     ensures { BackTo (lefts levels.now) depth result }
 {
-    let mut d = depth;
-    while 0 < d {
-        if levels[6 * (d - 1) + 5] != 0 {
+    for d in (1..=depth).rev() {
+        if levels[d - 1].left != 0 {
             return d;
         }
-        d -= 1;
     }
     0
 }
@@ -103,24 +104,23 @@ fn spare(left: usize, budget: u32, tries: u32) -> usize
 
 // The level d goes on to its next value that does not fail at once, as far as the budget allows.
 pub fn next_try(
-    label: &[u32],
-    size: &[u32],
-    pattern: &[u32; 1536],
+    tree: &Tree,
+    pattern: &[PatternRow; 256],
     at: &[usize; 256],
-    levels: &mut [usize; 1536],
+    levels: &mut [Level; 256],
     d: usize,
     budget: u32,
     tries: u32,
 ) -> Try
-    requires { NextPre label.now size.now pattern.now at.now levels.old d budget tries }
-    ensures { NextPost label.now size.now pattern.now at.now levels.old d budget tries levels.new result.p result.x result.s result.u result.v result.left result.failed }
+    requires { NextPre tree.now.label.now tree.now.size.now (numbers_of pattern.now) at.now levels.old d budget tries }
+    ensures { NextPost tree.now.label.now tree.now.size.now (numbers_of pattern.now) at.now levels.old d budget tries levels.new result.p result.x result.s result.u result.v result.left result.failed }
 {
-    let l = standing(levels, d);
+    let l = levels[d];
     let limit = spare(l.left, budget, tries);
-    let run = choice::skip(label, size, pattern, at, l.place, l.row, l.left, limit);
+    let run = choice::skip(tree, pattern, at, l.place, l.row, l.left, limit);
     let value = l.next + run.count;
     let left = l.left - run.count - 1;
-    let row = choice::further(size, pattern, l.place, run.row, left);
+    let row = choice::further(tree.size, pattern, l.place, run.row, left);
     advance(levels, d, row, value + 1, left);
     Try {
         p: l.place,
@@ -137,17 +137,17 @@ pub fn next_try(
 // pattern row q.
 pub fn deeper(
     size: &[u32],
-    pattern: &[u32; 1536],
+    pattern: &[PatternRow; 256],
     at: &[usize; 256],
-    levels: &mut [usize; 1536],
+    levels: &mut [Level; 256],
     d: usize,
     q: usize,
     u: usize,
     left: usize,
     w: walk::Stop,
 )
-    requires { DeeperPre size.now pattern.now at.now levels.old d q u left w.place w.start }
-    ensures { DeeperPost size.now pattern.now at.now levels.old d q u left w.place w.variable w.start levels.new }
+    requires { DeeperPre size.now (numbers_of pattern.now) at.now levels.old d q u left w.place w.start }
+    ensures { DeeperPost size.now (numbers_of pattern.now) at.now levels.old d q u left w.place w.variable w.start levels.new }
 {
     let least = choice::least(pattern, w.place, w.start);
     let values = choice::more_values(size, pattern, at, q, u, left, w.place, w.start);
@@ -156,23 +156,22 @@ pub fn deeper(
 
 // One try. The constraint is judged before the walk goes on.
 pub fn attempt(
-    label: &[u32],
-    size: &[u32],
-    pattern: &[u32; 1536],
-    tables: &[u64; 320],
+    tree: &Tree,
+    pattern: &[PatternRow; 256],
+    tables: &Tables,
     record: &mut [u32; 32],
     at: &mut [usize; 256],
     t: Try,
-    memory: &mut [usize; 1280],
-    path: &mut [usize; 259],
-) -> walk::Out
-    requires { AttemptPre label.now size.now pattern.now tables.now «record».old at.old t.p t.x t.s t.u t.v
-        × Both label.now size.now tables.now (root_of pattern.now) memory.old path.old }
-    ensures { AttemptPost label.now size.now pattern.now tables.now «record».old at.old t.p t.x t.s t.u t.v result «record».new at.new
-        × Both label.now size.now tables.now (root_of pattern.now) memory.new path.new }
+    memory: &mut Memory,
+    path: &mut Path,
+) -> Result<usize, Halt>
+    requires { AttemptPre tree.now.label.now tree.now.size.now (numbers_of pattern.now) tables.now «record».old at.old t.p t.x t.s t.u t.v
+        × Both tree.now.label.now tree.now.size.now tables.now (root_of (numbers_of pattern.now)) memory.old path.old }
+    ensures { AttemptPost tree.now.label.now tree.now.size.now (numbers_of pattern.now) tables.now «record».old at.old t.p t.x t.s t.u t.v result «record».new at.new
+        × Both tree.now.label.now tree.now.size.now tables.now (root_of (numbers_of pattern.now)) memory.new path.new }
 {
-    if !memory::allowed(label, size, pattern, tables, t.p, t.s, t.v, memory, path) {
-        return walk::Out::Fail;
+    if !memory::allowed(tree, pattern, tables, t.p, t.s, t.v, memory, path) {
+        return Err(Halt::Fail);
     }
-    walk::take(label, size, pattern, record, at, t.p, t.x, t.s, t.u, t.v)
+    walk::take(tree, pattern, record, at, t.p, t.x, t.s, t.u, t.v)
 }

@@ -1,21 +1,50 @@
 -- The promises settle the answers of the list and of a page, and the lent list afterwards.
 use Prim.Native.Nat.{ℕ}
-use mathlib.Core.Path.{◌≡◌, ◌∙◌, sym}
+use mathlib.Core.Path.{◌≡◌, refl, ap, ◌∙◌, sym}
 use mathlib.Core.Logic.{inl, inr}
+use mathlib.Core.Bool.{cond}
 use mathlib.Core.List.{List}
+use lib.Dec.{eqb}
 use native.Mathlib.Omega.{arith}
 use native.Mathlib.Decide.{ℕ_discrete}
+use Rattle.std.specs.Prelude.{Result, Ok, Err}
 use Rattle.meaning.specs.Calls.{accept}
+use Rattle.meaning.specs.Ending.{number}
+use Rattle.meaning.specs.declared.endings.Ending.{Ending}
+use Rattle.meaning.specs.declared.endings.Ending.TheVariants.{All, Room, Budget}
+use Rattle.meaning.specs.declared.refusal.Refusal.{Refusal}
 use Rattle.meaning.specs.Record.{IsRecord}
 use Rattle.constraint.specs.Obeys.{Allowed}
+use Rattle.meaning.proofs.Refusals.{code_some, one_refusal}
 use Rattle.meaning.proofs.OneCode.{one_refuse, one_accept}
 use Rattle.problem.specs.Problem.{Lists}
 use Rattle.problem.proofs.Posed.{Posed, posed, posed_then, one_codes}
+use Rattle.search.specs.declared.Found.{Found}
 use Rattle.catalogue.proofs.Facts.{one_shown, one_answer}
 use Rattle.catalogue.proofs.Pages.{one_page}
-use Rattle.lister.specs.Listed.{Settled}
+use Rattle.lister.specs.Listed.{Listed, told, Settled}
 use Rattle.lister.specs.Page.{RecordCodes, PageCodes, PageSettled}
-use Rattle.lister.specs.declared.Listed.{Listed}
+
+-- the ending of a number
+abbrev of_number : ℕ → Ending
+of_number n = cond (eqb n 0) All (cond (eqb n 1) Room Budget)
+
+of_its_number : (a : Ending) → of_number (number a) ≡ a
+of_its_number All = refl
+of_its_number Room = refl
+of_its_number Budget = refl
+
+one_ending : (a b : Ending) → number a ≡ number b → a ≡ b
+one_ending a b e = sym (of_its_number a) ∙ ap of_number e ∙ of_its_number b
+
+-- no two answers have the same numbers
+pub one_told : (r s : Result Found Refusal) → told r ≡ told s → r ≡ s
+one_told (Ok f) (Ok g) e =
+    let same : f.ending ≡ g.ending = one_ending f.ending g.ending (ap (λ (l : Listed). l.ending) e) in
+    ap Ok (λ i. record { ending = same i; records = (e i).records; tries = (e i).tries })
+one_told (Ok f) (Err d) e = absurd (code_some d (sym (ap (λ (l : Listed). l.code) e)))
+one_told (Err d) (Ok g) e = absurd (code_some d (ap (λ (l : Listed). l.code) e))
+one_told (Err d) (Err k) e = ap Err (one_refusal d k (ap (λ (l : Listed). l.code) e))
 
 pub record Same (r s : Listed) (v w : List ℕ) : Type 0 where
   pub code : r.code ≡ s.code

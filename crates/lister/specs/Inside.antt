@@ -1,28 +1,18 @@
--- Not needed to believe the promise: the lister's answers, and the record from which no page is taken.
-use Rattle.std.specs.Prelude.{ℕ, ◌≡◌, true, false, List}
+-- Not needed to believe the promise: what is known of a problem that has been checked, and why no page is taken from a record.
+use Rattle.std.specs.Prelude.{ℕ, true, false, List, Ok}
 use Rattle.record.specs.Pairs.{RecordPost}
 use Rattle.problem.specs.Problem.{Lists}
 use Rattle.problem.specs.Answer.{Answered}
-use Rattle.problem.specs.declared.Problem.{Problem}
-use Rattle.search.specs.declared.Found.{Found}
-use Rattle.lister.specs.declared.Listed.{Listed}
+use Rattle.problem.specs.Answer.{told}
+use Rattle.pattern.specs.declared.Variables.{Variables}
+use Rattle.meaning.specs.declared.refusal.Refusal.{Refusal}
+use Rattle.meaning.specs.declared.refusal.Refusal.TheVariants.{Record, NoMatcher}
 
--- a refusal by a code
-abbrev pub nothing : ℕ → Listed
-nothing code = record { code = code; ending = 0; records = 0; tries = 0 }
-
--- what the search found, of lists that are accepted
-abbrev pub whole : Found → Listed
-whole f = record { code = 0; ending = f.ending; records = f.records; tries = f.tries }
-
--- the lists are accepted, and the pattern has so many variables
-pub record CheckedPre (l : Lists) (variables : ℕ) : Type 0 where
-  pub checked : Problem
-  pub answered : Answered l checked
-  pub accepted : checked.code ≡ 0
-  pub many : variables ≡ checked.variables
+-- the lists are accepted, and these are the pattern's variables
+abbrev pub Checked : Lists → Variables → Type 0
+Checked l variables = Answered l (told (Ok variables))
 
 -- which of the two a record is from which no page is taken
-pub data NoPage (S kinds : List ℕ) (variables : ℕ) (list : List ℕ) : Listed → Type 0 where
-  bad : RecordPost S kinds variables list false → NoPage S kinds variables list (nothing 15)
-  of_none : RecordPost S kinds variables list true → NoPage S kinds variables list (nothing 20)
+pub data NoPage (S kinds : List ℕ) (variables : ℕ) (list : List ℕ) : Refusal → Type 0 where
+  bad : RecordPost S kinds variables list false → NoPage S kinds variables list Record
+  of_none : RecordPost S kinds variables list true → NoPage S kinds variables list NoMatcher

@@ -9,7 +9,7 @@ use Rattle.expression.specs.Expression.{Expression}
 use Rattle.constraint.specs.Obeys.{Constraint, Allowed}
 use Rattle.problem.specs.Problem.{Lists, Poses, Codes}
 use Rattle.catalogue.specs.Page.{Page}
-use Rattle.lister.specs.declared.Listed.{Listed}
+use Rattle.lister.specs.Listed.{Listed}
 
 -- the record is that of a matcher of the problem that the lists pose
 abbrev pub MatcherRecord : Lists → List ℕ → Type 0

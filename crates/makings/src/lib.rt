@@ -4,166 +4,103 @@
 pub mod parts;
 pub mod printing;
 
-use instance::Made;
-use lines::lists::{BEFORE, part, unchanged};
+use lines::lists::{BEFORE, read_lists, unchanged};
 use parts::room;
+use pattern::Pattern;
+use printing::{Bracketed, unreadable};
 use std::io;
+use tree::Tree;
 
-fn begins(list: &[u32], wanted: &[u32]) -> bool {
-    let mut i = 0;
-    while i < wanted.len() {
-        if list.len() <= i {
-            return false;
-        }
-        if list[i] != wanted[i] {
-            return false;
-        }
-        i += 1;
-    }
-    true
+// So many numbers fit the lists of a line.
+const NUMBERS: usize = 2048;
+
+// A little more than the most rows of an instance.
+const ROWS: usize = 2100;
+
+// The lists that the instance maker is lent.
+#[derive(Drop)]
+struct Lent {
+    label: [u32; ROWS],
+    size: [u32; ROWS],
 }
 
-fn is_list(made: &[u32], wanted: &[u32], rows: usize) -> bool {
-    if rows != wanted.len() {
-        return false;
-    }
-    begins(made, wanted)
-}
-
-fn print_kept(
-    rt: &impl Print,
-    made_label: &[u32],
-    made_size: &[u32],
-    rows: usize,
-) -> io::Result<()> {
-    if unchanged(made_label, rows) {
-        if unchanged(made_size, rows) {
-            return Ok(());
+impl Lent {
+    fn new() -> Lent {
+        Lent {
+            label: [BEFORE; ROWS],
+            size: [BEFORE; ROWS],
         }
     }
-    printing::text(rt, b", list changed")
 }
 
-// Whether the lists that were made are the tree's.
-fn print_likeness(
-    rt: &impl Print,
-    label: &[u32],
-    size: &[u32],
-    made_label: &[u32],
-    made_size: &[u32],
-    rows: usize,
-) -> io::Result<()> {
-    printing::text(rt, b" rows")?;
-    printing::number(rt, rows as u64)?;
-    print_kept(rt, made_label, made_size, rows)?;
-    if is_list(made_label, label, rows) {
-        if is_list(made_size, size, rows) {
-            return printing::text(rt, b", the tree");
-        }
+fn is_tree(tree: &Tree<'_>, made: &Lent, rows: usize) -> bool {
+    rows == tree.label.len()
+        && rows == tree.size.len()
+        && made.label.starts_with(tree.label)
+        && made.size.starts_with(tree.size)
+}
+
+fn print_kept(rt: &impl Print, made: &Lent, rows: usize) -> io::Result<()> {
+    if unchanged(&made.label, rows) && unchanged(&made.size, rows) {
+        return Ok(());
     }
-    printing::text(rt, b", not the tree")
+    print!(rt; ", list changed")
 }
 
 // The instance of a record that was listed.
 pub fn of_record(
     rt: &impl Print,
-    label: &[u32],
-    size: &[u32],
-    numbers: &[u32],
-    ends: &[usize],
+    tree: &Tree<'_>,
+    pattern: &Pattern<'_>,
     record: &[u32],
 ) -> io::Result<()> {
-    let mut made_label = [BEFORE; 2100];
-    let mut made_size = [BEFORE; 2100];
-    let made = instance::instance(
-        label,
-        size,
-        part(numbers, ends, 0),
-        part(numbers, ends, 1),
-        part(numbers, ends, 2),
-        record,
-        &mut made_label,
-        &mut made_size,
-    );
-    match made {
-        Made::Refused(code) => {
-            printing::text(rt, b" refused")?;
-            printing::number(rt, printing::wider(code))
+    let mut made = Lent::new();
+    match instance::instance(tree, pattern, record, &mut made.label, &mut made.size) {
+        Err(refusal) => print!(rt; " refused {}", u32::from(refusal)),
+        Ok(rows) => {
+            print!(rt; " rows {rows}")?;
+            print_kept(rt, &made, rows)?;
+            if is_tree(tree, &made, rows) {
+                print!(rt; ", the tree")
+            } else {
+                print!(rt; ", not the tree")
+            }
         }
-        Made::Rows(rows) => print_likeness(rt, label, size, &made_label, &made_size, rows),
     }
 }
 
-fn print_made(
-    rt: &impl Print,
-    code: u32,
-    rows: usize,
-    made_label: &[u32],
-    made_size: &[u32],
-) -> io::Result<()> {
-    printing::number(rt, printing::wider(code))?;
-    printing::number(rt, rows as u64)?;
-    if code == 0 {
-        printing::beginning(rt, made_label, rows)?;
-        printing::beginning(rt, made_size, rows)?;
-    }
-    print_kept(rt, made_label, made_size, rows)
-}
-
-fn instance_in(
-    rt: &impl Print,
-    label: &[u32],
-    size: &[u32],
-    numbers: &[u32],
-    ends: &[usize],
-    made_label: &mut [u32],
-    made_size: &mut [u32],
-) -> io::Result<()> {
-    let labels = room(part(numbers, ends, 4), made_label);
-    let sizes = room(part(numbers, ends, 5), made_size);
-    let made = instance::instance(
-        label,
-        size,
-        part(numbers, ends, 0),
-        part(numbers, ends, 1),
-        part(numbers, ends, 2),
-        part(numbers, ends, 3),
-        &mut made_label[0..labels],
-        &mut made_size[0..sizes],
-    );
-    match made {
-        Made::Refused(code) => print_made(rt, code, 0, made_label, made_size),
-        Made::Rows(rows) => print_made(rt, 0, rows, made_label, made_size),
-    }
-}
-
-fn instance_on(
-    rt: &impl Print,
-    label: &[u32],
-    size: &[u32],
-    lists: &[u8],
-    numbers: &mut [u32],
-    ends: &mut [usize],
-) -> io::Result<()> {
-    if lines::read_lists(lists, numbers, ends) != 6 {
-        return printing::unreadable(rt);
-    }
-    let mut made_label = [BEFORE; 2100];
-    let mut made_size = [BEFORE; 2100];
-    instance_in(
-        rt,
-        label,
-        size,
-        numbers,
-        ends,
-        &mut made_label,
-        &mut made_size,
-    )
+// The list's first numbers, or all of them where it has fewer.
+fn beginning(list: &[u32], many: usize) -> Bracketed<'_> {
+    Bracketed(&list[..many.min(list.len())])
 }
 
 // The instance of a record of the line.
-pub fn instance(rt: &impl Print, label: &[u32], size: &[u32], lists: &[u8]) -> io::Result<()> {
-    let mut numbers = [0u32; 2048];
-    let mut ends = [0usize; 6];
-    instance_on(rt, label, size, lists, &mut numbers, &mut ends)
+pub fn instance(rt: &(impl Print + AllocGlobal), tree: &Tree<'_>, lists: &[u8]) -> io::Result<()> {
+    let lists = read_lists(rt.alloc(), lists, NUMBERS)?;
+    let Some([kind, name, size, record, labels, sizes]) = lists.as_deref() else {
+        return unreadable(rt);
+    };
+    let mut made = Lent::new();
+    let labels = room(labels, &made.label);
+    let sizes = room(sizes, &made.size);
+    match instance::instance(
+        tree,
+        &Pattern { kind, name, size },
+        record,
+        &mut made.label[..labels],
+        &mut made.size[..sizes],
+    ) {
+        Err(refusal) => {
+            print!(rt; " {} 0", u32::from(refusal))?;
+            print_kept(rt, &made, 0)
+        }
+        Ok(rows) => {
+            print!(rt;
+                " 0 {rows} {} {}",
+                beginning(&made.label, rows),
+                beginning(&made.size, rows)
+            )?;
+            print_kept(rt, &made, rows)
+        }
+    }
 }

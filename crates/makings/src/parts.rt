@@ -1,28 +1,17 @@
-// How much of a list is lent, as a line says.
+// Numbers that a line gives as lists of their own.
 ghost use Rattle.std.specs.Prelude.{◌≤◌, length};
 
 // The only number of a list.
-pub fn only(list: &[u32]) -> u32 {
-    if list.len() == 1 {
-        return list[0];
+pub fn only(list: &[u32]) -> Option<u32> {
+    match list {
+        [only] => Some(*only),
+        _ => None,
     }
-    0
 }
 
-// So many of the list's numbers, or all of them where it has fewer. It takes the list, so that its contract can speak of it.
-pub fn least(wanted: u32, list: &[u32]) -> usize
-    ensures { result ≤ length list.now }
-{
-    let many = wanted as usize;
-    if list.len() < many {
-        return list.len();
-    }
-    many
-}
-
-// How much of the list is lent, as the line says.
+// How much of the list is lent: as much as the line says, or all of it where it has less. It takes the list, so that its contract can speak of it.
 pub fn room(wanted: &[u32], list: &[u32]) -> usize
     ensures { result ≤ length list.now }
 {
-    least(only(wanted), list)
+    list.len().min(only(wanted).unwrap_or(0) as usize)
 }

@@ -16,3 +16,4 @@ pub mod OneKinds
 pub mod OneCode
 pub mod Next
 pub mod Resume
+pub mod Refusals

@@ -7,3 +7,5 @@ pub mod Reached
 pub mod Order
 pub mod Read
 pub mod Means
+pub mod Refusal
+pub mod Ending

@@ -1,6 +1,22 @@
+ghost use Rattle.std.specs.Prelude.{◌≡◌};
+ghost use Rattle.meaning.specs.Ending.{number};
+
 // How a list ends: all of it, no room for a further matcher, no budget for a further try.
-pub const ALL: u32 = 0;
+#[derive(Clone, Copy, Debug, PartialEq, Eq)]
+pub enum Ending {
+    All,
+    Room,
+    Budget,
+}
 
-pub const ROOM: u32 = 1;
+impl From<Ending> for u32 {
+    ghost from_gives = { λ ending n. n ≡ number ending };
 
-pub const BUDGET: u32 = 2;
+    fn from(ending: Ending) -> u32 {
+        match ending {
+            Ending::All => 0,
+            Ending::Room => 1,
+            Ending::Budget => 2,
+        }
+    }
+}

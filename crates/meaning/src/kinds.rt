@@ -1,4 +1,4 @@
-// The kinds of a pattern's rows.
+// The kinds of a pattern's rows: numbers and no enum, since they stand in lists that C lends.
 pub const SYMBOL: u32 = 0;
 
 pub const INDIVIDUAL: u32 = 1;

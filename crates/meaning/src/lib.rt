@@ -1,23 +1,8 @@
-// What matchers and records are stands in specs/, its laws in proofs/. Here are the rules' numbers by name, and what all crates do with a
-// number.
+// What matchers and records are stands in specs/, its laws in proofs/. Here are the rules' numbers by name, the refusals and the endings.
 #![tactic(auto)]
 
-ghost use Rattle.std.specs.Prelude.{◌≡◌, ◌<◌};
-
-pub mod codes;
 pub mod endings;
 pub mod kinds;
+mod refusal;
 
-// A number of 32 bits as a place in a list.
-pub fn wide(x: u32) -> usize
-    ensures { (result ≡ x) × (result < 4294967296) }
-{
-    x as usize
-}
-
-// One of 16 bits.
-pub fn short(x: u16) -> usize
-    ensures { (result ≡ x) × (result < 65536) }
-{
-    x as usize
-}
+pub use refusal::Refusal;

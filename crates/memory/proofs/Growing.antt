@@ -1,10 +1,9 @@
 -- A reading is recalled, goes on, and is kept; and what it says of the constraint.
-use Prim.Native.Nat.{ℕ, zero, suc, ◌+◌, ◌-◌, ◌*◌, ◌≤◌}
+use Prim.Native.Nat.{ℕ, zero, suc, ◌+◌, ◌-◌, ◌*◌}
 use mathlib.Core.Path.{◌≡◌}
 use mathlib.Core.Logic.{◌≢◌}
 use mathlib.Core.Bool.{Bool, true, false}
 use mathlib.Core.List.{List}
-use lib.Dec.{eqb}
 use lib.ListN.{get_or}
 use native.Mathlib.Omega.{arith}
 use Rattle.meaning.specs.Forest.{Forest, none, some, terms}
@@ -12,17 +11,16 @@ use Rattle.meaning.proofs.Laws.{drop_t}
 use Rattle.constraint.specs.Reading.{MorePre, ReadTo, ReadOn, ForbiddenPost}
 use Rattle.constraint.proofs.Readings.{Begun, no_head, all_heads}
 use Rattle.constraint.proofs.Obeyed.{obeys_free, obeys_forbidden, obeys_read, heads_after, path_after, heads_asked, path_asked}
+use Rattle.paths.specs.declared.Path.{Path}
 use Rattle.paths.specs.Paths.{AcceptedPre, AcceptedPost}
 use Rattle.walk.specs.Packed.{root_of}
+use Rattle.memory.specs.declared.Memory.{Memory}
 use Rattle.memory.specs.Memory.{Remembers, kept, RecallPost, GrownPre, GrownPost, GrowPre, GrowPost}
 use Rattle.memory.proofs.Numbers.{remembers}
+use Rattle.letters.specs.declared.Tables.{Tables}
 
 -- RECALLED
-module _ (tables : List ℕ) (root : ℕ) (memory : List ℕ) (x a b : ℕ) where
-  pub recalled : (get_or memory (5 * x) 0 ≡ 0 → ⊥) → get_or memory (5 * x + 1) 0 ≡ a → get_or memory (5 * x + 2) 0 ≤ b
-      → RecallPost tables root memory x a b (get_or memory (5 * x) 0) (get_or memory (5 * x + 3) 0) (get_or memory (5 * x + 2) 0) (eqb (get_or memory (5 * x + 4) 0) 1)
-  recalled n e h = record { most = h; is = λ L S k. rw e at (k.is n) }
-
+module _ (tables : Tables) (root : ℕ) (memory : Memory) (x a b : ℕ) where
   pub begun : {next : ℕ} {end : Bool} → Begun tables root next end → RecallPost tables root memory x a b a next 0 end
   begun g = record { most = omega arith; is = λ L S k. no_head g }
 
@@ -33,7 +31,7 @@ terms_drop zero f = omega arith
 terms_drop (suc c) none = omega arith
 terms_drop (suc c) (some l us rest) = let e = terms_drop c rest in omega arith
 
-module _ {L S tables : List ℕ} {root x a b : ℕ} {memory : List ℕ} (p : GrownPre L S tables root x a b memory)
+module _ {L S : List ℕ} {tables : Tables} {root x a b : ℕ} {memory : Memory} (p : GrownPre L S tables root x a b memory)
     {row next count : ℕ} {end : Bool} (post : RecallPost tables root memory x a b row next count end) where
   was : (roots : ℕ → ℕ) → root ≡ roots x → Remembers L S tables roots memory → ReadTo L S tables root a count row next end
   was roots q r = post.is L S (rw q (r.each x p.few))
@@ -54,8 +52,8 @@ module _ {L S tables : List ℕ} {root x a b : ℕ} {memory : List ℕ} (p : Gro
           rw y at (on.on root a count (was roots q r))
 
 -- JUDGED
-module _ {L S M tables : List ℕ} {x a b : ℕ} {memory path : List ℕ} (p : GrowPre L S M tables x a b memory path) where
-  abbrev Post : Bool → List ℕ → List ℕ → Type 0
+module _ {L S M : List ℕ} {tables : Tables} {x a b : ℕ} {memory : Memory} {path : Path} (p : GrowPre L S M tables x a b memory path) where
+  abbrev Post : Bool → Memory → Path → Type 0
   Post = GrowPost L S M tables x a b
 
   pub grow_free : get_or M (6 * x + 4) 0 ≡ 0 → Post true memory path
@@ -65,14 +63,14 @@ module _ {L S M tables : List ℕ} {x a b : ℕ} {memory path : List ℕ} (p : G
     pub grow_forbidden : r ≡ true → Post false memory path
     grow_forbidden t = record { judged = obeys_forbidden L S tables _ _ _ a b start f t; remembers = p.remembers }
 
-    pub grow_read : r ≡ false → get_or M (6 * x) 0 ≡ 2 → {root : ℕ} {end : Bool} {later : List ℕ} → root ≡ root_of M x → GrownPost L S tables root x a b memory end later → Post end later path
+    pub grow_read : r ≡ false → get_or M (6 * x) 0 ≡ 2 → {root : ℕ} {end : Bool} {later : Memory} → root ≡ root_of M x → GrownPost L S tables root x a b memory end later → Post end later path
     grow_read n k q g =
         record {
           judged = obeys_read L S tables _ _ _ a b start f n q (heads_after L S tables _ a b k (all_heads (g.read (root_of M) q p.remembers.sequences)));
           remembers = record { sequences = g.remembers (root_of M) q p.remembers.sequences; contexts = p.remembers.contexts };
         }
 
-    pub grow_path : r ≡ false → get_or M (6 * x) 0 ≢ 2 → {root : ℕ} {end : Bool} {later : List ℕ} → root ≡ root_of M x → AcceptedPost L S tables root x a b end later → Post end memory later
+    pub grow_path : r ≡ false → get_or M (6 * x) 0 ≢ 2 → {root : ℕ} {end : Bool} {later : Path} → root ≡ root_of M x → AcceptedPost L S tables root x a b end later → Post end memory later
     grow_path n k q g =
         record {
           judged = obeys_read L S tables _ _ _ a b start f n q (path_after L S tables _ a b k g.after);

@@ -27,6 +27,7 @@ fn nearer(b: u8, at: usize, shut: usize) -> usize
     if b == b'>' { at } else { shut }
 }
 
+// The walk ends at the `<` that there is: a range down to 0 would want an answer for a document without one.
 fn last_markup(document: &[u8], from: usize) -> Markup
     requires { SomeOpen document.now from }
     ensures { LastMarkup document.now from result.less result.shut }

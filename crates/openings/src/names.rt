@@ -7,8 +7,6 @@ ghost use Rattle.std.specs.Prelude.{◌≡◌, ◌-◌, ◌≤◌, ◌<◌, leng
 ghost use Rattle.openings.specs.OpenNames.{Keeping, LowNames, Stays, Spared, OpenedOne, MayFind, Finds, reaches, MayClose, ClosedOne};
 
 use super::back::innermost_before;
-use meaning::short;
-use tokens::least;
 
 const MOST_NAMES: usize = 64;
 
@@ -18,15 +16,12 @@ const INNER: usize = 16;
 // Of the outer names one stays for each block of so many bytes.
 const BLOCK: usize = 1024;
 
-// Where the innermost open element's name starts, if one is open.
-pub fn innermost(names: &[u16; 64], kept: usize) -> usize
-    requires { (length names.now ≡ 64) × (kept ≤ 64) }
-    ensures { (result < 65536) × (0 < kept → result ≡ get_or names.now (kept - 1) 0) }
-{
-    if kept == 0 {
-        return 0;
-    }
-    short(names[kept - 1])
+// The first `kept` places of both lists: where a name starts, and how many elements hold its own.
+#[derive(Drop)]
+pub struct OpenNames {
+    pub names: [u16; 64],
+    pub levels: [u16; 64],
+    pub kept: usize,
 }
 
 // Whether the name at j stays, as 1 or 0; and the last block in which a name up to the next starts.
@@ -46,7 +41,7 @@ fn stays(names: &[u16; 64], j: usize, block: usize) -> Stay
             block: block,
         };
     }
-    let next = short(names[j + 1]) / BLOCK;
+    let next = usize::from(names[j + 1]) / BLOCK;
     if block < next {
         return Stay {
             count: 1,
@@ -59,107 +54,99 @@ fn stays(names: &[u16; 64], j: usize, block: usize) -> Stay
     }
 }
 
-// All places are taken: some are freed. A name is put to its new place whether it stays or not, and counted only if it stays.
-fn thin(names: &mut [u16; 64], levels: &mut [u16; 64]) -> usize
-    requires { Keeping names.old levels.old 64 × LowNames names.old }
-    ensures { Spared names.old levels.old 64 names.new levels.new result }
-{
-    let mut count: usize = 0;
-    let mut block: usize = 0;
-    let mut j: usize = 0;
-    while j < MOST_NAMES {
-        let stay = stays(names, j, block);
-        names[count] = names[j];
-        levels[count] = levels[j];
-        count = count + stay.count;
-        block = stay.block;
-        j = j + 1;
+impl OpenNames {
+    // None is open.
+    pub fn new() -> OpenNames
+        ensures { Keeping result.names result.levels result.kept × (result.kept ≡ 0) }
+    {
+        OpenNames {
+            names: [0; 64],
+            levels: [0; 64],
+            kept: 0,
+        }
     }
-    count
-}
 
-// Room for one more.
-fn spare(names: &mut [u16; 64], levels: &mut [u16; 64], kept: usize) -> usize
-    requires { Keeping names.old levels.old kept × (kept ≡ 64 → LowNames names.old) }
-    ensures { Spared names.old levels.old kept names.new levels.new result }
-{
-    if kept < MOST_NAMES {
-        return kept;
+    // Where the innermost open element's name starts, if one is open.
+    pub fn innermost(&self) -> usize
+        requires { (length self.now.names ≡ 64) × (self.now.kept ≤ 64) }
+        ensures { (result < 65536) × (0 < self.now.kept → result ≡ get_or self.now.names (self.now.kept - 1) 0) }
+    {
+        if self.kept == 0 {
+            return 0;
+        }
+        usize::from(self.names[self.kept - 1])
     }
-    thin(names, levels)
-}
 
-// An element opens, which `depth` others hold: how many names are kept then.
-pub fn open(
-    names: &mut [u16; 64],
-    levels: &mut [u16; 64],
-    kept: usize,
-    depth: usize,
-    name: usize,
-) -> usize
-    requires { Keeping names.old levels.old kept × (kept ≡ 64 → LowNames names.old) × (depth < 65536) × (name < 65536) }
-    ensures { OpenedOne names.old levels.old kept depth name names.new levels.new result }
-{
-    let k = spare(names, levels, kept);
-    names[k] = name as u16;
-    levels[k] = depth as u16;
-    k + 1
-}
-
-// The names of the innermost of `depth` elements that are open at `from`, put below `top` and down to `bottom`.
-fn find_again(
-    document: &[u8],
-    names: &mut [u16; 64],
-    levels: &mut [u16; 64],
-    from: usize,
-    depth: usize,
-    bottom: usize,
-    top: usize,
-)
-    requires { MayFind document.now names.old levels.old from depth bottom top }
-    ensures { Finds document.now names.old levels.old from depth bottom top names.new levels.new }
-{
-    let mut at = from;
-    let mut level = depth;
-    let mut k = top;
-    while bottom < k {
-        at = innermost_before(document, at);
-        level = level - 1;
-        k = k - 1;
-        names[k] = (at + 1) as u16;
-        levels[k] = level as u16;
+    // An element opens, which `depth` others hold.
+    pub fn open(&mut self, depth: usize, name: usize)
+        requires { Keeping self.old.names self.old.levels self.old.kept × (self.old.kept ≡ 64 → LowNames self.old.names) × (depth < 65536) × (name < 65536) }
+        ensures { OpenedOne self.old.names self.old.levels self.old.kept depth name self.new.names self.new.levels self.new.kept }
+    {
+        if self.kept == MOST_NAMES {
+            self.thin();
+        }
+        self.names[self.kept] = name as u16;
+        self.levels[self.kept] = depth as u16;
+        self.kept += 1;
     }
-}
 
-// How many elements there are up to the innermost whose name is kept, and with it.
-fn reach(levels: &[u16; 64], kept: usize) -> usize
-    requires { (length levels.now ≡ 64) × (kept ≤ 64) }
-    ensures { result ≡ reaches levels.now kept }
-{
-    if kept == 0 {
-        return 0;
+    // All places are taken: some are freed. A name is put to its new place whether it stays or not, and counted only if it stays.
+    fn thin(&mut self)
+        requires { (self.old.kept ≡ 64) × Keeping self.old.names self.old.levels 64 × LowNames self.old.names }
+        ensures { Spared self.old.names self.old.levels 64 self.new.names self.new.levels self.new.kept }
+    {
+        let mut count: usize = 0;
+        let mut block: usize = 0;
+        for j in 0..MOST_NAMES {
+            let stay = stays(&self.names, j, block);
+            self.names[count] = self.names[j];
+            self.levels[count] = self.levels[j];
+            count += stay.count;
+            block = stay.block;
+        }
+        self.kept = count;
     }
-    short(levels[kept - 1]) + 1
-}
 
-// The innermost element ends, and `depth` are open then: how many names are kept.
-pub fn close(
-    document: &[u8],
-    names: &mut [u16; 64],
-    levels: &mut [u16; 64],
-    kept: usize,
-    depth: usize,
-) -> usize
-    requires { MayClose document.now names.old levels.old kept depth }
-    ensures { ClosedOne document.now names.old levels.old kept depth names.new levels.new result }
-{
-    let left = kept - 1;
-    let known = reach(levels, left);
-    if known == depth {
-        return left;
+    // The innermost element ends, and `depth` are open then.
+    pub fn close(&mut self, document: &[u8], depth: usize)
+        requires { MayClose document.now self.old.names self.old.levels self.old.kept depth }
+        ensures { ClosedOne document.now self.old.names self.old.levels self.old.kept depth self.new.names self.new.levels self.new.kept }
+    {
+        let left = self.kept - 1;
+        self.kept = left;
+        let known = self.reach();
+        if known == depth {
+            return;
+        }
+        let from = usize::from(self.names[left]) - 1;
+        let top = left + (depth - known).min(MOST_NAMES - left);
+        self.find_again(document, from, depth, top);
     }
-    let from = short(names[left]) - 1;
-    let top = left + least(depth - known, MOST_NAMES - left);
-    find_again(document, names, levels, from, depth, left, top);
-    top
+
+    // How many elements there are up to the innermost whose name is kept, and with it.
+    fn reach(&self) -> usize
+        requires { (length self.now.levels ≡ 64) × (self.now.kept ≤ 64) }
+        ensures { result ≡ reaches self.now.levels self.now.kept }
+    {
+        if self.kept == 0 {
+            return 0;
+        }
+        usize::from(self.levels[self.kept - 1]) + 1
+    }
+
+    // The names of the innermost of `depth` elements that are open at `from`, put below `top` and down to those that are kept.
+    fn find_again(&mut self, document: &[u8], from: usize, depth: usize, top: usize)
+        requires { MayFind document.now self.old.names self.old.levels from depth self.old.kept top }
+        ensures { Finds document.now self.old.names self.old.levels from depth self.old.kept top self.new.names self.new.levels × (self.new.kept ≡ top) }
+    {
+        let mut at = from;
+        let mut level = depth;
+        for k in (self.kept..top).rev() {
+            at = innermost_before(document, at);
+            level -= 1;
+            self.names[k] = (at + 1) as u16;
+            self.levels[k] = level as u16;
+        }
+        self.kept = top;
+    }
 }

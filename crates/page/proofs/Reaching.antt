@@ -17,36 +17,36 @@ use Rattle.expression.specs.Expression.{Expression}
 use Rattle.constraint.specs.Obeys.{Constraint}
 use Rattle.walk.specs.Cycle.{stop_at}
 use Rattle.walk.specs.Onward.{BeginPre, BeginPost}
-use Rattle.walk.specs.declared.Out.{Out}
-use Rattle.walk.specs.declared.Out.TheVariants as answer
+use Rattle.std.specs.Prelude.{Result, Ok, Err, Some, None}
+use Rattle.walk.specs.declared.Halt.{Halt}
+use Rattle.walk.specs.declared.Halt.TheVariants as halt
 use Rattle.choice.proofs.Stops.{at_room}
 use Rattle.record.specs.Copied.{Copied}
 use Rattle.catalogue.proofs.Later.{later_start}
 use Rattle.levels.specs.Columns.{places, variables, starts, rows, nexts, lefts}
 use Rattle.levels.specs.Levels.{AttemptPre, AttemptPost}
+use Rattle.levels.specs.declared.Level.{Level}
 use Rattle.levels.specs.declared.Try.{Try}
 use Rattle.levels.proofs.Columns.{columns_long}
 use Rattle.levels.proofs.First.{first_asked, first_marks, first_long, first_answered, first_asks}
 use Rattle.levels.proofs.Going.{Walked}
 use Rattle.levels.proofs.Pauses.{pauses_none}
 use Rattle.page.specs.Page.{ChoosePre, ChoosePost, outside, value, ReachAsked, ReachPre, ReachPost, nowhere, reached}
-use Rattle.page.specs.declared.Chosen.{Chosen}
-use Rattle.page.specs.declared.Chosen.TheVariants.{Beyond, Value}
-use Rattle.page.specs.declared.Reached.TheVariants.{Nowhere, At}
 use Rattle.page.proofs.Stood.{Stood, stood_fails, stood_other, stood_record, stood_later, stood_stop, stood_deep, stood_read, stood_beyond, stood_landing, stood_further, stood_attempt, stood_tried}
+use Rattle.letters.specs.declared.Tables.{Tables}
 
 -- at the loop's head
-pub record OnTheWay (L S M tables list R A W : List ℕ) (o : Out) (depth : ℕ) : Type 0 where
+pub record OnTheWay (L S M : List ℕ) (tables : Tables) (list R A : List ℕ) (W : List Level) (o : Result ℕ Halt) (depth : ℕ) : Type 0 where
   pub record_long : length R ≡ 32
-  pub levels_long : length W ≡ 1536
+  pub levels_long : length W ≡ 256
   pub each : {T : Term} {P : Pattern} {Q : List Kind} {es : List Expression} {cs : List Constraint} (a : ReachAsked L S M tables list T P Q es cs)
       → Stood a R A (places W) (variables W) (starts W) (rows W) (nexts W) (lefts W) o depth
 
-module _ {L S M tables list R A W : List ℕ} (pre : ReachPre L S M tables list R A W) where
+module _ {L S M : List ℕ} {tables : Tables} {list R A : List ℕ} {W : List Level} (pre : ReachPre L S M tables list R A W) where
   pub reach_begins : BeginPre L S M R A
   reach_begins = let s = pre.some in record { some = (s.0, s.1, s.2, first_asked s.5.search pre.record_long pre.rows_long) }
 
-  pub reach_first : {o : Out} {R' A' : List ℕ} → BeginPost L S M R A o R' A' → OnTheWay L S M tables list R' A' W o 0
+  pub reach_first : {o : Result ℕ Halt} {R' A' : List ℕ} → BeginPost L S M R A o R' A' → OnTheWay L S M tables list R' A' W o 0
   reach_first {o} {R'} {A'} b =
       record {
         record_long = first_long pre.some.5.search pre.record_long pre.rows_long b;
@@ -68,15 +68,15 @@ module _ {L S M tables list R A W : List ℕ} (pre : ReachPre L S M tables list 
             };
       }
 
-module _ {L S M tables list R A W : List ℕ} {o : Out} {depth : ℕ} (t : OnTheWay L S M tables list R A W o depth) where
-  pub reach_fails : o ≡ answer.Fail → ReachPost L S M tables list R A W Nowhere
+module _ {L S M : List ℕ} {tables : Tables} {list R A : List ℕ} {W : List Level} {o : Result ℕ Halt} {depth : ℕ} (t : OnTheWay L S M tables list R A W o depth) where
+  pub reach_fails : o ≡ (Err halt.Fail) → ReachPost L S M tables list R A W None
   reach_fails e = nowhere (λ T P Q es cs a i. stood_fails a (t.each a) e i)
 
-  module _ {n : ℕ} (e : o ≡ answer.Ok n) {same : Bool} (says : Says same (Copied list R)) where
-    pub reach_other : same ≡ false → ReachPost L S M tables list R A W Nowhere
+  module _ {n : ℕ} (e : o ≡ Ok n) {same : Bool} (says : Says same (Copied list R)) where
+    pub reach_other : same ≡ false → ReachPost L S M tables list R A W None
     reach_other f = nowhere (λ T P Q es cs a i. stood_other a (t.each a) e t.record_long (said_no says f) i)
 
-    pub reach_found : same ≡ true → ReachPost L S M tables list R A W (At depth)
+    pub reach_found : same ≡ true → ReachPost L S M tables list R A W (Some depth)
     reach_found f =
         reached
         (record {
@@ -98,7 +98,7 @@ module _ {L S M tables list R A W : List ℕ} {o : Out} {depth : ℕ} (t : OnThe
   pub reach_short : {T : Term} {P : Pattern} {Q : List Kind} {es : List Expression} {cs : List Constraint} → ReachAsked L S M tables list T P Q es cs → length list ≤ 32
   reach_short a = omega (arith, a.long, a.search.allowing.few)
 
-  module _ {p x s : ℕ} (e : o ≡ answer.Need (stop_at p x s)) where
+  module _ {p x s : ℕ} (e : o ≡ Err (halt.Need (stop_at p x s))) where
     module _ {T : Term} {P : Pattern} {Q : List Kind} {es : List Expression} {cs : List Constraint} (a : ReachAsked L S M tables list T P Q es cs) where
       pub reach_deep : depth < 256
       reach_deep = (stood_deep a (t.each a) e).1
@@ -114,28 +114,25 @@ module _ {L S M tables list R A W : List ℕ} {o : Out} {depth : ℕ} (t : OnThe
             room = (at_room k).1;
             read = stood_read a s e;
             asked = λ lo m v left low values small high. (
-              stood_landing a s e low values (columns_long W) left small high,
-              λ u landing. stood_further a s e low values (columns_long W) left small high landing,
+              stood_landing a s e low values (columns_long W t.levels_long) left small high,
+              λ u landing. stood_further a s e low values (columns_long W t.levels_long) left small high landing,
             );
           }
 
-    module _ {W' : List ℕ} where
-      pub reach_beyond : {c : Chosen} → ChoosePost S M A W list depth p x s W' c → c ≡ Beyond → {R' A' W'' : List ℕ} → ReachPost L S M tables list R' A' W'' Nowhere
-      reach_beyond post h = go (rw h at post)
-        where
-          go : {R' A' W'' : List ℕ} → ChoosePost S M A W list depth p x s W' Beyond → ReachPost L S M tables list R' A' W'' Nowhere
-          go (outside low values out) =
-              nowhere
-              (λ T P Q es cs a i.
-              stood_beyond a (t.each a) e low values (columns_long W) out i)
+    module _ {W' : List Level} where
+      pub reach_beyond : ChoosePost S M A W list depth p x s W' None → {R' A' : List ℕ} {W'' : List Level} → ReachPost L S M tables list R' A' W'' None
+      reach_beyond (outside low values out) =
+          nowhere
+          (λ T P Q es cs a i.
+          stood_beyond a (t.each a) e low values (columns_long W t.levels_long) out i)
 
       -- the level stands behind the value that is tried
-      pub reach_tries : {v : Try} → ChoosePost S M A W list depth p x s W' (Value v) → {T : Term} {P : Pattern} {Q : List Kind} {es : List Expression} {cs : List Constraint} → ReachAsked L S M tables list T P Q es cs
+      pub reach_tries : {v : Try} → ChoosePost S M A W list depth p x s W' (Some v) → {T : Term} {P : Pattern} {Q : List Kind} {es : List Expression} {cs : List Constraint} → ReachAsked L S M tables list T P Q es cs
           → AttemptPre L S M tables R A v.p v.x v.s v.u v.v
       reach_tries (value {left = left} low values ev small high landing further entered moved) a =
-          stood_attempt a (t.each a) e low values (columns_long W) left small high landing t.record_long
+          stood_attempt a (t.each a) e low values (columns_long W t.levels_long) left small high landing t.record_long
 
-      pub reach_again : {v : Try} {o' : Out} {R' A' : List ℕ} → ChoosePost S M A W list depth p x s W' (Value v) → length R' ≡ 32 → AttemptPost L S M tables R A v.p v.x v.s v.u v.v o' R' A'
+      pub reach_again : {v : Try} {o' : Result ℕ Halt} {R' A' : List ℕ} → ChoosePost S M A W list depth p x s W' (Some v) → length R' ≡ 32 → AttemptPost L S M tables R A v.p v.x v.s v.u v.v o' R' A'
           → OnTheWay L S M tables list R' A' W' o' (depth + 1)
       reach_again (value {v = v} {row = row} {left = left} low values ev small high landing further entered moved) long post =
           record {
@@ -151,5 +148,5 @@ module _ {L S M tables list R A W : List ℕ} {o : Out} {depth : ℕ} (t : OnThe
                   moved.new_lefts ∙ ap (λ (c : List ℕ). set c depth left) entered.new_lefts ∙ set-set (lefts W) depth _ left,
                   add-one depth,
                 )
-                (stood_tried a (t.each a) e low values (columns_long W) left small high landing t.record_long ev further post);
+                (stood_tried a (t.each a) e low values (columns_long W t.levels_long) left small high landing t.record_long ev further post);
           }

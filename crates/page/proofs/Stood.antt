@@ -18,8 +18,9 @@ use Rattle.constraint.specs.Obeys.{Constraint, Allowed}
 use Rattle.constraint.proofs.Allowed.{allowed?}
 use Rattle.walk.specs.Cycle.{stop_at}
 use Rattle.walk.specs.Taken.{Answers}
-use Rattle.walk.specs.declared.Out.{Out}
-use Rattle.walk.specs.declared.Out.TheVariants as answer
+use Rattle.std.specs.Prelude.{Result, Ok, Err}
+use Rattle.walk.specs.declared.Halt.{Halt}
+use Rattle.walk.specs.declared.Halt.TheVariants as halt
 use Rattle.walk.proofs.Answered.{failed, matched}
 use Rattle.choice.specs.Stops.{many, StopAt, LeastPost, ValuesPost, LandingPre, LandingPost, FurtherPre, FurtherPost}
 use Rattle.choice.proofs.Stops.{many_range}
@@ -34,13 +35,14 @@ use Rattle.levels.specs.Levels.{Search, AttemptPre, AttemptPost}
 use Rattle.levels.proofs.Columns.{ColumnsLong}
 use Rattle.levels.proofs.Going.{few, numbered, Walked, Leveled, Paused, Asks, asks_stop, asks_range, asks_values, asks_level, jump_levels, try_kind, try_taken, try_answered, further_asked}
 use Rattle.page.specs.Page.{ReachAsked}
+use Rattle.letters.specs.declared.Tables.{Tables}
 
-module _ {L S M tables list : List ℕ} {T : Term} {P : Pattern} {Q : List Kind} {es : List Expression} {cs : List Constraint} (a : ReachAsked L S M tables list T P Q es cs) where
+module _ {L S M : List ℕ} {tables : Tables} {list : List ℕ} {T : Term} {P : Pattern} {Q : List Kind} {es : List Expression} {cs : List Constraint} (a : ReachAsked L S M tables list T P Q es cs) where
   abbrev w : Search L S M tables T P Q es cs
   w = a.search
 
   -- the answer o of the walk with the first choices of the record, each of which has its level
-  pub record Stood (R A G X St U Nx F : List ℕ) (o : Out) (depth : ℕ) : Type 0 where
+  pub record Stood (R A G X St U Nx F : List ℕ) (o : Result ℕ Halt) (depth : ℕ) : Type 0 where
     pub vals : List ℕ
     pub vals_long : length vals ≡ 256
     pub others : List ℕ
@@ -50,26 +52,26 @@ module _ {L S M tables list : List ℕ} {T : Term} {P : Pattern} {Q : List Kind}
     pub answered : Answers R o (walk (Allowed cs) (allowed? cs) P T (take depth vals))
     pub levels : Leveled w vals X St Nx F depth
     pub pauses : Paused w R A vals G X St U Nx F depth
-    pub asks : (p x s : ℕ) → o ≡ answer.Need (stop_at p x s) → Asks w R A vals G depth p x s
+    pub asks : (p x s : ℕ) → o ≡ Err (halt.Need (stop_at p x s)) → Asks w R A vals G depth p x s
 
   not_fail : (r : Res) {B : List Entry} → r ≡ ok B [] → outcome r ≡ events.fail → ⊥
   not_fail W.fail e h = let z : ◌≡◌ {A = ℕ} 0 1 = cc in omega arith
   not_fail (W.need B s lo hi) e h = let z : ◌≡◌ {A = ℕ} 0 1 = cc in omega arith
   not_fail (ok B c) e h = let z : ◌≡◌ {A = ℕ} 0 1 = cc in omega arith
 
-  module _ {R A G X St U Nx F : List ℕ} {o : Out} {depth : ℕ} (t : Stood R A G X St U Nx F o depth) where
+  module _ {R A G X St U Nx F : List ℕ} {o : Result ℕ Halt} {depth : ℕ} (t : Stood R A G X St U Nx F o depth) where
     -- where it is the record of a matcher, the walk with all its choices finds it again
     refound : IsRecord (Allowed cs) Q P T list → (rs : List ℕ) → t.others ≡ rs → outcome (walk (Allowed cs) (allowed? cs) P T (take depth t.vals ++ rs)) ≡ events.fail → ⊥
     refound i rs e =
         let f = test_no (Allowed cs) (allowed? cs) (numbered w) i in
         not_fail (walk (Allowed cs) (allowed? cs) P T (take depth t.vals ++ rs)) (ap (walk (Allowed cs) (allowed? cs) P T) (sym (t.chosen ∙ ap (λ (l : List ℕ). take depth t.vals ++ l) e)) ∙ f.1)
 
-    pub stood_fails : o ≡ answer.Fail → IsRecord (Allowed cs) Q P T list → ⊥
+    pub stood_fails : o ≡ (Err halt.Fail) → IsRecord (Allowed cs) Q P T list → ⊥
     stood_fails e i =
         alive (Walked w) (is_honest (Allowed cs) (allowed? cs) (numbered w) T) (take depth t.vals) t.others (refound i t.others refl) (ap outcome (failed (rw e at t.answered)))
 
     -- the walk has matched: the choices are all of the record's
-    module _ {n : ℕ} (e : o ≡ answer.Ok n) where
+    module _ {n : ℕ} (e : o ≡ Ok n) where
       said : (B : List Entry) × (walk (Allowed cs) (allowed? cs) P T (take depth t.vals) ≡ ok B []) × (take (length (numbers B)) R ≡ numbers B)
       said = matched (rw e at t.answered)
 
@@ -110,7 +112,7 @@ module _ {L S M tables list : List ℕ} {T : Term} {P : Pattern} {Q : List Kind}
           t.later
 
     -- the walk asks for the variable x
-    module _ {p x s : ℕ} (e : o ≡ answer.Need (stop_at p x s)) where
+    module _ {p x s : ℕ} (e : o ≡ Err (halt.Need (stop_at p x s))) where
       abbrev b : Asks w R A t.vals G depth p x s
       b = t.asks p x s e
 
@@ -236,7 +238,7 @@ module _ {L S M tables list : List ℕ} {T : Term} {P : Pattern} {Q : List Kind}
               in_lefts = rw (length-set F depth (suc left)) (omega (arith, d))
 
               -- the value was tried
-              pub stood_tried : {o' : Out} {R' A' : List ℕ} {row : ℕ} → length R ≡ 32 → v ≡ get_or list (x + x + 1) 0 → FurtherPost S M p u left row → AttemptPost L S M tables R A p x s u v o' R' A'
+              pub stood_tried : {o' : Result ℕ Halt} {R' A' : List ℕ} {row : ℕ} → length R ≡ 32 → v ≡ get_or list (x + x + 1) 0 → FurtherPost S M p u left row → AttemptPost L S M tables R A p x s u v o' R' A'
                   → Stood R' A' (set G depth p) (set X depth x) (set St depth s) (set U depth row) (set Nx depth (v + 1)) (set F depth left) o' (suc depth)
               stood_tried {o'} {R'} {A'} {row} full ev further post =
                   let c = its_choice in

@@ -1,29 +1,29 @@
 // The levels of the search as they stand at a record: each choice is the record's own second number, judged and walked with as a try is.
 #![tactic(auto)]
 
+ghost use Rattle.walk.specs.Packed.{numbers_of};
 ghost use Rattle.page.specs.Page.{ChoosePre, ChoosePost, ReachPre, ReachPost};
 
-use levels::{Try, advance, attempt, enter};
+use letters::Tables;
+use levels::{Level, Try, advance, attempt, enter};
+use memory::Memory;
+use paths::Path;
+use tree::Tree;
+use walk::{Halt, PatternRow};
 
-// What a record has for a variable: none of its values, or one to be tried.
-#[derive(Drop)]
-pub enum Chosen {
-    Beyond,
-    Value(Try),
-}
-
-// The level d is for the variable at which the walk stopped, and stands behind the value that the record has for it.
+// The level d is for the variable at which the walk stopped, and stands behind the value that the record has for it, which is to be
+// tried, if it is one of the variable's.
 fn choose(
     size: &[u32],
-    pattern: &[u32; 1536],
+    pattern: &[PatternRow; 256],
     list: &[u32],
     at: &[usize; 256],
-    levels: &mut [usize; 1536],
+    levels: &mut [Level; 256],
     d: usize,
     w: walk::Stop,
-) -> Chosen
-    requires { ChoosePre size.now pattern.now at.now levels.old list.now d w.place w.variable w.start }
-    ensures { ChoosePost size.now pattern.now at.now levels.old list.now d w.place w.variable w.start levels.new result }
+) -> Option<Try>
+    requires { ChoosePre size.now (numbers_of pattern.now) at.now levels.old list.now d w.place w.variable w.start }
+    ensures { ChoosePost size.now (numbers_of pattern.now) at.now levels.old list.now d w.place w.variable w.start levels.new result }
 {
     let p = w.place;
     let x = w.variable;
@@ -32,17 +32,17 @@ fn choose(
     let least = choice::least(pattern, p, s);
     let values = choice::values(size, pattern, at, p, s);
     if v < least {
-        return Chosen::Beyond;
+        return None;
     }
     if values <= v - least {
-        return Chosen::Beyond;
+        return None;
     }
     let left = values - (v - least) - 1;
     let u = choice::landing(size, pattern, p, s, v);
     let row = choice::further(size, pattern, p, u, left);
     enter(levels, d, w, least, values);
     advance(levels, d, row, v + 1, left);
-    Chosen::Value(Try {
+    Some(Try {
         p,
         x,
         s,
@@ -53,57 +53,38 @@ fn choose(
     })
 }
 
-// Where the levels stand, if the record is that of a matcher.
-#[derive(Drop)]
-pub enum Reached {
-    Nowhere,
-    At(usize),
-}
-
-// Goes to the record of a matcher once, from the first walk on: a level for each of its choices, as the search left them there.
+// Goes to the record of a matcher once, from the first walk on: a level for each of its choices, as the search left them there; how
+// many levels these are, if the record is that of a matcher.
 pub fn reach(
-    label: &[u32],
-    size: &[u32],
-    pattern: &[u32; 1536],
-    tables: &[u64; 320],
+    tree: &Tree,
+    pattern: &[PatternRow; 256],
+    tables: &Tables,
     list: &[u32],
     record: &mut [u32; 32],
     at: &mut [usize; 256],
-    levels: &mut [usize; 1536],
-) -> Reached
-    requires { ReachPre label.now size.now pattern.now tables.now list.now «record».old at.old levels.old }
-    ensures { ReachPost label.now size.now pattern.now tables.now list.now «record».new at.new levels.new result }
+    levels: &mut [Level; 256],
+) -> Option<usize>
+    requires { ReachPre tree.now.label.now tree.now.size.now (numbers_of pattern.now) tables.now list.now «record».old at.old levels.old }
+    ensures { ReachPost tree.now.label.now tree.now.size.now (numbers_of pattern.now) tables.now list.now «record».new at.new levels.new result }
 {
-    let mut memory = [0usize; 1280];
-    let mut path = [0usize; 259];
+    let mut memory = Memory::new();
+    let mut path = Path::new();
     let mut depth = 0;
-    let mut o = walk::begin(label, size, pattern, record, at);
+    let mut o = walk::begin(tree, pattern, record, at);
     loop {
         match o {
-            walk::Out::Fail => return Reached::Nowhere,
-            walk::Out::Ok(_) => {
+            Err(Halt::Fail) => return None,
+            Ok(_) => {
                 if record::equal(record, list) {
-                    return Reached::At(depth);
+                    return Some(depth);
                 }
-                return Reached::Nowhere;
+                return None;
             }
-            walk::Out::Need(w) => match choose(size, pattern, list, at, levels, depth, w) {
-                Chosen::Beyond => return Reached::Nowhere,
-                Chosen::Value(t) => {
-                    o = attempt(
-                        label,
-                        size,
-                        pattern,
-                        tables,
-                        record,
-                        at,
-                        t,
-                        &mut memory,
-                        &mut path,
-                    );
-                    depth += 1;
-                }
-            },
+            Err(Halt::Need(w)) => {
+                let t = choose(tree.size, pattern, list, at, levels, depth, w)?;
+                o = attempt(tree, pattern, tables, record, at, t, &mut memory, &mut path);
+                depth += 1;
+            }
         }
     }
 }

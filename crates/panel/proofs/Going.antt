@@ -12,93 +12,34 @@ use Rattle.answer.specs.declared.Listing.{Listing}
 use Rattle.panel.specs.Parts.{sum}
 use Rattle.panel.specs.Panel.{Panel, problems, ListsAgree, LengthsAddUp, PanelSettled}
 use Rattle.portion.specs.Portion.{most, EndsIn, PortionPre, PortionPost}
-use Rattle.panel.specs.Inside.{Agreeing, AllReach, Filling, WithNextPre, written}
+use Rattle.panel.specs.Inside.{AllReach, WithNextPre, reach, written}
 use Rattle.portion.specs.declared.Reach.{Reach}
 use Rattle.panel.proofs.Parts.{sum_next, sum_within}
-use Rattle.panel.proofs.Upto.{Upto, upto_none, upto_next, tables, reach, panel_done, panel_refused}
+use Rattle.panel.proofs.Upto.{Upto, upto_none, upto_next, tables, panel_done, panel_refused}
 
--- what the sums ask
-pub few_lengths : {r : Bool} {n patterns expressions constraints budgets answers : ℕ} → Says r (Agreeing n patterns expressions constraints budgets answers) → r ≡ true
-    → (patterns ≤ 32) × (expressions ≤ 32) × (constraints ≤ 32) × (n ≤ 32)
-few_lengths s e =
-    let a = s.0 e in
-    let l = a.lists in
-    (omega (arith, l.0, a.few), omega (arith, l.1, a.few), omega (arith, l.2, a.few), a.few)
+-- nothing is written in a refusal
+pub lists_disagree : {p : Panel} {out answer : List ℕ} {r : Bool} → Says r (ListsAgree p (length answer)) → r ≡ false → PanelSettled p out answer 21 out answer
+lists_disagree s e = panel_refused _ _ _ (λ g. said_no s e g.0)
 
--- what is asked first, of the lists' lengths
-module _ (p : Panel) (out answer : List ℕ) where
-  abbrev AgreeingLists : Type 0
-  AgreeingLists = Agreeing (problems p) (length p.pattern_length) (length p.expression_length) (length p.constraint_length) (length p.budget) (length answer)
-
-  abbrev WholeLists : Reach → Type 0
-  WholeLists all = AllReach p.pattern_length p.expression_length p.constraint_length p.share all
-
-  abbrev FillingLists : Reach → Type 0
-  FillingLists all =
-      Filling all (length p.kind) (length p.name) (length p.pattern_size) (length p.expression_kind) (length p.expression_name) (length p.expression_size) (length p.constraint) (length out)
-
-  agree_is : AgreeingLists → ListsAgree p (length answer)
-  agree_is a = let l = a.lists in record { patterns = l.0; expressions = l.1; constraints = l.2; budgets = l.3; answers = l.4; few = a.few }
-
-  is_agree : ListsAgree p (length answer) → AgreeingLists
-  is_agree a = record { few = a.few; lists = (a.patterns, a.expressions, a.constraints, a.budgets, a.answers) }
-
-  pub lists_disagree : {r : Bool} → Says r AgreeingLists → r ≡ false → PanelSettled p out answer 21 out answer
-  lists_disagree s e = panel_refused p out answer (λ g. said_no s e (is_agree g.0))
-
-  module _ {all : Reach} (w : WholeLists all) where
-    add_up_is : FillingLists all → LengthsAddUp p (length out)
-    add_up_is f =
-        let g : FillingLists (record { rows = sum p.pattern_length; expressions = sum p.expression_length; numbers = sum p.constraint_length; entries = sum p.share }) = rw w.is at f in
-        record {
-          kind = g.rows.0;
-          name = g.rows.1;
-          pattern_size = g.rows.2;
-          expression_kind = g.expression_rows_lem.0;
-          expression_name = g.expression_rows_lem.1;
-          expression_size = g.expression_rows_lem.2;
-          constraint = g.numbers;
-          out = g.entries;
-        }
-
-    is_add_up : LengthsAddUp p (length out) → FillingLists all
-    is_add_up u =
-        rw w.is
-        (record {
-          rows = (u.kind, u.name, u.pattern_size);
-          expression_rows_lem = (u.expression_kind, u.expression_name, u.expression_size);
-          numbers = u.constraint;
-          entries = u.out;
-        })
-
-    pub do_not_add_up : {r : Bool} → Says r (FillingLists all) → r ≡ false → PanelSettled p out answer 21 out answer
-    do_not_add_up s e = panel_refused p out answer (λ g. said_no s e (is_add_up g.1))
+pub do_not_add_up : {p : Panel} {out answer : List ℕ} {r : Bool} → Says r (LengthsAddUp p (length out)) → r ≡ false → PanelSettled p out answer 21 out answer
+do_not_add_up s e = panel_refused _ _ _ (λ g. said_no s e g.1)
 
 -- whenever the loop goes round: the first i problems are answered, and `from` is how far they reach
 pub record Going (p : Panel) (tree : Bool) (out answer : List ℕ) (i : ℕ) (from : Reach) (out' answer' : List ℕ) : Type 0 where
   pub agree : ListsAgree p (length answer)
   pub add : LengthsAddUp p (length out)
   pub all : Reach
-  pub small : WholeLists p out answer all
+  pub small : AllReach p all
   pub judged : Says tree (GoodRows p.label p.size)
   pub is : from ≡ reach p i
   pub few : i ≤ problems p
   pub upto : Upto p out answer i out' answer'
 
-pub begins : (p : Panel) (out answer : List ℕ) {r f tree : Bool} {all : Reach} → Says r (AgreeingLists p out answer) → r ≡ true → WholeLists p out answer all → Says f (FillingLists p out answer all) → f ≡ true
+pub begins : {p : Panel} {out answer : List ℕ} {tree : Bool} {all : Reach} → ListsAgree p (length answer) → AllReach p all → LengthsAddUp p (length out)
     → Says tree (GoodRows p.label p.size) → Going p tree out answer 0 (record { rows = 0; expressions = 0; numbers = 0; entries = 0 }) out answer
 unfolding sum
-begins p out answer {all = all} s e w fill h judged =
-    record {
-      agree = agree_is p out answer (s.0 e);
-      add = add_up_is p out answer w (fill.0 h);
-      all = all;
-      small = w;
-      judged = judged;
-      is = refl;
-      few = omega arith;
-      upto = upto_none p out answer;
-    }
+begins {p} {out} {answer} {all = all} agree small add judged =
+    record { agree = agree; add = add; all = all; small = small; judged = judged; is = refl; few = omega arith; upto = upto_none p out answer }
 
 -- where one part of a list ends, by how far the problems reach
 ends_within : (i : ℕ) (lengths list : List ℕ) → i < length lengths → sum lengths ≤ most → sum lengths ≡ length list → EndsIn (sum (take i lengths)) (sum (take (i + 1) lengths)) list
@@ -120,7 +61,7 @@ module _ {p : Panel} {tree : Bool} {out answer : List ℕ} {i : ℕ} {from : Rea
   pub budget_there : i < length p.budget
   budget_there = omega (arith, g.agree.budgets)
 
-  pub next_asked : WithNextPre p.pattern_length p.expression_length p.constraint_length p.share i from
+  pub next_asked : WithNextPre p i from
   next_asked =
       record {
         rows = record { is = ap (λ (r : Reach). r.rows) g.is; there = in_patterns; fits = g.small.rows };

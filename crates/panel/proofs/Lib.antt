@@ -1,5 +1,4 @@
 pub mod Parts
-pub mod Says
 pub mod Upto
 pub mod Going
 pub mod Unique

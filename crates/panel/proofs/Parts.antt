@@ -9,7 +9,8 @@ use native.Mathlib.Omega.{arith}
 use Rattle.catalogue.specs.Listing.{joined}
 use Rattle.panel.specs.Parts.{sum, part, first_parts, PartsJoined}
 use Rattle.portion.specs.Portion.{most}
-use Rattle.panel.specs.Inside.{AllReach, HasNext, WithNextPre, reach_of}
+use Rattle.panel.specs.Panel.{Panel}
+use Rattle.panel.specs.Inside.{AllReach, HasNext, WithNextPre, reach}
 use Rattle.portion.specs.declared.Reach.{Reach}
 
 -- the sum of one more length
@@ -54,11 +55,10 @@ next_fits {lengths} {i} h = omega (arith, h.is, h.fits, sum_within i lengths h.t
 pub next_is : {lengths : List ℕ} {i n : ℕ} → HasNext lengths i n → n + get_or lengths i 0 ≡ sum (take (i + 1) lengths)
 next_is {lengths} {i} h = omega (arith, h.is, sum_next i lengths h.there)
 
-pub reach_next : {patterns expressions constraints shares : List ℕ} {i : ℕ} {before : Reach} {rows expression_rows numbers entries : ℕ} → WithNextPre patterns expressions constraints shares i before
-    → rows ≡ get_or patterns i 0 → expression_rows ≡ get_or expressions i 0 → numbers ≡ get_or constraints i 0 → entries ≡ get_or shares i 0
-    → ◌≡◌ {A = Reach} (record { rows = before.rows + rows; expressions = before.expressions + expression_rows; numbers = before.numbers + numbers; entries = before.entries + entries })
-    (reach_of patterns expressions constraints shares (i + 1))
-reach_next h r e n s = rw (r, e, n, s, next_is h.rows, next_is h.expression_rows_lem, next_is h.numbers, next_is h.entries)
+pub reach_next : {p : Panel} {i : ℕ} {before : Reach} → WithNextPre p i before
+    → ◌≡◌ {A = Reach} (record { rows = before.rows + get_or p.pattern_length i 0; expressions = before.expressions + get_or p.expression_length i 0; numbers = before.numbers + get_or p.constraint_length i 0; entries = before.entries + get_or p.share i 0 })
+    (reach p (i + 1))
+reach_next h = rw (next_is h.rows, next_is h.expression_rows_lem, next_is h.numbers, next_is h.entries)
 
 -- what lies within the first entries is not changed by what lies behind them
 cut_take : (s n a : ℕ) (xs : List ℕ) → s + n ≤ a → take n (drop s (take a xs)) ≡ take n (drop s xs)
@@ -107,8 +107,8 @@ module _ (lengths xs ys : List ℕ) (i : ℕ) (h : i < length lengths) (filled :
       (long ∙ sym (length-take-le (get_or lengths i 0) (drop (sum (take i lengths)) xs) (omega (arith, length-drop (sum (take i lengths)) xs, sum_within i lengths h, filled))))
 
 -- four sums are how far all problems reach
-pub whole_is : {patterns expressions constraints shares : List ℕ} {a b c d : ℕ} → (a ≡ sum patterns) × (a ≤ most) → (b ≡ sum expressions) × (b ≤ most) → (c ≡ sum constraints) × (c ≤ most)
-    → (d ≡ sum shares) × (d ≤ most) → AllReach patterns expressions constraints shares (record { rows = a; expressions = b; numbers = c; entries = d })
+pub whole_is : {p : Panel} {a b c d : ℕ} → (a ≡ sum p.pattern_length) × (a ≤ most) → (b ≡ sum p.expression_length) × (b ≤ most) → (c ≡ sum p.constraint_length) × (c ≤ most)
+    → (d ≡ sum p.share) × (d ≤ most) → AllReach p (record { rows = a; expressions = b; numbers = c; entries = d })
 whole_is a b c d =
     record {
       is = rw (a.0, b.0, c.0, d.0);

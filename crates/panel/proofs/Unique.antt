@@ -10,8 +10,7 @@ use native.Mathlib.Decide.{ℕ_discrete}
 use Rattle.meaning.specs.Calls.{refuse, accept}
 use Rattle.meaning.proofs.OneCode.{one_refuse, one_accept}
 use Rattle.catalogue.specs.Listing.{joined}
-use Rattle.lister.specs.Listed.{Settled}
-use Rattle.lister.specs.declared.Listed.{Listed}
+use Rattle.lister.specs.Listed.{Listed, Settled}
 use Rattle.lister.proofs.Unique.{one_listed, are_one}
 use Rattle.panel.specs.Parts.{sum, part, first_parts}
 use Rattle.panel.specs.Panel.{Panel, problems, problem, answer_at, ListsAgree, LengthsAddUp, PanelSettled}

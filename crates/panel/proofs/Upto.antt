@@ -13,7 +13,7 @@ use Rattle.answer.specs.declared.Listing.{Listing}
 use Rattle.panel.specs.Parts.{sum, part}
 use Rattle.panel.specs.Panel.{Panel, problems, problem, answer_at, ListsAgree, LengthsAddUp, PanelSettled}
 use Rattle.portion.specs.Portion.{PortionPost}
-use Rattle.panel.specs.Inside.{reach_of, written}
+use Rattle.panel.specs.Inside.{reach, written}
 use Rattle.portion.specs.declared.Reach.{Reach}
 use Rattle.panel.proofs.Parts.{sum_next, put, put_its, put_before, put_behind, put_long}
 
@@ -97,9 +97,6 @@ tables p =
       expression_size = p.expression_size;
       constraint = p.constraint;
     }
-
-abbrev pub reach : Panel → ℕ → Reach
-reach p i = reach_of p.pattern_length p.expression_length p.constraint_length p.share i
 
 -- from one reach to the next there are as many as the length says
 span : (i : ℕ) (lengths : List ℕ) → i < length lengths → sum (take (i + 1) lengths) - sum (take i lengths) ≡ get_or lengths i 0

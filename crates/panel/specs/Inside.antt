@@ -1,34 +1,28 @@
 -- Not needed to believe the promise: what the functions of a panel ask of each other.
-use Rattle.std.specs.Prelude.{ℕ, ◌+◌, ◌*◌, ◌≤◌, ◌<◌, ◌≡◌, List, length, take, set}
+use Rattle.std.specs.Prelude.{ℕ, ◌+◌, ◌≤◌, ◌<◌, ◌≡◌, List, length, take, set}
 use Rattle.answer.specs.declared.Listing.{Listing}
 use Rattle.portion.specs.Portion.{most}
 use Rattle.portion.specs.declared.Reach.{Reach}
 use Rattle.panel.specs.Parts.{sum}
-
--- as `ListsAgree`, of lists of these lengths
-pub record Agreeing (problems patterns expressions constraints budgets answers : ℕ) : Type 0 where
-  pub few : problems ≤ 32
-  pub lists : (patterns ≡ problems) × (expressions ≡ problems) × (constraints ≡ problems) × (budgets ≡ problems) × (answers ≡ problems * 4)
+use Rattle.panel.specs.Panel.{Panel}
 
 -- how far all problems reach; the sums are numbers of the machine
-pub record AllReach (patterns expressions constraints shares : List ℕ) (all : Reach) : Type 0 where
-  pub is : all ≡ record { rows = sum patterns; expressions = sum expressions; numbers = sum constraints; entries = sum shares }
-  pub rows : sum patterns ≤ most
-  pub expression_rows_lem : sum expressions ≤ most
-  pub numbers : sum constraints ≤ most
-  pub entries : sum shares ≤ most
-
--- as `LengthsAddUp`, of lists of these lengths
-pub record Filling (all : Reach) (kind name pattern_size expression_kind expression_name expression_size constraint out : ℕ) : Type 0 where
-  pub rows : (all.rows ≡ kind) × (all.rows ≡ name) × (all.rows ≡ pattern_size)
-  pub expression_rows_lem : (all.expressions ≡ expression_kind) × (all.expressions ≡ expression_name) × (all.expressions ≡ expression_size)
-  pub numbers : all.numbers ≡ constraint
-  pub entries : all.entries ≡ out
+pub record AllReach (p : Panel) (all : Reach) : Type 0 where
+  pub is : all ≡ record { rows = sum p.pattern_length; expressions = sum p.expression_length; numbers = sum p.constraint_length; entries = sum p.share }
+  pub rows : sum p.pattern_length ≤ most
+  pub expression_rows_lem : sum p.expression_length ≤ most
+  pub numbers : sum p.constraint_length ≤ most
+  pub entries : sum p.share ≤ most
 
 -- how far the first i problems reach
-abbrev pub reach_of : (patterns expressions constraints shares : List ℕ) → ℕ → Reach
-reach_of patterns expressions constraints shares i =
-    record { rows = sum (take i patterns); expressions = sum (take i expressions); numbers = sum (take i constraints); entries = sum (take i shares) }
+abbrev pub reach : Panel → ℕ → Reach
+reach p i =
+    record {
+      rows = sum (take i p.pattern_length);
+      expressions = sum (take i p.expression_length);
+      numbers = sum (take i p.constraint_length);
+      entries = sum (take i p.share);
+    }
 
 -- n is the sum of the first i lengths, and there is one more
 pub record HasNext (lengths : List ℕ) (i n : ℕ) : Type 0 where
@@ -36,11 +30,11 @@ pub record HasNext (lengths : List ℕ) (i n : ℕ) : Type 0 where
   pub there : i < length lengths
   pub fits : sum lengths ≤ most
 
-pub record WithNextPre (patterns expressions constraints shares : List ℕ) (i : ℕ) (before : Reach) : Type 0 where
-  pub rows : HasNext patterns i before.rows
-  pub expression_rows_lem : HasNext expressions i before.expressions
-  pub numbers : HasNext constraints i before.numbers
-  pub entries : HasNext shares i before.entries
+pub record WithNextPre (p : Panel) (i : ℕ) (before : Reach) : Type 0 where
+  pub rows : HasNext p.pattern_length i before.rows
+  pub expression_rows_lem : HasNext p.expression_length i before.expressions
+  pub numbers : HasNext p.constraint_length i before.numbers
+  pub entries : HasNext p.share i before.entries
 
 -- four numbers are written
 abbrev pub written : List ℕ → ℕ → Listing → List ℕ

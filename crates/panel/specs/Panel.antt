@@ -2,12 +2,14 @@
 -- of the output and budgets, and a list for each answer's four numbers. Each is answered as by a call of its own, also where another is
 -- refused. Refusals: 21 before all others, if lengths or shares don't add up to the lists lent, the lists don't agree on the number of
 -- problems, or it is over 32." What a call of its own answers is the lister's promise, and nothing else of the lister is asked.
-use Rattle.std.specs.Prelude.{ℕ, ◌+◌, ◌*◌, ◌≤◌, ◌<◌, ◌≡◌, List, length, get_or}
+use Rattle.std.specs.Prelude.{ℕ, ◌+◌, ◌*◌, ◌≤◌, ◌<◌, ◌≡◌, List, length, get_or, Result, Ok, Err}
 use Rattle.meaning.specs.Calls.{refuse, accept}
 use Rattle.problem.specs.Problem.{Lists}
-use Rattle.lister.specs.Listed.{Settled}
-use Rattle.lister.specs.declared.Listed.{Listed}
+use Rattle.meaning.specs.Refusal.{code}
+use Rattle.meaning.specs.declared.refusal.Refusal.{Refusal}
+use Rattle.lister.specs.Listed.{Listed, Settled}
 use Rattle.panel.specs.Parts.{sum, part}
+use Rattle.panel.specs.declared.Problems.{Problems}
 
 -- what is asked: the tree, the tables of all problems end to end, their lengths, and each problem's budget and share of out
 pub record Panel : Type 0 where
@@ -25,6 +27,31 @@ pub record Panel : Type 0 where
   pub constraint_length : List ℕ
   pub budget : List ℕ
   pub share : List ℕ
+
+-- .. as it is lent
+abbrev pub panel_of : Problems → Panel
+panel_of p =
+    record {
+      label = p.tables.tree.label.now;
+      size = p.tables.tree.size.now;
+      kind = p.tables.pattern.kind.now;
+      name = p.tables.pattern.name.now;
+      pattern_size = p.tables.pattern.size.now;
+      expression_kind = p.tables.table.kind.now;
+      expression_name = p.tables.table.name.now;
+      expression_size = p.tables.table.size.now;
+      constraint = p.tables.constraint.now;
+      pattern_length = p.pattern_length.now;
+      expression_length = p.expression_length.now;
+      constraint_length = p.constraint_length.now;
+      budget = p.budget.now;
+      share = p.share.now;
+    }
+
+-- code 0 is no refusal
+abbrev pub told : {A : Type 0} → Result A Refusal → ℕ
+told (Ok done) = 0
+told (Err refusal) = code refusal
 
 -- the number of problems
 abbrev pub problems : Panel → ℕ

@@ -1,113 +1,97 @@
 // A panel of patterns: up to 32 problems over one tree in one call, each answered as by a call of its own.
 #![tactic(auto)]
 
-ghost use Rattle.std.specs.Prelude.{◌≡◌, ◌+◌, ◌*◌, ◌<◌, ◌≤◌, length};
+ghost use Rattle.std.specs.Prelude.{◌≡◌, ◌+◌, ◌*◌, ◌<◌, ◌≤◌, ℕ, length};
 ghost use Rattle.meaning.specs.Calls.{Says};
 ghost use Rattle.portion.specs.Portion.{most};
 ghost use Rattle.panel.specs.Parts.{sum};
-ghost use Rattle.panel.specs.Panel.{PanelSettled};
-ghost use Rattle.panel.specs.Inside.{Agreeing, AllReach, Filling, reach_of, WithNextPre, written};
+ghost use Rattle.panel.specs.Panel.{told, panel_of, ListsAgree, LengthsAddUp, PanelSettled};
+ghost use Rattle.panel.specs.Inside.{AllReach, WithNextPre, reach, written};
 
 use answer::Listing;
-use meaning::codes::PANEL;
+use meaning::Refusal;
 use portion::Reach;
-use tree::at;
+use problem::Problem;
+
+// What is asked: the tree and the tables of all problems, laid end to end; for each problem how long its parts of the tables are, its budget,
+// and its share of the entries that are lent.
+#[derive(Clone, Copy)]
+pub struct Problems<'a> {
+    pub tables: Problem<'a>,
+    pub pattern_length: &'a [u32],
+    pub expression_length: &'a [u32],
+    pub constraint_length: &'a [u32],
+    pub budget: &'a [u32],
+    pub share: &'a [u32],
+}
 
 // The sum of lengths, which cannot wrap: they are few.
 fn total(lengths: &[u32]) -> usize
     requires { length lengths.now ≤ 32 }
     ensures { (result ≡ sum lengths.now) × (result ≤ most) }
 {
-    let mut all = 0;
-    let mut k = 0;
-    while k < lengths.len() {
-        all += at(lengths, k);
-        k += 1;
+    lengths.iter().map(|length| *length as usize).sum()
+}
+
+impl<'a> Problems<'a> {
+    // Whether the lists agree on the number of problems, and it is not over 32, with so many numbers for the answers.
+    fn agree(&self, answers: usize) -> bool
+        ensures { Says result (ListsAgree (panel_of self.now) answers) }
+    {
+        let problems = self.share.len();
+        problems <= 32
+            && self.pattern_length.len() == problems
+            && self.expression_length.len() == problems
+            && self.constraint_length.len() == problems
+            && self.budget.len() == problems
+            && answers == problems * 4
     }
-    all
-}
 
-// Whether lists of these lengths agree on the number of problems, and it is not over 32.
-fn agree(
-    problems: usize,
-    patterns: usize,
-    expressions: usize,
-    constraints: usize,
-    budgets: usize,
-    answers: usize,
-) -> bool
-    ensures { Says result (Agreeing problems patterns expressions constraints budgets answers) }
-{
-    if 32 < problems {
-        return false;
+    // How far all problems reach.
+    fn whole(&self) -> Reach
+        requires { (answers : ℕ) × ListsAgree (panel_of self.now) answers }
+        ensures { AllReach (panel_of self.now) result }
+    {
+        Reach {
+            rows: total(self.pattern_length),
+            expressions: total(self.expression_length),
+            numbers: total(self.constraint_length),
+            entries: total(self.share),
+        }
     }
-    (patterns == problems)
-        & (expressions == problems)
-        & (constraints == problems)
-        & (budgets == problems)
-        & (answers == problems * 4)
-}
 
-// How far all problems reach.
-fn whole(patterns: &[u32], expressions: &[u32], constraints: &[u32], shares: &[u32]) -> Reach
-    requires { (length patterns.now ≤ 32) × (length expressions.now ≤ 32) × (length constraints.now ≤ 32) × (length shares.now ≤ 32) }
-    ensures { AllReach patterns.now expressions.now constraints.now shares.now result }
-{
-    Reach {
-        rows: total(patterns),
-        expressions: total(expressions),
-        numbers: total(constraints),
-        entries: total(shares),
+    // Whether they reach exactly to the ends of the tables, and of so many entries.
+    fn fill(&self, all: Reach, entries: usize) -> bool
+        requires { AllReach (panel_of self.now) all }
+        ensures { Says result (LengthsAddUp (panel_of self.now) entries) }
+    {
+        let pattern = self.tables.pattern;
+        let table = self.tables.table;
+        all.rows == pattern.kind.len()
+            && all.rows == pattern.name.len()
+            && all.rows == pattern.size.len()
+            && all.expressions == table.kind.len()
+            && all.expressions == table.name.len()
+            && all.expressions == table.size.len()
+            && all.numbers == self.tables.constraint.len()
+            && all.entries == entries
     }
-}
 
-// Whether they reach exactly to the ends of lists of these lengths.
-fn fill(
-    all: Reach,
-    kind: usize,
-    name: usize,
-    pattern_size: usize,
-    expression_kind: usize,
-    expression_name: usize,
-    expression_size: usize,
-    constraint: usize,
-    out: usize,
-) -> bool
-    ensures { Says result (Filling all kind name pattern_size expression_kind expression_name expression_size constraint out) }
-{
-    let rows = all.rows;
-    let expressions = all.expressions;
-    (rows == kind)
-        & (rows == name)
-        & (rows == pattern_size)
-        & (expressions == expression_kind)
-        & (expressions == expression_name)
-        & (expressions == expression_size)
-        & (all.numbers == constraint)
-        & (all.entries == out)
-}
-
-// How far they reach with the i-th one, by how far those before it do.
-fn with_next(
-    patterns: &[u32],
-    expressions: &[u32],
-    constraints: &[u32],
-    shares: &[u32],
-    i: usize,
-    before: Reach,
-) -> Reach
-    requires { WithNextPre patterns.now expressions.now constraints.now shares.now i before }
-    ensures { result ≡ reach_of patterns.now expressions.now constraints.now shares.now (i + 1) }
-{
-    let rows = before.rows + at(patterns, i);
-    let expression_rows = before.expressions + at(expressions, i);
-    let numbers = before.numbers + at(constraints, i);
-    let entries = before.entries + at(shares, i);
-    Reach {
-        rows,
-        expressions: expression_rows,
-        numbers,
-        entries,
+    // How far they reach with the i-th one, by how far those before it do.
+    fn with_next(&self, i: usize, before: Reach) -> Reach
+        requires { WithNextPre (panel_of self.now) i before }
+        ensures { result ≡ reach (panel_of self.now) (i + 1) }
+    {
+        let rows = before.rows + self.pattern_length[i] as usize;
+        let expressions = before.expressions + self.expression_length[i] as usize;
+        let numbers = before.numbers + self.constraint_length[i] as usize;
+        let entries = before.entries + self.share[i] as usize;
+        Reach {
+            rows,
+            expressions,
+            numbers,
+            entries,
+        }
     }
 }
 
@@ -122,103 +106,29 @@ fn put(answer: &mut [u32], at: usize, listing: Listing)
     answer[at + 3] = listing.tries;
 }
 
-// Answers every problem, or gives 21 and writes nothing.
-pub fn panel(
-    label: &[u32],
-    size: &[u32],
-    kind: &[u32],
-    name: &[u32],
-    pattern_size: &[u32],
-    expression_kind: &[u32],
-    expression_name: &[u32],
-    expression_size: &[u32],
-    constraint: &[u32],
-    pattern_length: &[u32],
-    expression_length: &[u32],
-    constraint_length: &[u32],
-    budget: &[u32],
-    share: &[u32],
-    out: &mut [u32],
-    answer: &mut [u32],
-) -> u32
-    ensures { PanelSettled (record {
-      label = label.entry.now;
-      size = size.now;
-      kind = kind.now;
-      name = name.now;
-      pattern_size = pattern_size.now;
-      expression_kind = expression_kind.now;
-      expression_name = expression_name.now;
-      expression_size = expression_size.now;
-      constraint = constraint.now;
-      pattern_length = pattern_length.now;
-      expression_length = expression_length.now;
-      constraint_length = constraint_length.now;
-      budget = budget.now;
-      share = share.now;
-    }) out.old answer.old result out.new answer.new }
+// Answers every problem, or refuses all and writes nothing.
+pub fn panel(asked: &Problems, out: &mut [u32], answer: &mut [u32]) -> Result<(), Refusal>
+    ensures { PanelSettled (panel_of asked.now) out.old answer.old (told result) out.new answer.new }
 {
-    let problems = share.len();
-    if !agree(
-        problems,
-        pattern_length.len(),
-        expression_length.len(),
-        constraint_length.len(),
-        budget.len(),
-        answer.len(),
-    ) {
-        return PANEL;
+    if !asked.agree(answer.len()) {
+        return Err(Refusal::Panel);
     }
-    let all = whole(pattern_length, expression_length, constraint_length, share);
-    if !fill(
-        all,
-        kind.len(),
-        name.len(),
-        pattern_size.len(),
-        expression_kind.len(),
-        expression_name.len(),
-        expression_size.len(),
-        constraint.len(),
-        out.len(),
-    ) {
-        return PANEL;
+    let all = asked.whole();
+    if !asked.fill(all, out.len()) {
+        return Err(Refusal::Panel);
     }
-    let tree = tree::good(label, size);
+    let tree = tree::good(&asked.tables.tree);
     let mut from = Reach {
         rows: 0,
         expressions: 0,
         numbers: 0,
         entries: 0,
     };
-    let mut i = 0;
-    while i < problems {
-        let to = with_next(
-            pattern_length,
-            expression_length,
-            constraint_length,
-            share,
-            i,
-            from,
-        );
-        let listing = portion::list(
-            tree,
-            label,
-            size,
-            kind,
-            name,
-            pattern_size,
-            expression_kind,
-            expression_name,
-            expression_size,
-            constraint,
-            from,
-            to,
-            budget[i],
-            out,
-        );
+    for i in 0..asked.share.len() {
+        let to = asked.with_next(i, from);
+        let listing = portion::list(tree, &asked.tables, from, to, asked.budget[i], out);
         put(answer, i * 4, listing);
         from = to;
-        i += 1;
     }
-    0
+    Ok(())
 }

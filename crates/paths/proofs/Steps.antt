@@ -6,15 +6,15 @@ use mathlib.Core.Bool.{Bool}
 use mathlib.Core.List.{List, [], ◌∷◌, ◌++◌, append_assoc, append-nil}
 use lib.ListN.{length, get_or}
 use native.Mathlib.Omega.{arith}
-use native.Mathlib.Decide.{dec_le}
 use Rattle.meaning.specs.Forest.{Forest, Context, node}
 use Rattle.tree.specs.Places.{Next, ContextAt, at_hole, at_node}
-use Rattle.tree.specs.Helpers.{ChildPre}
+use Rattle.tree.specs.Helpers.{ChildPre, HolderPre, HolderPost}
 use Rattle.tree.proofs.Terms.{terms_le}
 use Rattle.tree.proofs.Ways.{context_le, hole_here, a_node, ahead_first, ahead_next, ahead_more, ahead_found}
 use Rattle.constraint.specs.Obeys.{path}
 use Rattle.constraint.specs.Reading.{After}
 use Rattle.paths.specs.Paths.{Through, From, ChildFromPre, ChildFromPost}
+use Rattle.letters.specs.declared.Tables.{Tables}
 
 -- what a context stands at
 pub context_next : {L S : List ℕ} {a b : ℕ} {c : Context} → ContextAt L S a b c → Next L S a
@@ -37,36 +37,33 @@ from_first S r = record { is = λ b h. ahead_first S r b }
 pub from_next : {S : List ℕ} {r u : ℕ} → From S r u → {e : ℕ} → e ≡ u + get_or S u 0 → From S r e
 from_next {u = u} f is = record { is = λ b h. ahead_more (f.is b (omega arith)) is h }
 
--- the child that holds b is u
-pub child_found : {S : List ℕ} {r u b e : ℕ} → ChildPre S r b → From S r u → u ≤ b → e ≡ u + get_or S u 0 → b < e → ChildFromPost S r b u
-child_found {S} {r} {u} p f low is high =
-    let n = a_node p.some.2 p.below in
-    let y = (ahead_found (f.is _ low) is high).is _ _ _ _ _ n.4 in
-    record {
-      ahead = f;
-      low = low;
-      high = omega arith;
-      later = omega (arith, terms_le y.0.before);
-      ends = y.0.ends;
-    }
-
 -- where it is looked for from
 pub record Looking (S : List ℕ) (row b u : ℕ) : Type 0 where
   pub from : From S row u
   pub low : u ≤ b
 
-pub child_below : {S : List ℕ} {row from b : ℕ} → ChildFromPre S row from b → row < b
-child_below {S} {row} {b = b} pre = go pre.below.some.2 pre.below.below
-  where
-    go : {L : List ℕ} {c : Context} → ContextAt L S row b c → row ≢ b → row < b
-    go x n = omega (arith, context_le x)
+pub looks_on : {S : List ℕ} {row from b u : ℕ} → ChildFromPre S row from b → u ≡ from → from ≤ b → Looking S row b u
+looks_on pre e h = rw e (record { from = pre.ahead; low = h })
 
-pub child_looks : {S : List ℕ} {row from b u : ℕ} → ChildFromPre S row from b → (from ≤ b → u ≡ from) × (b < from → u ≡ row + 1) → Looking S row b u
-child_looks {S} {row} {from} {b} {u} pre h = go (dec_le from b)
-  where
-    go : Dec (from ≤ b) → Looking S row b u
-    go (yes y) = rw (h.0 y) (record { from = pre.ahead; low = y })
-    go (no n) = let l = child_below pre in rw (h.1 (omega arith)) (record { from = from_first S row; low = omega arith })
+pub looks_first : {S : List ℕ} {row from b u : ℕ} → ChildFromPre S row from b → u ≡ row + 1 → Looking S row b u
+looks_first {S} {row} {b = b} pre e = rw e (record { from = from_first S row; low = omega (arith, ahead_next (ahead_first S row b) pre.below) })
+
+pub looks_pre : {S : List ℕ} {row from b u : ℕ} → ChildFromPre S row from b → Looking S row b u → HolderPre S u b
+looks_pre {row = row} {b = b} pre l = record { some = (row, pre.below, l.from.is b l.low) }
+
+-- the child that holds b is u
+pub child_found : {S : List ℕ} {row from b first u : ℕ} → ChildFromPre S row from b → Looking S row b first → HolderPost S first b u → ChildFromPost S row b u
+child_found {S} {row} {u = u} pre l h =
+    let f : From S row u = record { is = λ c low. h.passed row c low (l.from.is c (omega (arith, h.later))) } in
+    let n = a_node pre.below.some.2 pre.below.below in
+    let y = (ahead_found (f.is _ h.low) refl h.high).is _ _ _ _ _ n.4 in
+    record {
+      ahead = f;
+      low = h.low;
+      high = h.high;
+      later = omega (arith, terms_le y.0.before);
+      ends = y.0.ends;
+    }
 
 -- the rows that are looked at on the way to it
 pub child_rows : {S : List ℕ} {r u b : ℕ} → ChildPre S r b → From S r u → u ≤ b → (u < length S) × (1 ≤ get_or S u 0) × (r < b) × (b < length S)
@@ -94,7 +91,7 @@ through_child {L} {S} {a} {r} {u} {w = w} t post =
     down d (at_node {l = l} {left = left} {right = right} {c = c} x p q k) f = (l, left, c, right, refl, at_node x p q k)
 
 -- it is read whole where the row is the hole's
-pub through_all : {L S tables : List ℕ} {root a b next : ℕ} {end : Bool} {w : List ℕ}
+pub through_all : {L S : List ℕ} {tables : Tables} {root a b next : ℕ} {end : Bool} {w : List ℕ}
     → Through L S a b w → After tables root w next end → (c : Context) → ContextAt L S a b c → After tables root (path c) next end
 unfolding path
 through_all {b = b} {w = w} t after c x =

@@ -2,30 +2,63 @@
 // What is kept is one path, that of the context that was last judged.
 #![tactic(auto)]
 
-ghost use Rattle.std.specs.Prelude.{◌≡◌, ◌+◌, ◌<◌, ◌≤◌, length};
-ghost use Rattle.paths.specs.Paths.{ChildFromPre, ChildFromPost, HoldingPre, HoldingPost, RecallPre, RecallPost, AcceptedPre, AcceptedPost};
-ghost use Rattle.paths.specs.Paths as kept;
+ghost use Rattle.std.specs.Prelude.{◌≡◌, ◌+◌, ◌<◌, ◌≤◌, length, None};
+ghost use Rattle.paths.specs.Paths.{new_place, ChildFromPre, ChildFromPost, HoldingPre, HoldingPost, RecallPre, RecallPost, AcceptedPre, AcceptedPost};
 
-// The place i of the path: its row, and the state before the row's label is read.
-fn put(path: &mut [usize; 259], i: usize, row: usize, next: u64, end: bool)
-    requires { (i < 64) × (row < 4294967296) × (length path.old ≡ 259) }
-    ensures { path.new ≡ kept.put path.old i row next end }
-{
-    path[4 * i + 3] = row;
-    path[4 * i + 4] = next as usize;
-    path[4 * i + 5] = letters::number(end);
-    path[4 * i + 6] = row + 1;
+use letters::{State, Tables};
+use tree::Tree;
+
+// A place of the path: its row, the state before the row's label is read, and the child from which on the next row is looked for.
+#[derive(Clone, Copy)]
+struct Place {
+    row: usize,
+    state: State,
+    child: usize,
 }
 
-// The child from which on the one that holds the row b is looked for: the first where b is before the one that is kept.
-fn nearer(row: usize, from: usize, b: usize) -> usize
-    requires { row < b }
-    ensures { (from ≤ b → result ≡ from) × (b < from → result ≡ row + 1) }
-{
-    if from <= b {
-        return from;
+impl Place {
+    // The row is reached in a state, and none of its children is looked at yet.
+    fn new(row: usize, state: State) -> Place
+        requires { row < 4294967296 }
+        ensures { result ≡ new_place row state.next state.end }
+    {
+        Place {
+            row,
+            state,
+            child: row + 1,
+        }
     }
-    row + 1
+}
+
+// The path of a choice from the row where it starts on, down to its last place; of no choice where none is remembered.
+#[derive(Drop)]
+pub struct Path {
+    choice: Option<usize>,
+    start: usize,
+    depth: usize,
+    places: [Place; 64],
+}
+
+impl Path {
+    // None is remembered.
+    pub fn new() -> Path
+        ensures { (result.choice ≡ None) × (length result.places ≡ 64) }
+    {
+        let none = Place {
+            row: 0,
+            state: State {
+                next: 0,
+                end: false,
+            },
+            child: 0,
+        };
+        Path {
+            choice: None,
+            start: 0,
+            depth: 0,
+            places: [none; 64],
+        }
+    }
 }
 
 // The child of the term at the row that holds the row b, looked for from a child on, or from the first where b is before that.
@@ -33,29 +66,22 @@ fn child(size: &[u32], row: usize, from: usize, b: usize) -> usize
     requires { ChildFromPre size.now row from b }
     ensures { ChildFromPost size.now row b result }
 {
-    let mut u = nearer(row, from, b);
-    let mut e = tree::next(size, u);
-    while e <= b {
-        u = e;
-        e = tree::next(size, u);
-    }
-    u
+    let first = if b < from { row + 1 } else { from };
+    tree::holder(size, first, b)
 }
 
 // The last place whose row's term has the row b.
-fn holding(size: &[u32], path: &[usize; 259], m: usize, b: usize) -> usize
+fn holding(size: &[u32], path: &Path, m: usize, b: usize) -> usize
     requires { HoldingPre size.now path.now m }
     ensures { HoldingPost size.now path.now m b result }
 {
-    let mut i = m;
-    while 0 < i {
-        let row = path[4 * i + 3];
+    for i in (1..=m).rev() {
+        let row = path.places[i].row;
         if row <= b {
             if b < tree::next(size, row) {
                 return i;
             }
         }
-        i -= 1;
     }
     0
 }
@@ -63,60 +89,57 @@ fn holding(size: &[u32], path: &[usize; 259], m: usize, b: usize) -> usize
 // The place from which on the path to the row b is read: one of the path that is remembered, or the first of a new one.
 fn recall(
     size: &[u32],
-    tables: &[u64; 320],
+    tables: &Tables,
     root: usize,
     choice: usize,
     a: usize,
     b: usize,
-    path: &mut [usize; 259],
+    path: &mut Path,
 ) -> usize
     requires { RecallPre size.now tables.now root choice a b path.old }
     ensures { RecallPost size.now tables.now root choice a b path.old result path.new }
 {
-    if path[0] == choice + 1 {
-        if path[1] == a {
-            let m = path[2];
+    if path.choice == Some(choice) {
+        if path.start == a {
+            let m = path.depth;
             return holding(size, path, m, b);
         }
     }
     let state = letters::begin(tables, root);
-    path[0] = choice + 1;
-    path[1] = a;
-    put(path, 0, a, state.next, state.end);
+    path.choice = Some(choice);
+    path.start = a;
+    path.places[0] = Place::new(a, state);
     0
 }
 
 // Whether the labels on the path from the row a down to the row b, that of b left out, are a word of the expression at the row root,
 // for a choice.
 pub fn accepted(
-    label: &[u32],
-    size: &[u32],
-    tables: &[u64; 320],
+    tree: &Tree,
+    tables: &Tables,
     root: usize,
     choice: usize,
     a: usize,
     b: usize,
-    path: &mut [usize; 259],
+    path: &mut Path,
 ) -> bool
-    requires { AcceptedPre label.now size.now tables.now root choice a b path.old }
-    ensures { AcceptedPost label.now size.now tables.now root choice a b result path.new }
+    requires { AcceptedPre tree.now.label.now tree.now.size.now tables.now root choice a b path.old }
+    ensures { AcceptedPost tree.now.label.now tree.now.size.now tables.now root choice a b result path.new }
 {
-    let mut i = recall(size, tables, root, choice, a, b, path);
+    let mut i = recall(tree.size, tables, root, choice, a, b, path);
     loop {
-        path[2] = i;
-        let row = path[4 * i + 3];
-        if row == b {
-            return path[4 * i + 5] == 1;
+        path.depth = i;
+        let here = path.places[i];
+        if here.row == b {
+            return here.state.end;
         }
         if i == 63 {
-            return constraint::after_path(label, size, tables, root, a, b).end;
+            return constraint::after_path(tree, tables, root, a, b).end;
         }
-        let next = path[4 * i + 4] as u64;
-        let from = path[4 * i + 6];
-        let u = child(size, row, from, b);
-        path[4 * i + 6] = u;
-        let state = letters::step(next, tables, label[row]);
+        let u = child(tree.size, here.row, here.child, b);
+        path.places[i].child = u;
+        let state = letters::step(here.state.next, tables, tree.label[here.row]);
         i += 1;
-        put(path, i, u, state.next, state.end);
+        path.places[i] = Place::new(u, state);
     }
 }

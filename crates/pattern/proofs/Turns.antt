@@ -11,16 +11,9 @@ use Rattle.meaning.specs.Reached.{Begins}
 use Rattle.meaning.proofs.Lists.{pre_less, pre_refl}
 use Rattle.pattern.specs.Answer.{listed}
 use Rattle.pattern.specs.Scan.{Scan, end, of_symbol, of_variable, SizedAt, Named, next}
-use Rattle.pattern.specs.declared.Naming.{Naming}
 use Rattle.pattern.specs.declared.Naming.TheVariants.{Bad, Known, New}
 use Rattle.pattern.proofs.Listed.{listed_length, listed_set}
 use Rattle.pattern.proofs.OneRow.{unsized, misnamed, known_forth, known_back, new_forth, new_back}
-
-pub named_as : {A : List ℕ} {k x n : ℕ} {r o : Naming} → r ≡ o → Named A k x n r → Named A k x n o
-named_as e h = rw e at h
-
-pub new_room : {A : List ℕ} {k x n : ℕ} → Named A k x n New → n < 16
-new_room (next d l f) = f
 
 -- the rows before i are passed and n variables have appeared: the whole keeps the rules if and only if the rest does
 pub record Seen (K N S : List ℕ) (i n : ℕ) (kinds : List ℕ) : Type 0 where

@@ -4,8 +4,14 @@ use Rattle.meaning.specs.Pattern.{Kind, an_individual, a_sequence, a_function, a
 use Rattle.pattern.specs.Rows.{code}
 use Rattle.pattern.specs.Answer.{listed}
 use Rattle.pattern.specs.declared.Checked.{Checked}
+use Rattle.pattern.specs.declared.Pattern.{Pattern}
 use Rattle.pattern.specs.declared.Naming.{Naming}
 use Rattle.pattern.specs.declared.Naming.TheVariants.{Bad, Known, New}
+
+-- a pattern's three lists are of one length
+pub record SameLengths (p : Pattern) : Type 0 where
+  pub named : length p.name.now ≡ length p.kind.now
+  pub sized : length p.size.now ≡ length p.kind.now
 
 -- a row of the size s has one argument, not a sequence variable; K and S are the kinds and sizes of the rows behind it
 pub record OneArgument (s : ℕ) (K S : List ℕ) : Type 0 where

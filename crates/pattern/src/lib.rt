@@ -4,11 +4,27 @@
 ghost use Rattle.std.specs.Prelude.{◌≡◌, ◌<◌, ◌≤◌, length};
 ghost use Rattle.meaning.specs.Calls.{Says};
 ghost use Rattle.pattern.specs.Answer.{PatternSettled};
-ghost use Rattle.pattern.specs.Scan.{Refused, OneArgumentAt, SizedAt, Named, Scanned};
+ghost use Rattle.pattern.specs.Scan.{Refused, SameLengths, OneArgumentAt, SizedAt, Named, Scanned};
 
 use meaning::kinds::{CONTEXT, FUNCTION, INDIVIDUAL, SEQUENCE, SYMBOL};
 
-// The kinds are by the variables' numbers, 0 for numbers that are not used.
+// A pattern as it is lent: the kind, the name and the size of each row, in preorder.
+#[derive(Clone, Copy)]
+pub struct Pattern<'a> {
+    pub kind: &'a [u32],
+    pub name: &'a [u32],
+    pub size: &'a [u32],
+}
+
+// How many variables a good pattern has, and their kinds by their numbers, 0 for numbers that are not used.
+#[derive(Drop)]
+pub struct Variables {
+    pub count: usize,
+    pub kinds: [u32; 16],
+}
+
+// A flag with a value beside it, and no Result: that a refusal counts no variables is promised (PatternSettled, refused), and the edit
+// refusal_counts breaks just that.
 #[derive(Drop)]
 pub struct Checked {
     pub good: bool,
@@ -35,32 +51,34 @@ fn refused() -> Checked
 }
 
 // Whether the row has one argument, not a sequence variable.
-fn one_argument(kind: &[u32], size: &[u32], row: usize) -> bool
-    requires { (row < length kind.now) × (length size.now ≡ length kind.now) }
-    ensures { Says result (OneArgumentAt kind.now size.now row) }
+fn one_argument(pattern: &Pattern, row: usize) -> bool
+    requires row_in { row < length pattern.now.kind.now }
+    requires lengths { length pattern.now.size.now ≡ length pattern.now.kind.now }
+    ensures { Says result (OneArgumentAt pattern.now.kind.now pattern.now.size.now row) }
 {
     let first = row + 1;
-    if first == kind.len() {
+    if first == pattern.kind.len() {
         return false;
     }
-    if kind[first] == SEQUENCE {
+    if pattern.kind[first] == SEQUENCE {
         return false;
     }
-    if size[row] < 2 {
+    if pattern.size[row] < 2 {
         return false;
     }
-    size[row] - 1 == size[first]
+    pattern.size[row] - 1 == pattern.size[first]
 }
 
 // Whether the row's kind is one, and allows its size.
-fn sized(kind: &[u32], size: &[u32], row: usize) -> bool
-    requires { (row < length kind.now) × (length size.now ≡ length kind.now) }
-    ensures { Says result (SizedAt kind.now size.now row) }
+fn sized(pattern: &Pattern, row: usize) -> bool
+    requires row_in { row < length pattern.now.kind.now }
+    requires lengths { length pattern.now.size.now ≡ length pattern.now.kind.now }
+    ensures { Says result (SizedAt pattern.now.kind.now pattern.now.size.now row) }
 {
-    match kind[row] {
+    match pattern.kind[row] {
         SYMBOL | FUNCTION => true,
-        INDIVIDUAL | SEQUENCE => size[row] == 1,
-        CONTEXT => one_argument(kind, size, row),
+        INDIVIDUAL | SEQUENCE => pattern.size[row] == 1,
+        CONTEXT => one_argument(pattern, row),
         _ => false,
     }
 }
@@ -91,28 +109,22 @@ fn named(kinds: &[u32; 16], kind: u32, name: usize, variables: usize) -> Naming
 }
 
 // The rows one by one: preorder is the order of first appearance.
-fn scan(kind: &[u32], name: &[u32], size: &[u32]) -> Checked
-    requires { (length name.now ≡ length kind.now) × (length size.now ≡ length kind.now) }
-    ensures { Scanned kind.now name.now size.now result }
+fn scan(pattern: &Pattern) -> Checked
+    requires { SameLengths pattern.now }
+    ensures { Scanned pattern.now.kind.now pattern.now.name.now pattern.now.size.now result }
 {
     let mut kinds = [0u32; 16];
     let mut variables = 0;
-    let mut row = 0;
-    while row < kind.len() {
-        if !sized(kind, size, row) {
+    for row in 0..pattern.kind.len() {
+        if !sized(pattern, row) {
             return refused();
         }
-        let k = kind[row];
-        let x = tree::at(name, row);
-        let naming = named(&kinds, k, x, variables);
-        row += 1;
-        match naming {
-            Naming::Bad => {
-                return refused();
-            }
+        let kind = pattern.kind[row];
+        match named(&kinds, kind, pattern.name[row] as usize, variables) {
+            Naming::Bad => return refused(),
             Naming::Known => {}
             Naming::New => {
-                kinds[variables] = k;
+                kinds[variables] = kind;
                 variables += 1;
             }
         }
@@ -125,24 +137,24 @@ fn scan(kind: &[u32], name: &[u32], size: &[u32]) -> Checked
 }
 
 // Whether the lists are a good pattern; how many variables it has, and their kinds.
-pub fn check(kind: &[u32], name: &[u32], size: &[u32]) -> Checked
-    ensures { PatternSettled kind.now name.now size.now result }
+pub fn check(pattern: &Pattern) -> Checked
+    ensures { PatternSettled pattern.now.kind.now pattern.now.name.now pattern.now.size.now result }
 {
-    let rows = kind.len();
-    if name.len() != rows {
+    let rows = pattern.kind.len();
+    if pattern.name.len() != rows {
         return refused();
     }
-    if size.len() != rows {
+    if pattern.size.len() != rows {
         return refused();
     }
     if 256 < rows {
         return refused();
     }
-    if !tree::shape(size) {
+    if !tree::shape(pattern.size) {
         return refused();
     }
-    if kind[0] == SEQUENCE {
+    if pattern.kind[0] == SEQUENCE {
         return refused();
     }
-    scan(kind, name, size)
+    scan(pattern)
 }

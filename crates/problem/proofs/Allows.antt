@@ -18,8 +18,9 @@ use Rattle.constraint.specs.Reading.{ValueAt, ObeysPre, ObeysPost}
 use Rattle.constraint.proofs.Constraints.{numbers_many}
 use Rattle.constraint.proofs.Values.{value_at_lem, obeys_asked, obeys_allowed}
 use Rattle.problem.specs.Allowing.{Allowing, AllowedPre, AllowedPost}
+use Rattle.letters.specs.declared.Tables.{Tables}
 
-module _ {L S tables : List ℕ} {list kinds : List ℕ} where
+module _ {L S : List ℕ} {tables : Tables} {list kinds : List ℕ} where
   -- the variable's two numbers are in the list
   pub asked_within : {x a b : ℕ} → AllowedPre L S tables list kinds x a b → (x < 16) × (x + x + 1 < length list)
   asked_within {x} p =

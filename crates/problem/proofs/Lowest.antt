@@ -3,13 +3,17 @@ use Prim.Native.Nat.{ℕ}
 use mathlib.Core.Path.{◌≡◌, refl}
 use mathlib.Core.Logic.{inl, inr}
 use mathlib.Core.Bool.{Bool, true, false}
-use mathlib.Core.List.{List, []}
-use native.Mathlib.Omega.{arith}
+use mathlib.Core.List.{List}
+use Rattle.std.specs.Prelude.{Ok, Err}
+use Rattle.meaning.specs.Refusal.{code}
+use Rattle.meaning.specs.declared.refusal.Refusal.{Refusal}
+use Rattle.meaning.specs.declared.refusal.Refusal.TheVariants as refusal
+use Rattle.meaning.proofs.Refusals.{code_some}
 use Rattle.meaning.specs.Calls.{Says, accept}
 use Rattle.meaning.specs.Pattern.{Kind}
 use Rattle.meaning.proofs.Answers.{said_no}
 use Rattle.tree.specs.Rows.{GoodRows}
-use Rattle.pattern.specs.Answer.{listed, PatternSettled}
+use Rattle.pattern.specs.Answer.{PatternSettled}
 use Rattle.pattern.specs.declared.Checked.{Checked}
 use Rattle.expression.specs.Expression.{Expression}
 use Rattle.expression.specs.Rows.{GoodTable}
@@ -22,16 +26,10 @@ use Rattle.constraint.specs.Pair.{NamedPre}
 use Rattle.constraint.specs.Named.{AllNamed}
 use Rattle.constraint.proofs.Meant.{list_judged}
 use Rattle.problem.specs.Problem.{Lists, Codes}
-use Rattle.problem.specs.Answer.{Answered}
-use Rattle.problem.specs.declared.Problem.{Problem}
+use Rattle.problem.specs.Answer.{told, Answered}
 
--- a refusal has nothing else
-abbrev Empty : Problem → ℕ → Type 0
-Empty r code = (r.code ≡ code) × (r.variables ≡ 0) × (r.kinds ≡ listed [])
-
-answered_no : {l : Lists} {r : Problem} (code : ℕ) → (code ≡ 0 → ⊥) → Empty r code → Codes l accept r.code → Answered l r
-answered_no code n e c =
-    record { code = c; found = λ z. absurd (n (omega (arith, e.0))); refused = λ z. (e.1, e.2) }
+answered_no : {l : Lists} (e : Refusal) → Codes l accept (code e) → Answered l (told (Err e))
+answered_no e c = record { code = c; found = λ z. absurd (code_some e z); refused = λ z. (refl, refl) }
 
 -- what the checks below answer
 abbrev Tree : Lists → Bool → Type 0
@@ -61,26 +59,25 @@ names_asked {kind} {name} {size} {kinds} {names} {sizes} {list} checks has_patte
     record { some = (kinds, names, es, Q, cs, m.table, m.constraints, (checks.found P Q m.pattern).0) }
 
 module _ (l : Lists) where
-  pub no_tree : {r : Problem} {t : Bool} → Tree l t → t ≡ false → Empty r 11 → Answered l r
-  no_tree s e o = answered_no {l = l} 11 (λ z. omega arith) o (inl (said_no s e, o.0))
+  pub no_tree : {t : Bool} → Tree l t → t ≡ false → Answered l (told (Err refusal.Tree))
+  no_tree s e = answered_no refusal.Tree (inl (said_no s e, refl))
 
   module _ {t : Bool} (tree : Tree l t) (has_tree : t ≡ true) {checked : Checked} (checks : Checks l checked) where
-    pub no_pattern : {r : Problem} → checked.good ≡ false → Empty r 12 → Answered l r
-    no_pattern e o = answered_no {l = l} 12 (λ z. omega arith) o (inr (tree.0 has_tree, inl (said_no checks.judged e, o.0)))
+    pub no_pattern : checked.good ≡ false → Answered l (told (Err refusal.Pattern))
+    no_pattern e = answered_no refusal.Pattern (inr (tree.0 has_tree, inl (said_no checks.judged e, refl)))
 
     module _ (has_pattern : checked.good ≡ true) {b : Bool} (table : Table l b) where
-      pub no_table : {r : Problem} → b ≡ false → Empty r 13 → Answered l r
-      no_table e o =
-          answered_no {l = l} 13 (λ z. omega arith) o (inr (tree.0 has_tree, inr (checks.judged.0 has_pattern, inl (said_no table e, o.0))))
+      pub no_table : b ≡ false → Answered l (told (Err refusal.Expressions))
+      no_table e = answered_no refusal.Expressions (inr (tree.0 has_tree, inr (checks.judged.0 has_pattern, inl (said_no table e, refl))))
 
       module _ (has_table : b ≡ true) {c : Bool} (given : Given l checked c) where
         judged : Says c (GoodConstraintList l.kind l.name l.pattern_size l.expression_kind l.expression_name l.expression_size l.constraint)
         judged = list_judged l.kind l.name l.pattern_size l.expression_kind l.expression_name l.expression_size l.constraint checks table has_pattern has_table given
 
-        pub no_constraints : {r : Problem} → c ≡ false → Empty r 14 → Answered l r
-        no_constraints e o =
-            answered_no {l = l} 14 (λ z. omega arith) o
-            (inr (tree.0 has_tree, inr (checks.judged.0 has_pattern, inr (table.0 has_table, inl (said_no judged e, o.0)))))
+        pub no_constraints : c ≡ false → Answered l (told (Err refusal.Constraints))
+        no_constraints e =
+            answered_no refusal.Constraints
+            (inr (tree.0 has_tree, inr (checks.judged.0 has_pattern, inr (table.0 has_table, inl (said_no judged e, refl)))))
 
         module _ (has_constraints : c ≡ true) {n : Bool} (names : Names l n) where
           named : Says n ((es : List Expression) × GoodTable l.expression_kind l.expression_name l.expression_size es × AllNamed es l.constraint)
@@ -88,16 +85,15 @@ module _ (l : Lists) where
               let t = table.0 has_table in
               (λ e. (t.0, t.1, (names t.0 (sizes_are t.0 t.1)).0 e), λ a. (names a.0 (sizes_are a.0 a.1)).1 a.2)
 
-          pub forgotten : {r : Problem} → n ≡ false → Empty r 19 → Answered l r
-          forgotten e o =
-              answered_no {l = l} 19 (λ z. omega arith) o
-              (inr (tree.0 has_tree, inr (checks.judged.0 has_pattern, inr (table.0 has_table, inr (judged.0 has_constraints, inl (said_no named e, o.0))))))
+          pub forgotten : n ≡ false → Answered l (told (Err refusal.Forgotten))
+          forgotten e =
+              answered_no refusal.Forgotten
+              (inr (tree.0 has_tree, inr (checks.judged.0 has_pattern, inr (table.0 has_table, inr (judged.0 has_constraints, inl (said_no named e, refl))))))
 
-          pub all_good : {r : Problem} → n ≡ true → r ≡ record { code = 0; variables = checked.variables; kinds = checked.kinds } → Answered l r
-          all_good e o =
-              rw o
-              (record {
+          pub all_good : n ≡ true → Answered l (told (Ok (record { count = checked.variables; kinds = checked.kinds })))
+          all_good e =
+              record {
                 code = inr (tree.0 has_tree, inr (checks.judged.0 has_pattern, inr (table.0 has_table, inr (judged.0 has_constraints, inr (named.0 e, refl)))));
                 found = λ z P Q g. checks.found P Q g;
                 refused = λ z. absurd (z refl);
-              })
+              }

@@ -16,8 +16,7 @@ use Rattle.expression.proofs.Unique as Table
 use Rattle.constraint.specs.Obeys.{Constraint}
 use Rattle.constraint.proofs.Meant.{one_meaning}
 use Rattle.problem.specs.Problem.{Lists, Poses, Codes}
-use Rattle.problem.specs.Answer.{Answered}
-use Rattle.problem.specs.declared.Problem.{Problem}
+use Rattle.problem.specs.Answer.{Told, Answered}
 
 -- a problem that the lists mean
 pub record Posed (l : Lists) : Type 0 where
@@ -55,7 +54,7 @@ codes_high l others c w o =
     inr ((w.T, w.poses.tree), inr ((w.P, w.Q, m.pattern), inr ((w.es, m.table), inr ((w.P, w.Q, w.es, w.cs, m), inr ((w.es, m.table, w.poses.named), o)))))
 
 -- what is known where the answer is no refusal: a problem, and the kinds of its variables
-module _ {l : Lists} {r : Problem} (a : Answered l r) (z : r.code ≡ 0) where
+module _ {l : Lists} {r : Told} (a : Answered l r) (z : r.code ≡ 0) where
   pub the : Posed l
   the = posed l accept r.code z a.code
 

@@ -11,6 +11,7 @@ use Rattle.expression.specs.Rows.{GoodTable}
 use Rattle.constraint.specs.Obeys.{Constraint}
 use Rattle.constraint.specs.Good.{ListsMean, GoodConstraintList}
 use Rattle.constraint.specs.Named.{AllNamed}
+use Rattle.problem.specs.declared.Problem.{Problem}
 
 -- the nine lists of a problem
 pub record Lists : Type 0 where
@@ -23,6 +24,20 @@ pub record Lists : Type 0 where
   pub expression_name : List ℕ
   pub expression_size : List ℕ
   pub constraint : List ℕ
+
+abbrev pub lists : Problem → Lists
+lists p =
+    record {
+      label = p.tree.label.now;
+      size = p.tree.size.now;
+      kind = p.pattern.kind.now;
+      name = p.pattern.name.now;
+      pattern_size = p.pattern.size.now;
+      expression_kind = p.table.kind.now;
+      expression_name = p.table.name.now;
+      expression_size = p.table.size.now;
+      constraint = p.constraint.now;
+    }
 
 -- the lists mean this tree, this pattern with variables of these kinds, these expressions and these constraints; and no expression is
 -- forgotten

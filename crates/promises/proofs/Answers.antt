@@ -4,6 +4,8 @@ use mathlib.Core.Path.{◌≡◌, refl, sym, ap, subst, ◌∙◌}
 use mathlib.Core.Bool.{true, true≢false}
 use mathlib.Core.Logic.{inr}
 use mathlib.Core.List.{List}
+use Rattle.std.specs.Prelude.{Bool, Result, Ok, Err}
+use Rattle.meaning.specs.declared.refusal.Refusal.{Refusal}
 use Rattle.meaning.specs.Forest.{Term}
 use Rattle.meaning.specs.Pattern.{Pattern, Kind}
 use Rattle.meaning.specs.Record.{IsRecord}
@@ -22,8 +24,6 @@ use Rattle.constraint.proofs.Allowed.{allowed?}
 use Rattle.problem.specs.Problem.{Lists, Poses}
 use Rattle.problem.proofs.Posed.{codes_high, one_codes}
 use Rattle.test.specs.Tested.{code_of, yes_of, Fifteen, TestSettled}
-use Rattle.test.specs.declared.Tested.{Tested}
-use Rattle.test.specs.declared.Tested.TheVariants.{Refused, Yes, No}
 use Rattle.instance.proofs.Promises.{instance_made, matcher_made}
 use Rattle.promises.specs.Answers.{LooksUp, Answers}
 
@@ -36,12 +36,11 @@ looks_up = record {
 }
 
 -- a yes is no refusal
-accepted : (r : Tested) → yes_of r ≡ true → code_of r ≡ 0
-accepted (Refused c) h = absurd (true≢false (sym h))
-accepted Yes h = refl
-accepted No h = refl
+accepted : (r : Result Bool Refusal) → yes_of r ≡ true → code_of r ≡ 0
+accepted (Ok b) h = refl
+accepted (Err e) h = absurd (true≢false (sym h))
 
-module _ {l : Lists} {list : List ℕ} {r : Tested} {T : Term} {P : Pattern} {Q : List Kind} {es : List Expression} {cs : List Constraint} (s : TestSettled l list r) (p : Poses l T P Q es cs) where
+module _ {l : Lists} {list : List ℕ} {r : Result Bool Refusal} {T : Term} {P : Pattern} {Q : List Kind} {es : List Expression} {cs : List Constraint} (s : TestSettled l list r) (p : Poses l T P Q es cs) where
   -- the record of a matcher is not refused
   of_matcher : IsRecord (Allowed cs) Q P T list → code_of r ≡ 0
   of_matcher m =

@@ -6,7 +6,9 @@ use mathlib.Core.Logic.{inl, inr}
 use mathlib.Core.List.{List, [], ◌∷◌}
 use lib.ListN.{length, get_or}
 use native.Mathlib.Omega.{arith}
+use Rattle.std.specs.Prelude.{Bool, Result}
 use Rattle.meaning.specs.Calls.{accept}
+use Rattle.meaning.specs.declared.refusal.Refusal.{Refusal}
 use Rattle.meaning.specs.Pattern.{Kind}
 use Rattle.meaning.proofs.Lists.{each_at}
 use Rattle.expression.specs.Expression.{Expression, symbol}
@@ -18,9 +20,8 @@ use Rattle.constraint.specs.Named.{AllNamed}
 use Rattle.problem.specs.Problem.{Lists, Codes}
 use Rattle.lister.specs.Listed.{Settled}
 use Rattle.lister.specs.Page.{RecordCodes, PageSettled}
-use Rattle.lister.specs.declared.Listed.{Listed}
+use Rattle.lister.specs.Listed.{Listed}
 use Rattle.test.specs.Tested.{code_of, Fifteen, TestSettled}
-use Rattle.test.specs.declared.Tested.{Tested}
 use Rattle.promises.specs.Demands.{Demands}
 use Rattle.promises.specs.Table.{lists}
 use Rattle.promises.proofs.Examples.{two_leaves_lem, once, good_once, two_leaves}
@@ -71,7 +72,7 @@ module _ (D : Demands) where
   pub page_forgotten : {list : List ℕ} {budget : ℕ} {before after : List ℕ} {r : Listed} → PageSettled (tied_by (0 ∷ 0 ∷ [])) list budget before r after → r.code ≡ 19
   page_forgotten {list} {r = r} s = nineteen (RecordCodes (tied_by (0 ∷ 0 ∷ [])) list) r.code (D.refusals.matcher.list_after s)
 
-  pub test_forgotten : {list : List ℕ} {r : Tested} → TestSettled (tied_by (0 ∷ 0 ∷ [])) list r → code_of r ≡ 19
+  pub test_forgotten : {list : List ℕ} {r : Result Bool Refusal} → TestSettled (tied_by (0 ∷ 0 ∷ [])) list r → code_of r ≡ 19
   test_forgotten {list} {r} s = nineteen (Fifteen (tied_by (0 ∷ 0 ∷ [])) list) (code_of r) (D.refusals.matcher.test s)
 
   pub list_flagged : {budget : ℕ} {before after : List ℕ} {r : Listed} → Settled (tied_by (0 ∷ 1 ∷ [])) budget before r after → r.code ≡ 14

@@ -24,7 +24,7 @@ use Rattle.catalogue.proofs.Facts.{one_solutions, one_tries, whole}
 use Rattle.catalogue.proofs.Beyond.{beyond_cut, place_beyond}
 use Rattle.catalogue.proofs.Pages.{page_leading, page_whole, page_lengthens, page_tries_bound, solutions_follow, tries_follow, no_tries}
 use Rattle.lister.specs.Page.{RecordCodes, PageCodes}
-use Rattle.lister.specs.declared.Listed.{Listed}
+use Rattle.lister.specs.Listed.{Listed}
 use Rattle.lister.proofs.Pages.{record_accepted}
 use Rattle.lister.proofs.Unique.{one_page_code}
 use Rattle.promises.specs.Pages.{PageIs, LastIs, TurnedFrom, last_page, next_page, Turned, only_page, first_page, Pages}

@@ -10,8 +10,7 @@ use Rattle.dictionary.proofs.Names.{checked_unique}
 use Rattle.dictionary.proofs.Parts.{part_unique, spelling_unique}
 use Rattle.document.proofs.Promises.{one_answer, one_check, check_is_read}
 use Rattle.problem.specs.Problem.{Lists}
-use Rattle.problem.specs.Answer.{Answered}
-use Rattle.problem.specs.declared.Problem.{Problem}
+use Rattle.problem.specs.Answer.{Told, Answered}
 use Rattle.problem.proofs.Posed.{the, one_codes}
 use Rattle.test.proofs.Unique.{one_tested}
 use Rattle.lister.proofs.Unique.{one_listed, one_paged, are_one}
@@ -19,7 +18,7 @@ use Rattle.panel.proofs.Unique.{one_panel}
 use Rattle.instance.proofs.Promises.{one_making}
 use Rattle.promises.specs.Refusals.{Refusals}
 
-one_problem : {l : Lists} {r r' : Problem} → Answered l r → Answered l r' → r ≡ r'
+one_problem : {l : Lists} {r r' : Told} → Answered l r → Answered l r' → r ≡ r'
 one_problem {l} {r} {r'} a b = go (ℕ_discrete r.code 0)
   where
     code : r.code ≡ r'.code

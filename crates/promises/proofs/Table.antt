@@ -27,8 +27,7 @@ use Rattle.catalogue.proofs.Back.{fitting}
 use Rattle.catalogue.proofs.Events.{events}
 use Rattle.catalogue.proofs.Whole.{walked}
 use Rattle.catalogue.proofs.Stays.{run_stays, fitting_more}
-use Rattle.lister.specs.Listed.{Settled}
-use Rattle.lister.specs.declared.Listed.{Listed}
+use Rattle.lister.specs.Listed.{Listed, Settled}
 use Rattle.lister.proofs.Unique.{one_listed, are_one}
 use Rattle.promises.specs.Table.{Row, Serves, RowHolds, table, TableHolds}
 use Rattle.promises.proofs.Lists.{ran, ran_meant}

@@ -10,6 +10,8 @@ use native.Mathlib.Omega.{arith}
 use native.Mathlib.Decide.{ℕ_discrete, dec_le, dec_lt}
 use lib.ListN.{length, drop, get_or}
 use Rattle.meaning.specs.Calls.{Filled}
+use Rattle.std.specs.Prelude.{Bool, Result as Answer, Ok, Err}
+use Rattle.meaning.specs.declared.refusal.Refusal.{Refusal}
 use Rattle.meaning.specs.Forest.{Term, rows, terms, hole_row}
 use Rattle.meaning.specs.Pattern.{Pattern, symbol, nil, Kind, a_sequence, a_context}
 use Rattle.meaning.specs.Matcher.{apply}
@@ -36,10 +38,8 @@ use Rattle.catalogue.proofs.Ascent.{⊏-irrefl}
 use Rattle.catalogue.proofs.Cut.{answer_full}
 use Rattle.catalogue.proofs.Facts.{one_solutions, one_tries, whole}
 use Rattle.lister.specs.Page.{PageSettled}
-use Rattle.lister.specs.declared.Listed.{Listed}
+use Rattle.lister.specs.Listed.{Listed}
 use Rattle.test.specs.Tested.{yes_of, TestSettled}
-use Rattle.test.specs.declared.Tested.{Tested}
-use Rattle.test.specs.declared.Tested.TheVariants.{Refused, Yes, No}
 use Rattle.promises.specs.Demands.{Demands}
 use Rattle.promises.specs.Lists.{ListIs}
 use Rattle.promises.specs.Pages.{PageIs}
@@ -127,17 +127,16 @@ module _ (D : Demands) where
   read_two x e = (D.answers.reader.tree x e no_bytes is_two).label_is
 
   -- and the test says yes to a on a
-  pub yes_to_ground : (r : Tested) → TestSettled ground [] r → r ≡ Yes
+  pub yes_to_ground : (r : Answer Bool Refusal) → TestSettled ground [] r → r ≡ Ok true
   unfolding apply firsts_t
   yes_to_ground r s = go r ((D.answers.test ground [] r letter_a (symbol 7 nil) [] [] [] s is_ground).1 is_record)
     where
       is_record : IsRecord (Allowed []) [] (symbol 7 nil) letter_a []
       is_record = record { matcher = []; solves = record { right = refl; equal = refl; allowed = λ x v e. absurd (omega (arith, look_old [] x v e)) }; its = refl }
 
-      go : (r : Tested) → yes_of r ≡ true → r ≡ Yes
-      go (Refused c) e = absurd (true≢false (sym e))
-      go Yes e = refl
-      go No e = absurd (true≢false (sym e))
+      go : (r : Answer Bool Refusal) → yes_of r ≡ true → r ≡ Ok true
+      go (Ok b) e = ap Ok e
+      go (Err c) e = absurd (true≢false (sym e))
 
   -- a page does not give its own record
   pub not_its_own : {l : Lists} {s : List ℕ} {budget : ℕ} {before after : List ℕ} {r : Listed} {T : Term} {P : Pattern} {Q : List Kind} {es : List Expression} {cs : List Constraint}

@@ -1,9 +1,10 @@
 -- Demand 2: "A tree read from a document is the one that XML 1.0 gives within our subset. A record is called a matcher exactly when its
 -- substitution turns the pattern into the tree, obeys every constraint, and is recorded at the places that the rules name."
-use Rattle.std.specs.Prelude.{ℕ, ◌%◌, ◌≤◌, ◌<◌, ◌≡◌, ◌↔◌, true, List, [], ◌++◌, length, get_or, take, drop}
+use Rattle.std.specs.Prelude.{ℕ, ◌%◌, ◌≤◌, ◌<◌, ◌≡◌, ◌↔◌, true, List, [], ◌++◌, length, get_or, take, drop, Bool, Result, Ok}
 use Rattle.meaning.specs.Forest.{none, Term, ◌◂◌, size}
 use Rattle.meaning.specs.Pattern.{Pattern, Kind}
 use Rattle.meaning.specs.Record.{IsRecord}
+use Rattle.meaning.specs.declared.refusal.Refusal.{Refusal}
 use Rattle.tree.specs.Rows.{labels, sizes, GoodTree, GoodRows}
 use Rattle.pattern.specs.Rows.{GoodPattern}
 use Rattle.grammar.specs.Grammar.{Bytes, Content, Document}
@@ -15,10 +16,7 @@ use Rattle.expression.specs.Expression.{Expression}
 use Rattle.constraint.specs.Obeys.{Constraint, Allowed}
 use Rattle.problem.specs.Problem.{Lists, Poses}
 use Rattle.test.specs.Tested.{yes_of, TestSettled}
-use Rattle.test.specs.declared.Tested.{Tested}
 use Rattle.instance.specs.Instance.{InstanceLists, Instance, InstanceSettled}
-use Rattle.instance.specs.declared.Made.{Made}
-use Rattle.instance.specs.declared.Made.TheVariants.{Rows}
 
 -- what is read: there is one content of which the grammar prints the document, and the four lists begin with the labels and sizes of
 -- its tree and with the starts and lengths of its rows' spellings
@@ -59,13 +57,13 @@ pub record Answers : Type 0 where
   pub element_or_text : ElementOrText
   pub lookup : LooksUp
   -- the test says yes exactly to the records of matchers
-  pub test : (l : Lists) (list : List ℕ) (r : Tested) (T : Term) (P : Pattern) (Q : List Kind) (es : List Expression) (cs : List Constraint) → TestSettled l list r → Poses l T P Q es cs
+  pub test : (l : Lists) (list : List ℕ) (r : Result Bool Refusal) (T : Term) (P : Pattern) (Q : List Kind) (es : List Expression) (cs : List Constraint) → TestSettled l list r → Poses l T P Q es cs
       → (yes_of r ≡ true) ↔ IsRecord (Allowed cs) Q P T list
   -- the instance maker writes the pattern under the record's substitution, where it fits
-  pub instance : (l : InstanceLists) (L S L' S' : List ℕ) (r : Made) (U : Term) → InstanceSettled l L S r L' S' → Instance l U → size U ≤ 2048 → size U ≤ length L → size U ≤ length S
-      → (r ≡ Rows (size U)) × (L' ≡ labels (U ◂ none) ++ drop (size U) L) × (S' ≡ sizes (U ◂ none) ++ drop (size U) S)
+  pub instance : (l : InstanceLists) (L S L' S' : List ℕ) (r : Result ℕ Refusal) (U : Term) → InstanceSettled l L S r L' S' → Instance l U → size U ≤ 2048 → size U ≤ length L → size U ≤ length S
+      → (r ≡ Ok (size U)) × (L' ≡ labels (U ◂ none) ++ drop (size U) L) × (S' ≡ sizes (U ◂ none) ++ drop (size U) S)
   -- and for the record of a matcher, whatever the constraints, that is the tree
-  pub of_matcher : (l : InstanceLists) (L S L' S' : List ℕ) (r : Made) (T : Term) (P : Pattern) (Q : List Kind) (cs : List Constraint) → InstanceSettled l L S r L' S'
+  pub of_matcher : (l : InstanceLists) (L S L' S' : List ℕ) (r : Result ℕ Refusal) (T : Term) (P : Pattern) (Q : List Kind) (cs : List Constraint) → InstanceSettled l L S r L' S'
       → GoodTree l.label l.size T → GoodPattern l.kind l.name l.pattern_size P Q → IsRecord (Allowed cs) Q P T l.numbers
       → length l.label ≤ length L → length l.label ≤ length S
-      → (r ≡ Rows (length l.label)) × (L' ≡ l.label ++ drop (length l.label) L) × (S' ≡ l.size ++ drop (length l.label) S)
+      → (r ≡ Ok (length l.label)) × (L' ≡ l.label ++ drop (length l.label) L) × (S' ≡ l.size ++ drop (length l.label) S)

@@ -14,8 +14,7 @@ use Rattle.expression.specs.Rows.{StartsAt}
 use Rattle.constraint.specs.Obeys.{Constraint, free, bound, Allowed}
 use Rattle.problem.specs.Problem.{Lists, Poses}
 use Rattle.catalogue.specs.Listing.{Listing}
-use Rattle.lister.specs.Listed.{Settled}
-use Rattle.lister.specs.declared.Listed.{Listed}
+use Rattle.lister.specs.Listed.{Listed, Settled}
 
 -- what an answer of the lister is, for the problem that the lists pose
 pub record ListIs (Q : List Kind) (P : Pattern) (T : Term) (cs : List Constraint) (budget : ℕ) (before : List ℕ) (r : Listed) (after : List ℕ) : Type 0 where

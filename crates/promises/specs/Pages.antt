@@ -15,7 +15,7 @@ use Rattle.catalogue.specs.Answer.{place}
 use Rattle.catalogue.specs.Listing.{Solutions}
 use Rattle.catalogue.specs.Page.{Page, tries_after}
 use Rattle.lister.specs.Page.{PageSettled}
-use Rattle.lister.specs.declared.Listed.{Listed}
+use Rattle.lister.specs.Listed.{Listed}
 use Rattle.promises.specs.Lists.{ListIs}
 
 -- what an answer of a page after the record s is, for the problem that the lists pose

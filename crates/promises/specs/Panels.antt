@@ -2,8 +2,7 @@
 use Rattle.std.specs.Prelude.{ℕ, ◌<◌, ◌≡◌, ◌↔◌, List, length, get_or}
 use Rattle.catalogue.specs.Listing.{joined}
 use Rattle.tree.specs.Rows.{GoodRows}
-use Rattle.lister.specs.Listed.{Settled}
-use Rattle.lister.specs.declared.Listed.{Listed}
+use Rattle.lister.specs.Listed.{Listed, Settled}
 use Rattle.panel.specs.Parts.{part, first_parts, PartsJoined}
 use Rattle.panel.specs.Panel.{Panel, problems, problem, answer_at, ListsAgree, LengthsAddUp, PanelSettled}
 

@@ -1,7 +1,8 @@
 -- Demand 1: "A refusal has the number and place that the rules give, is made exactly then, and changes no buffer." The contracts of the
 -- public functions hold for any lists; here is what follows of every answer that keeps them.
-use Rattle.std.specs.Prelude.{ℕ, ◌≤◌, ◌+◌, ◌*◌, ◌≡◌, List, length, Bool}
+use Rattle.std.specs.Prelude.{ℕ, ◌≤◌, ◌+◌, ◌*◌, ◌≡◌, List, length, Bool, Result}
 use Rattle.meaning.specs.Calls.{refuse, accept, Says}
+use Rattle.meaning.specs.declared.refusal.Refusal.{Refusal}
 use Rattle.dictionary.specs.Names.{DictionaryChecked}
 use Rattle.pattern.specs.Answer.{PatternSettled}
 use Rattle.pattern.specs.declared.Checked.{Checked as PatternChecked}
@@ -9,16 +10,12 @@ use Rattle.judge.specs.Verdict.{Verdict}
 use Rattle.dictionary.specs.Spelling.{PartAnswered, SpellingAnswered}
 use Rattle.document.specs.Reading.{Unchanged, shortest, ReaderAnswer, Read, DocumentChecked}
 use Rattle.problem.specs.Problem.{Lists, Codes}
-use Rattle.problem.specs.Answer.{Answered}
-use Rattle.problem.specs.declared.Problem.{Problem as ProblemChecked}
+use Rattle.problem.specs.Answer.{Told as ProblemTold, Answered}
 use Rattle.test.specs.Tested.{code_of, Fifteen, TestSettled}
-use Rattle.test.specs.declared.Tested.{Tested}
-use Rattle.lister.specs.Listed.{Settled}
+use Rattle.lister.specs.Listed.{Listed, Settled}
 use Rattle.lister.specs.Page.{PageCodes, PageSettled}
-use Rattle.lister.specs.declared.Listed.{Listed}
 use Rattle.panel.specs.Panel.{Panel, ListsAgree, LengthsAddUp, PanelSettled}
 use Rattle.instance.specs.Instance.{code_given, rows_given, InstanceLists, InstanceCodes, InstanceSettled}
-use Rattle.instance.specs.declared.Made.{Made}
 
 -- the reader and the C server's check give the lowest code whose rule is broken, and 0 where none is, with 01's place and rows
 pub record ReaderRefuses : Type 0 where
@@ -34,8 +31,8 @@ pub record ReaderRefuses : Type 0 where
 pub record MatcherRefuses : Type 0 where
   pub list : {l : Lists} {budget : ℕ} {before after : List ℕ} {r : Listed} → Settled l budget before r after → Codes l accept r.code
   pub list_after : {l : Lists} {list : List ℕ} {budget : ℕ} {before after : List ℕ} {r : Listed} → PageSettled l list budget before r after → PageCodes l list r.code
-  pub test : {l : Lists} {list : List ℕ} {r : Tested} → TestSettled l list r → Codes l (Fifteen l list) (code_of r)
-  pub instance : {l : InstanceLists} {L S L' S' : List ℕ} {r : Made} → InstanceSettled l L S r L' S' → InstanceCodes l (length L) (length S) (code_given r)
+  pub test : {l : Lists} {list : List ℕ} {r : Result Bool Refusal} → TestSettled l list r → Codes l (Fifteen l list) (code_of r)
+  pub instance : {l : InstanceLists} {L S L' S' : List ℕ} {r : Result ℕ Refusal} → InstanceSettled l L S r L' S' → InstanceCodes l (length L) (length S) (code_given r)
   pub panel : {p : Panel} {out answer out' answer' : List ℕ} {r : ℕ} → PanelSettled p out answer r out' answer' → refuse 21 (ListsAgree p (length answer) × LengthsAddUp p (length out)) accept r
 
 -- every answer, refusals among them, is settled, with each lent list afterwards
@@ -48,13 +45,13 @@ pub record OnlyOne : Type 1 where
   pub part : {d w l b n : List ℕ} {row s t u s' t' u' : ℕ} → PartAnswered d w l b n row s t u → PartAnswered d w l b n row s' t' u' → (s ≡ s') × (t ≡ t') × (u ≡ u')
   pub spelling : {d_at w_at at at' : ℕ × ℕ} {d w l b n : List ℕ} {row : ℕ} {v v' : List ℕ} → SpellingAnswered d_at w_at d w l b n row at v → SpellingAnswered d_at w_at d w l b n row at' v' → (at ≡ at') × (v ≡ v')
   pub pattern : {k n s : List ℕ} {r r' : PatternChecked} → PatternSettled k n s r → PatternSettled k n s r' → r ≡ r'
-  pub problem : {l : Lists} {r r' : ProblemChecked} → Answered l r → Answered l r' → r ≡ r'
-  pub test : {l : Lists} {list : List ℕ} {r s : Tested} → TestSettled l list r → TestSettled l list s → r ≡ s
+  pub problem : {l : Lists} {r r' : ProblemTold} → Answered l r → Answered l r' → r ≡ r'
+  pub test : {l : Lists} {list : List ℕ} {r s : Result Bool Refusal} → TestSettled l list r → TestSettled l list s → r ≡ s
   pub list : {l : Lists} {budget : ℕ} {before after after' : List ℕ} {r s : Listed} → Settled l budget before r after → Settled l budget before s after'
       → (r ≡ s) × (after ≡ after')
   pub list_after : {l : Lists} {list : List ℕ} {budget : ℕ} {before after after' : List ℕ} {r s : Listed} → PageSettled l list budget before r after → PageSettled l list budget before s after'
       → (r ≡ s) × (after ≡ after')
-  pub instance : {l : InstanceLists} {L S L₁ S₁ L₂ S₂ : List ℕ} {r s : Made} → InstanceSettled l L S r L₁ S₁ → InstanceSettled l L S s L₂ S₂ → (r ≡ s) × (L₁ ≡ L₂) × (S₁ ≡ S₂)
+  pub instance : {l : InstanceLists} {L S L₁ S₁ L₂ S₂ : List ℕ} {r s : Result ℕ Refusal} → InstanceSettled l L S r L₁ S₁ → InstanceSettled l L S s L₂ S₂ → (r ≡ s) × (L₁ ≡ L₂) × (S₁ ≡ S₂)
   pub panel : {p : Panel} {out answer out₁ answer₁ out₂ answer₂ : List ℕ} {r s : ℕ} → PanelSettled p out answer r out₁ answer₁ → PanelSettled p out answer s out₂ answer₂
       → (r ≡ s) × (out₁ ≡ out₂) × (answer₁ ≡ answer₂)
   -- the other checks answer yes or no
@@ -66,7 +63,7 @@ pub record NothingWritten : Type 0 where
       → (after ≡ before) × (r.ending ≡ 0) × (r.records ≡ 0) × (r.tries ≡ 0)
   pub list_after : {l : Lists} {list : List ℕ} {budget : ℕ} {before after : List ℕ} {r : Listed} → PageSettled l list budget before r after → (r.code ≡ 0 → ⊥)
       → (after ≡ before) × (r.ending ≡ 0) × (r.records ≡ 0) × (r.tries ≡ 0)
-  pub instance : {l : InstanceLists} {L S L' S' : List ℕ} {r : Made} → InstanceSettled l L S r L' S' → (code_given r ≡ 0 → ⊥) → (L' ≡ L) × (S' ≡ S) × (rows_given r ≡ 0)
+  pub instance : {l : InstanceLists} {L S L' S' : List ℕ} {r : Result ℕ Refusal} → InstanceSettled l L S r L' S' → (code_given r ≡ 0 → ⊥) → (L' ≡ L) × (S' ≡ S) × (rows_given r ≡ 0)
   pub panel : {p : Panel} {out answer out' answer' : List ℕ} {r : ℕ} → PanelSettled p out answer r out' answer' → (r ≡ 0 → ⊥) → (out' ≡ out) × (answer' ≡ answer)
 
 pub record Refusals : Type 1 where

@@ -5,8 +5,7 @@ use Rattle.meaning.specs.Calls.{Filled}
 use Rattle.problem.specs.Problem.{Lists}
 use Rattle.meaning.specs.Order.{Mem}
 use Rattle.catalogue.specs.Listing.{joined}
-use Rattle.lister.specs.Listed.{Settled}
-use Rattle.lister.specs.declared.Listed.{Listed}
+use Rattle.lister.specs.Listed.{Listed, Settled}
 
 -- a problem with budget and entries of the lent list, and the answer that 01 gives
 pub record Row : Type 0 where

@@ -1,99 +1,95 @@
 // A problem on a tree: what the lister answers, and the instance of each record.
-use lines::lists::{BEFORE, part, unchanged};
+use expression::Table;
+use lines::lists::{BEFORE, read_lists, unchanged};
 use makings::parts::{only, room};
-use makings::printing;
+use makings::printing::{Bracketed, unreadable};
+use pattern::Pattern;
+use problem::Problem;
 use std::io;
+use tree::Tree;
 
-fn listed(
-    label: &[u32],
-    size: &[u32],
-    numbers: &[u32],
-    ends: &[usize],
-    out: &mut [u32],
-) -> lister::Listed {
-    lister::list(
-        label,
-        size,
-        part(numbers, ends, 0),
-        part(numbers, ends, 1),
-        part(numbers, ends, 2),
-        part(numbers, ends, 3),
-        part(numbers, ends, 4),
-        part(numbers, ends, 5),
-        part(numbers, ends, 6),
-        only(part(numbers, ends, 7)),
-        out,
-    )
-}
+// So many numbers fit the lists of a problem.
+const NUMBERS: usize = 2048;
 
-fn print_answer(rt: &impl Print, answer: lister::Listed) -> io::Result<()> {
-    printing::number(rt, answer.code as u64)?;
-    printing::number(rt, answer.ending as u64)?;
-    printing::number(rt, answer.records as u64)?;
-    printing::number(rt, answer.tries as u64)
-}
+// The longest list that is lent for the records.
+const RECORDS: usize = 4096;
 
 // Prints the records, each with its instance. Where a problem is not refused, the constraint list is as long as a record.
 fn print_records(
     rt: &impl Print,
-    label: &[u32],
-    size: &[u32],
-    numbers: &[u32],
-    ends: &[usize],
+    problem: &Problem<'_>,
     out: &[u32],
     records: usize,
 ) -> io::Result<()> {
-    let width = part(numbers, ends, 6).len();
-    let mut start = 0;
-    let mut left = records;
-    while 0 < left {
-        if out.len() - start < width {
+    let mut rest = out;
+    for _ in 0..records {
+        let Some((record, behind)) = rest.split_at_checked(problem.constraint.len()) else {
             return Ok(());
-        }
-        let end = start + width;
-        printing::list(rt, &out[start..end])?;
-        makings::of_record(rt, label, size, numbers, ends, &out[start..end])?;
-        start = end;
-        left -= 1;
+        };
+        print!(rt; " {}", Bracketed(record))?;
+        makings::of_record(rt, &problem.tree, &problem.pattern, record)?;
+        rest = behind;
     }
-    if !unchanged(out, start) {
-        printing::text(rt, b", list changed")?;
+    if !unchanged(rest, 0) {
+        print!(rt; ", list changed")?;
     }
     Ok(())
 }
 
-fn list_in(
+fn list_problem(
     rt: &impl Print,
-    label: &[u32],
-    size: &[u32],
-    numbers: &[u32],
-    ends: &[usize],
-    out: &mut [u32],
+    problem: &Problem<'_>,
+    budget: &[u32],
+    wanted: &[u32],
 ) -> io::Result<()> {
-    let lent = room(part(numbers, ends, 8), out);
-    let answer = listed(label, size, numbers, ends, &mut out[0..lent]);
-    print_answer(rt, answer)?;
-    print_records(rt, label, size, numbers, ends, out, answer.records)
-}
-
-fn list_on(
-    rt: &impl Print,
-    label: &[u32],
-    size: &[u32],
-    problem: &[u8],
-    numbers: &mut [u32],
-    ends: &mut [usize],
-) -> io::Result<()> {
-    let lists = lines::read_lists(problem, numbers, ends);
-    if lists != 9 {
-        return printing::unreadable(rt);
+    let mut out = [BEFORE; RECORDS];
+    let lent = room(wanted, &out);
+    match lister::list(problem, only(budget).unwrap_or(0), &mut out[..lent]) {
+        Ok(found) => {
+            let ending = u32::from(found.ending);
+            print!(rt; " 0 {ending} {} {}", found.records, found.tries)?;
+            print_records(rt, problem, &out, found.records)
+        }
+        Err(refusal) => {
+            print!(rt; " {} 0 0 0", u32::from(refusal))?;
+            print_records(rt, problem, &out, 0)
+        }
     }
-    let mut out = [BEFORE; 4096];
-    list_in(rt, label, size, numbers, ends, &mut out)
 }
 
-pub fn list(rt: &impl Print, label: &[u32], size: &[u32], problem: &[u8]) -> io::Result<()> {
-    let mut numbers = [0u32; 2048];
-    let mut ends = [0usize; 9];
-    list_on(rt, label, size, problem, &mut numbers, &mut ends)
+pub fn list(rt: &(impl Print + AllocGlobal), tree: Tree<'_>, problem: &[u8]) -> io::Result<()> {
+    let lists = read_lists(rt.alloc(), problem, NUMBERS)?;
+    let Some(
+        [
+            kind,
+            name,
+            size,
+            table_kind,
+            table_name,
+            table_size,
+            constraint,
+            budget,
+            wanted,
+        ],
+    ) = lists.as_deref()
+    else {
+        return unreadable(rt);
+    };
+    let pattern = Pattern { kind, name, size };
+    let table = Table {
+        kind: table_kind,
+        name: table_name,
+        size: table_size,
+    };
+    list_problem(
+        rt,
+        &Problem {
+            tree,
+            pattern,
+            table,
+            constraint,
+        },
+        budget,
+        wanted,
+    )
 }

@@ -10,59 +10,28 @@
 mod listings;
 mod trees;
 
+use lines::section;
 use std::io;
-use std::io::Read;
 
-fn is_remark(line: &[u8]) -> bool {
-    if line.len() == 0 {
-        return true;
-    }
-    line[0] == b'#'
-}
-
-fn answer(rt: &impl Print, word: &[u8], line: &[u8]) -> io::Result<()> {
-    match lines::fields::place(b"rows document instance", b' ', word) {
-        0 => trees::rows(rt, lines::section(line, 2), lines::section(line, 3)),
-        1 => trees::document(
-            rt,
-            lines::section(line, 2),
-            lines::section(line, 3),
-            lines::section(line, 4),
-        ),
-        2 => trees::instance(rt, lines::section(line, 2), lines::section(line, 3)),
+fn answer(rt: &(impl Print + AllocGlobal), line: &[u8]) -> io::Result<()> {
+    match section(line, 0) {
+        b"rows" => trees::rows(rt, section(line, 2), section(line, 3)),
+        b"document" => trees::document(rt, section(line, 2), section(line, 3), section(line, 4)),
+        b"instance" => trees::instance(rt, section(line, 2), section(line, 3)),
         _ => makings::printing::unreadable(rt),
     }
 }
 
-fn answer_line(rt: &impl Print, line: &[u8]) -> io::Result<()> {
-    if is_remark(line) {
+fn answer_line(rt: &(impl Print + AllocGlobal), line: &[u8]) -> io::Result<()> {
+    if let [] | [b'#', ..] = line {
         return Ok(());
     }
-    rt.write_all(lines::section(line, 1))?;
+    rt.write_all(section(line, 1))?;
     print!(rt; ":")?;
-    answer(rt, lines::section(line, 0), line)?;
+    answer(rt, line)?;
     println!(rt)
 }
 
-fn answer_lines(rt: &impl Print, text: &[u8]) -> io::Result<()> {
-    let mut start = 0;
-    while start < text.len() {
-        let end = lines::fields::find(text, start, b'\n');
-        answer_line(rt, &text[start..end])?;
-        if text.len() <= end {
-            return Ok(());
-        }
-        start = end + 1;
-    }
-    Ok(())
-}
-
 fn main(rt: HostRuntime) -> io::Result<()> {
-    let mut text = Vec::new(rt.alloc());
-    let bytes = rt.reader().take(65536).read_to_end(&mut text)?;
-    answer_lines(&rt, text.as_slice())?;
-    if bytes == 65536 {
-        println!(rt; "the input is too long")?;
-    }
-    Ok(())
+    lines::answer_each(&rt, |line| answer_line(&rt, line))
 }

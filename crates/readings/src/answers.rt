@@ -1,176 +1,147 @@
 // What the reader answers on one line, and whether it kept to its lists and agrees with the check.
-ghost use Rattle.std.specs.Prelude.{◌<◌, ◌≤◌, length};
+ghost use Rattle.std.specs.Prelude.{◌≤◌};
 
+use judge::refusal::Refusal;
 use lines::lists::{BEFORE, unchanged};
-use std::io;
+use std::{fmt, io};
+
+// A little more than the most rows that are read.
+const ROWS: usize = 2100;
 
 // Lists of more rows are printed as a sum each.
 const PRINTED: usize = 12;
 
-// A sum is below this.
-const SUMS: u64 = 4294967296;
-
-fn wide(number: u32) -> usize {
-    number as usize
+// The four lists that the reader is lent.
+#[derive(Drop)]
+struct Lent {
+    label: [u32; ROWS],
+    size: [u32; ROWS],
+    start: [u32; ROWS],
+    length: [u32; ROWS],
 }
 
-fn wider(number: u32) -> u64
-    ensures { result < 4294967296 }
-{
-    number as u64
+impl Lent {
+    fn new() -> Lent {
+        Lent {
+            label: [BEFORE; ROWS],
+            size: [BEFORE; ROWS],
+            start: [BEFORE; ROWS],
+            length: [BEFORE; ROWS],
+        }
+    }
+
+    // The whole lists are looked at, also what was not lent.
+    fn are_unchanged(&self, from: usize) -> bool {
+        unchanged(&self.label, from)
+            && unchanged(&self.size, from)
+            && unchanged(&self.start, from)
+            && unchanged(&self.length, from)
+    }
 }
 
-// How much of the list is lent, which is all of it where the line asks for more. It takes the list, so that its
-// contract can speak of it.
-fn room(rooms: &[u8], number: usize, list: &[u32]) -> usize
-    ensures { result ≤ length list.now }
+// How much of a list is lent, which is all of it where the line asks for more.
+fn room(rooms: &[u8], number: usize) -> usize
+    ensures { result ≤ 2100 }
 {
     let wanted = lines::number(lines::fields::field(rooms, b' ', number));
-    if list.len() < wanted {
-        return list.len();
-    }
-    wanted
+    wanted.map_or(ROWS, |wanted| ROWS.min(wanted as usize))
 }
 
 // The check has no room limit, so that where the reader lacks room it must accept.
-fn agrees(code: u32, place: u32, rows: u32, checked: u64) -> bool {
-    if code == 6 {
-        return checked / 4294967296 == 0;
-    }
-    if checked / 4294967296 != wider(code) {
-        return false;
-    }
-    checked % 4294967296 == wider(place) + wider(rows)
-}
-
-fn print_number(rt: &impl Print, name: &[u8], number: u32) -> io::Result<()> {
-    rt.write_all(name)?;
-    print!(rt; "{number}")
-}
-
-fn print_list(rt: &impl Print, name: &[u8], list: &[u32], rows: usize) -> io::Result<()> {
-    rt.write_all(name)?;
-    for i in 0..rows {
-        if list.len() <= i {
-            return Ok(());
+fn agrees(read: Result<u32, Refusal>, checked: u64) -> bool {
+    let code = checked >> 32;
+    let rest = checked % 4294967296;
+    match read {
+        Ok(rows) => code == 0 && rest == u64::from(rows),
+        Err(Refusal::NoRoom) => code == 0,
+        Err(refusal) => {
+            code == u64::from(u32::from(refusal)) && rest == u64::from(refusal.place())
         }
-        print_number(rt, b" ", list[i])?;
     }
-    Ok(())
 }
 
-// A number for the whole list, in which each entry counts by its place: 31 times the sum of those before it, and the entry.
-fn sum_of(list: &[u32], rows: usize) -> u64 {
-    let mut sum: u64 = 0;
-    let mut i = 0;
-    while i < rows {
-        if list.len() <= i {
-            return sum;
+// The first numbers of a list, with a space in front of each.
+#[derive(Clone, Copy)]
+struct First<'a>(&'a [u32], usize);
+
+impl fmt::Display for First<'_> {
+    fn fmt<W: fmt::Write>(&self, f: &mut fmt::Formatter<W>) -> fmt::Result {
+        for number in self.0.iter().take(self.1) {
+            write!(f, " {number}")?;
         }
-        sum = (sum * 31 + wider(list[i])) % SUMS;
-        i += 1;
+        Ok(())
     }
-    sum
 }
 
-fn print_sum(rt: &impl Print, name: &[u8], list: &[u32], rows: usize) -> io::Result<()> {
-    rt.write_all(name)?;
-    let sum = sum_of(list, rows);
-    print!(rt; "{sum}")
+// A number below 2^32 for the first numbers of a list, in which each counts by its place: 31 times the sum of those before it, and the number.
+fn sum_of(list: &[u32], rows: usize) -> u32 {
+    list.iter().take(rows).fold(
+        0,
+        |sum: u32, number| sum.wrapping_mul(31).wrapping_add(*number),
+    )
 }
 
-// Prints what the reader gave on the four lists, each lent up to the length that the line says.
-fn answer_in(
+fn print_lists(rt: &impl Print, lists: &Lent, rows: usize) -> io::Result<()> {
+    if rows <= PRINTED {
+        print!(rt;
+            ", label{} size{} start{} length{}",
+            First(&lists.label, rows),
+            First(&lists.size, rows),
+            First(&lists.start, rows),
+            First(&lists.length, rows)
+        )
+    } else {
+        print!(rt;
+            ", sums {} {} {} {}",
+            sum_of(&lists.label, rows),
+            sum_of(&lists.size, rows),
+            sum_of(&lists.start, rows),
+            sum_of(&lists.length, rows)
+        )
+    }
+}
+
+fn print_answer(
     rt: &impl Print,
-    rooms: &[u8],
-    dictionary: &[u8],
-    document: &[u8],
-    label: &mut [u32],
-    size: &mut [u32],
-    start: &mut [u32],
-    length: &mut [u32],
+    read: Result<u32, Refusal>,
+    checked: u64,
+    lists: &Lent,
 ) -> io::Result<()> {
-    let labels = room(rooms, 0, label);
-    let sizes = room(rooms, 1, size);
-    let starts = room(rooms, 2, start);
-    let lengths = room(rooms, 3, length);
-    let read = document::read(
-        dictionary,
-        document,
-        &mut label[0..labels],
-        &mut size[0..sizes],
-        &mut start[0..starts],
-        &mut length[0..lengths],
-    );
-    print_answer(
-        rt,
-        read.code,
-        read.place,
-        read.rows,
-        document::check(dictionary, document),
-    )?;
-    print_lists(rt, read.code, wide(read.rows), label, size, start, length)?;
+    let rows = read.unwrap_or(0);
+    match read {
+        Ok(_) => print!(rt; ": code 0 place 0 rows {rows}")?,
+        Err(refusal) => {
+            print!(rt;
+                ": code {} place {} rows 0",
+                u32::from(refusal),
+                refusal.place()
+            )?
+        }
+    }
+    if !agrees(read, checked) {
+        print!(rt; ", check differs")?;
+    }
+    let rows = rows as usize;
+    if read.is_ok() {
+        print_lists(rt, lists, rows)?;
+    }
+    // In a refusal the rows are 0.
+    if !lists.are_unchanged(rows) {
+        print!(rt; ", lists changed")?;
+    }
     println!(rt)
 }
 
-fn print_answer(rt: &impl Print, code: u32, place: u32, rows: u32, checked: u64) -> io::Result<()> {
-    print_number(rt, b": code ", code)?;
-    print_number(rt, b" place ", place)?;
-    print_number(rt, b" rows ", rows)?;
-    if !agrees(code, place, rows, checked) {
-        print!(rt; ", check differs")?;
-    }
-    Ok(())
-}
-
-// The whole lists are looked at, also what was not lent. In a refusal the rows are 0.
-fn print_lists(
-    rt: &impl Print,
-    code: u32,
-    rows: usize,
-    label: &[u32],
-    size: &[u32],
-    start: &[u32],
-    length: &[u32],
-) -> io::Result<()> {
-    if code == 0 {
-        if rows <= PRINTED {
-            print_list(rt, b", label", label, rows)?;
-            print_list(rt, b" size", size, rows)?;
-            print_list(rt, b" start", start, rows)?;
-            print_list(rt, b" length", length, rows)?;
-        } else {
-            print_sum(rt, b", sums ", label, rows)?;
-            print_sum(rt, b" ", size, rows)?;
-            print_sum(rt, b" ", start, rows)?;
-            print_sum(rt, b" ", length, rows)?;
-        }
-    }
-    if unchanged(label, rows) {
-        if unchanged(size, rows) {
-            if unchanged(start, rows) {
-                if unchanged(length, rows) {
-                    return Ok(());
-                }
-            }
-        }
-    }
-    print!(rt; ", lists changed")
-}
-
+// Prints what the reader gave on the four lists, each lent up to the length that the line says.
 pub fn answer(rt: &impl Print, rooms: &[u8], dictionary: &[u8], document: &[u8]) -> io::Result<()> {
-    let mut label = [BEFORE; 2100];
-    let mut size = [BEFORE; 2100];
-    let mut start = [BEFORE; 2100];
-    let mut length = [BEFORE; 2100];
-    answer_in(
-        rt,
-        rooms,
+    let mut lists = Lent::new();
+    let read = document::read(
         dictionary,
         document,
-        &mut label,
-        &mut size,
-        &mut start,
-        &mut length,
-    )
+        &mut lists.label[..room(rooms, 0)],
+        &mut lists.size[..room(rooms, 1)],
+        &mut lists.start[..room(rooms, 2)],
+        &mut lists.length[..room(rooms, 3)],
+    );
+    print_answer(rt, read, document::check(dictionary, document), &lists)
 }

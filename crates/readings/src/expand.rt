@@ -2,204 +2,135 @@
 // hex digits, and `{N:PIECE}` is the piece N times. In a piece `\0` to `\3` are the ones to the thousands of how many
 // times it stands before, and `\4` to `\7` of how many times it still follows, so that many different names can be
 // written, and their end tags. Any other byte after `\` is itself.
-ghost use Rattle.std.specs.Prelude.{◌≡◌, ◌<◌, ◌≤◌, length};
+ghost use Rattle.std.specs.Prelude.{◌<◌, ◌≤◌, length, vec_len, IfOk, IfSome};
+ghost use Rattle.std.specs.Iterator.{at_most};
 
-use lines::fields;
+use lines::fields::cut;
+use std::alloc::{AllocError, Global};
 
-// Up to which place the room is filled, and whether all that was asked is there.
+// A little more than the largest document that is read.
+const ROOM: usize = 33000;
+
+// The bytes of a piece that stands `pass` times before and `left` times after.
 #[derive(Drop)]
-pub struct Filled {
-    pub whole: bool,
-    pub to: usize,
-}
-
-// The answer where there is no room, or the text cannot be read.
-fn stopped(to: usize) -> Filled
-    ensures { result.to ≡ to }
-{
-    Filled {
-        whole: false,
-        to: to,
-    }
-}
-
-// A text that ends within an escape is read as if zeros followed.
-fn byte_at(text: &[u8], at: usize) -> u8 {
-    if at < text.len() {
-        return text[at];
-    }
-    0
+struct Piece<'a> {
+    rest: &'a [u8],
+    pass: u32,
+    left: u32,
 }
 
 fn hex(digit: u8) -> u8
     ensures { result < 16 }
 {
-    if b'0' <= digit {
-        if digit <= b'9' {
-            return digit - b'0';
+    match digit {
+        b'0'..=b'9' => digit - b'0',
+        b'a'..=b'f' => digit - b'a' + 10,
+        _ => 0,
+    }
+}
+
+fn digit(number: u32, place: u8) -> u8 {
+    let from_place = match place {
+        0 => number,
+        1 => number / 10,
+        2 => number / 100,
+        _ => number / 1000,
+    };
+    b'0' + (from_place % 10) as u8
+}
+
+impl Piece<'_> {
+    // The byte that a `\` and a letter stand for, but for that of two hex digits.
+    fn escaped(&self, letter: u8) -> u8 {
+        match letter {
+            b'n' => b'\n',
+            b't' => b'\t',
+            b's' => b' ',
+            b'0'..=b'3' => digit(self.pass, letter - b'0'),
+            b'4'..=b'7' => digit(self.left, letter - b'4'),
+            _ => letter,
         }
     }
-    if b'a' <= digit {
-        if digit <= b'f' {
-            return digit - b'a' + 10;
-        }
-    }
-    0
 }
 
-fn ones(number: usize) -> u8 {
-    (number % 10) as u8 + b'0'
-}
+// A text that ends within an escape is read as if zeros followed.
+impl Iterator for Piece<'_> {
+    type Item = u8;
 
-fn digit(place: u8, number: usize) -> u8 {
-    match place {
-        b'0' => ones(number),
-        b'1' => ones(number / 10),
-        b'2' => ones(number / 100),
-        _ => ones(number / 1000),
-    }
-}
+    ghost remaining = { λ s. at_most (length s.rest.now) };
 
-// What any other letter than those of a fixed byte stands for.
-fn counted(kind: u8, pass: usize, left: usize) -> u8 {
-    if kind < b'0' {
-        return kind;
-    }
-    if kind < b'4' {
-        return digit(kind, pass);
-    }
-    if kind < b'8' {
-        return digit(kind - 4, left);
-    }
-    kind
-}
-
-// The byte that the rest of a piece begins with, which stands `pass` times before and `left` times after.
-fn first(rest: &[u8], pass: usize, left: usize) -> u8 {
-    let byte = byte_at(rest, 0);
-    if byte != b'\\' {
-        return byte;
-    }
-    let kind = byte_at(rest, 1);
-    match kind {
-        b'n' => b'\n',
-        b't' => b'\t',
-        b's' => b' ',
-        b'x' => hex(byte_at(rest, 2)) * 16 + hex(byte_at(rest, 3)),
-        _ => counted(kind, pass, left),
-    }
-}
-
-fn escape_width(kind: u8) -> usize
-    ensures { 0 < result }
-{
-    if kind == b'x' {
-        return 4;
-    }
-    2
-}
-
-// How many bytes of the text are that first byte.
-fn width(rest: &[u8]) -> usize
-    requires { 0 < length rest.now }
-    ensures { (0 < result) × (result ≤ length rest.now) }
-{
-    if byte_at(rest, 0) != b'\\' {
-        return 1;
-    }
-    let wanted = escape_width(byte_at(rest, 1));
-    if rest.len() < wanted {
-        return rest.len();
-    }
-    wanted
-}
-
-fn write_piece(piece: &[u8], pass: usize, left: usize, room: &mut [u8], from: usize) -> Filled
-    requires { from ≤ length room.old }
-    ensures { result.to ≤ length room.new }
-{
-    let mut to = from;
-    let mut at = 0;
-    while at < piece.len() {
-        if room.len() <= to {
-            return stopped(to);
-        }
-        room[to] = first(&piece[at..], pass, left);
-        to += 1;
-        at += width(&piece[at..]);
-    }
-    Filled {
-        whole: true,
-        to: to,
-    }
-}
-
-fn write_repeated(piece: &[u8], many: usize, room: &mut [u8], from: usize) -> Filled
-    requires { from ≤ length room.old }
-    ensures { result.to ≤ length room.new }
-{
-    let mut to = from;
-    let mut pass = 0;
-    while pass < many {
-        let filled = write_piece(piece, pass, many - pass - 1, room, to);
-        to = filled.to;
-        if !filled.whole {
-            return filled;
-        }
-        pass += 1;
-    }
-    Filled {
-        whole: true,
-        to: to,
+    fn next(&mut self) -> Option<u8> {
+        let (byte, rest) = match self.rest {
+            [] => return None,
+            [b'\\', b'x', high, low, rest @ ..] => (hex(*high) * 16 + hex(*low), rest),
+            [b'\\', b'x', high] => (hex(*high) * 16, b"".as_slice()),
+            [b'\\', b'x'] | [b'\\'] => (0, b"".as_slice()),
+            [b'\\', letter, rest @ ..] => (self.escaped(*letter), rest),
+            [byte, rest @ ..] => (*byte, rest),
+        };
+        self.rest = rest;
+        Some(byte)
     }
 }
 
 // What stands from one `{` to the next: `N:PIECE}` and what follows.
-fn write_braced(text: &[u8], room: &mut [u8], from: usize) -> Filled
-    requires { from ≤ length room.old }
-    ensures { result.to ≤ length room.new }
-{
-    let close = fields::find(text, 0, b'}');
-    let colon = fields::find(text, 0, b':');
-    if text.len() <= close {
-        return stopped(from);
-    }
-    if close <= colon {
-        return stopped(from);
-    }
-    let many = lines::number(&text[0..colon]);
-    if lines::TOO_LARGE <= many {
-        return stopped(from);
-    }
-    let filled = write_repeated(&text[colon + 1..close], many, room, from);
-    let to = filled.to;
-    if !filled.whole {
-        return filled;
-    }
-    write_piece(&text[close + 1..], 0, 0, room, to)
+#[derive(Drop)]
+struct Braced<'a> {
+    many: u32,
+    piece: &'a [u8],
+    behind: &'a [u8],
 }
 
-// Writes the bytes that the text stands for at the room's beginning.
-pub fn expand(text: &[u8], room: &mut [u8]) -> Filled
-    ensures { result.to ≤ length room.new }
-{
-    let parts = fields::count(text, b'{');
-    let plain = write_piece(fields::field(text, b'{', 0), 0, 0, room, 0);
-    let mut to = plain.to;
-    if !plain.whole {
-        return plain;
-    }
-    let mut i = 1;
-    while i < parts {
-        let filled = write_braced(fields::field(text, b'{', i), room, to);
-        to = filled.to;
-        if !filled.whole {
-            return filled;
+fn opened(text: &[u8]) -> Option<Braced<'_>> {
+    let (inside, behind) = cut(text, b'}')?;
+    let (many, piece) = cut(inside, b':')?;
+    let many = lines::number(many)?;
+    Some(Braced {
+        many,
+        piece,
+        behind,
+    })
+}
+
+// Adds the piece so many times. What is too long already grows no further.
+fn push_repeated(bytes: &mut Vec<u8>, piece: &[u8], many: u32) -> Result<(), AllocError> {
+    for pass in 0..many {
+        if ROOM < bytes.len() {
+            break;
         }
-        i += 1;
+        let left = many - pass - 1;
+        bytes.extend(Piece {
+            rest: piece,
+            pass,
+            left,
+        })?;
     }
-    Filled {
-        whole: true,
-        to: to,
+    Ok(())
+}
+
+// The bytes that the text stands for, or none where it cannot be read or they are more than have room.
+pub fn expand(alloc: Global, text: &[u8]) -> Result<Option<Vec<u8>>, AllocError>
+    ensures { IfOk result (λ found. IfSome found (λ bytes. vec_len bytes ≤ 33000)) }
+{
+    let mut bytes = Vec::new(alloc);
+    let mut parts = text.split(|byte| *byte == b'{');
+    push_repeated(&mut bytes, parts.next().unwrap_or(b""), 1)?;
+    for part in parts {
+        let Some(
+            Braced {
+                many,
+                piece,
+                behind,
+            },
+        ) = opened(part)
+        else {
+            return Ok(None);
+        };
+        push_repeated(&mut bytes, piece, many)?;
+        push_repeated(&mut bytes, behind, 1)?;
     }
+    if ROOM < bytes.len() {
+        return Ok(None);
+    }
+    Ok(Some(bytes))
 }

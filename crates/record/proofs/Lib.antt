@@ -1,4 +1,3 @@
 pub mod Judged
 pub mod Each
 pub mod Whole
-pub mod Same

@@ -8,6 +8,8 @@ ghost use Rattle.record.specs.Pairs.{RowsPre, FitsPost, PairPost, RecordPre, Rec
 ghost use Rattle.record.specs.Copied.{Copied};
 
 use meaning::kinds::{CONTEXT, SEQUENCE};
+use pattern::Pattern;
+use tree::Tree;
 
 // An individual or a function variable: its row is in the tree, and the second number is 0.
 fn row_fits(size: &[u32], a: usize, b: usize) -> bool
@@ -70,14 +72,12 @@ pub fn fits(size: &[u32], kinds: &[u32; 16], variables: usize, record: &[u32]) -
     if record.len() != variables + variables {
         return false;
     }
-    let mut x = 0;
-    while x < variables {
+    for x in 0..variables {
         let a = tree::at(record, x + x);
         let b = tree::at(record, x + x + 1);
         if !pair_fits(size, kinds[x], a, b) {
             return false;
         }
-        x += 1;
     }
     true
 }
@@ -87,34 +87,19 @@ pub fn equal(found: &[u32; 32], list: &[u32]) -> bool
     requires { (length found.now ≡ 32) × (length list.now ≤ 32) }
     ensures { Says result (Copied list.now found.now) }
 {
-    let mut i = 0;
-    while i < list.len() {
-        if found[i] != list[i] {
-            return false;
-        }
-        i += 1;
-    }
-    true
+    &found[..list.len()] == list
 }
 
-// Code 15: whether the record is good, for the tree and the pattern of these lists.
-pub fn good(
-    label: &[u32],
-    size: &[u32],
-    kind: &[u32],
-    name: &[u32],
-    pattern_size: &[u32],
-    record: &[u32],
-) -> bool
-    ensures { Says result (GoodRecordList label.now size.now kind.now name.now pattern_size.now «record».now) }
+// Code 15: whether the record is good, for the tree and the pattern.
+pub fn good(tree: &Tree, pattern: &Pattern, record: &[u32]) -> bool
+    ensures { Says result (GoodRecordList tree.now.label.now tree.now.size.now pattern.now.kind.now pattern.now.name.now pattern.now.size.now «record».now) }
 {
-    if !tree::good(label, size) {
+    if !tree::good(tree) {
         return false;
     }
-    let p = pattern::check(kind, name, pattern_size);
-    if !p.good {
+    let checked = pattern::check(pattern);
+    if !checked.good {
         return false;
     }
-    let kinds = p.kinds;
-    fits(size, &kinds, p.variables, record)
+    fits(tree.size, &checked.kinds, checked.variables, record)
 }

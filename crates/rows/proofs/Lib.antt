@@ -4,3 +4,4 @@ pub mod Names
 pub mod Noting
 pub mod Turning
 pub mod Depths
+pub mod Asked

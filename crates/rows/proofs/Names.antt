@@ -16,6 +16,10 @@ use Rattle.tokens.specs.Tokens.{Span, bytes, white_at, name_at, same_at, level_o
 use Rattle.judge.specs.Tags.{RunTo}
 use Rattle.tokens.proofs.Spans.{passed_none, same_yes, same_ended}
 use Rattle.words.specs.Words.{Again}
+use Rattle.std.specs.Prelude.{Ok}
+use Rattle.rows.specs.Turns.{RunDone, to_tag, passed_over}
+use Rattle.rows.specs.declared.note.Ran.TheVariants.{Tag}
+use native.Mathlib.Nat.{add-zero}
 
 pub empty_run : {w : List ℕ} (depth a : ℕ) → a ≤ length w → get_or w a 0 ≡ 60 → RunTo w depth a a 0
 unfolding run_at bytes
@@ -31,6 +35,12 @@ empty_run {w} depth a h e =
     ends : (l : Level) (s : Bytes) (y : Bool) → may_follow l s (get_or w a 0) ≡ y → y ≡ false
     ends l s true q = absurd (true≢false (sym (eq-eqb (get_or w a 0) 60 e) ∙ not_less l s (get_or w a 0) q))
     ends l s false q = refl
+
+-- a tag stands at once, and nothing is put
+pub at_once : {w : List ℕ} (S L Z : List ℕ) (depth row i : ℕ) → row ≤ 2048 → i ≤ length w → get_or w i 0 ≡ 60 → depth ≤ 64 → RunDone w S L Z depth row i S L Z (Ok (Tag row i))
+at_once {w} S L Z depth row i few h less shallow =
+    let done : RunDone w S L Z depth row i S L Z (Ok (Tag (row + 0) i)) = to_tag few (empty_run depth i h less) (passed_over refl) less (omega arith) in
+    rw add-zero at done
 
 -- a tag that ends at once has no white space
 pub shut_at_once : {w : List ℕ} {e : ℕ} → e ≤ length w → get_or w e 0 ≡ 62 → Span (white_at w) w e e

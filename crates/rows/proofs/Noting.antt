@@ -6,7 +6,7 @@ use Prim.Native.Nat.{ℕ, suc, ◌+◌, ◌-◌, ◌≤◌, ◌<◌, max}
 use native.Mathlib.Omega.{arith}
 use lib.ListN.{length, get_or, set, length-set, length-map, length-append}
 use lib.Seq.{get_or-set_same, get_or-set_other}
-use Rattle.grammar.specs.Grammar.{Bytes, Content, nothing, empty_element, element}
+use Rattle.grammar.specs.Grammar.{Bytes, Content, nothing, empty_element, element, OutsideAt}
 use Rattle.grammar.specs.Rows.{inked, #, width, Row, row, of_text}
 use Rattle.grammar.specs.Machine.{Open, after_less, At}
 use Rattle.grammar.proofs.Trees.{leaf_rows, content_rows, content_depth, shape_depth}
@@ -18,9 +18,8 @@ use Rattle.openings.specs.OpenNames.{Named, opened}
 use Rattle.judge.proofs.Turns.{count, less}
 use Rattle.judge.proofs.Judging.{rows_o as count_o, deep_o, Walked, Finished, made, to_tag, refused, finished}
 use Rattle.labels.specs.Lists.{Holds, Long, Put}
-use Rattle.rows.specs.Notes.{RowsNoted, TooLarge, Notes, LastOf, ended, early}
+use Rattle.rows.specs.Notes.{RowsNoted, TooLarge}
 use Rattle.rows.specs.Turns.{RunPut, noted, passed_over}
-use Rattle.rows.specs.declared.note.Noted.{Noted}
 use Rattle.labels.proofs.Holding.{holds_beside, holds_more, holds_again}
 use Rattle.rows.proofs.Sizes.{leaf_sizes, sizes_on, sizes_o, before_o, sizes_long, open_long, before_long, own_size, sizes_tree}
 use Rattle.rows.proofs.Large.{leaf_count, run_count, too_many, too_deep}
@@ -335,7 +334,7 @@ module _ {w S L Z H : List ℕ} {i x depth n : ℕ} (k : Noting w S L Z H i x de
         go [] c q x = elim x [ ]
         go (p ∷ o) c q (closed h z) = omega (arith, c, q.0.place)
 
-    pub closes : {r y : ℕ} → Closed w r O F T → depth + m ≤ 64 → (y ≡ get_or H (depth - 1) 0) × (y < 65536) →
+    pub closes : {r y : ℕ} → Closed w r O F T → depth + m ≤ 64 → y ≡ get_or H (depth - 1) 0 →
         Noting w S' L' (set Z' x (n + m - x)) H r y (depth - 1) (n + m)
     unfolding count_o deep_o content_rows content_depth rows_on rows_o off_o sizes_on sizes_o
     closes {r} {y} h l is_y = go O h k.walked.depth_is k.walked.rows_are k.shallow leaf_starts leaf_lengths leaf_sizes_are leaf_held
@@ -366,11 +365,11 @@ module _ {w S L Z H : List ℕ} {i x depth n : ℕ} (k : Noting w S L Z H i x de
               lengths_are = lengths;
               sizes_are = rw (own_size (before_o p o) (suc (content_rows F + leaf_rows T)) F T, size)
                   (holds_again (before_o p o) (leaf_sizes (sizes_on [] F) T) Z' 1 x (suc (content_rows F + leaf_rows T)) (omega (arith, before_long p o, held.0.place)) (rw (own_size (before_o p o) 1 F T) at sizes));
-              held = rw (is_y.0, ← last) held.1;
+              held = rw (is_y, ← last) held.1;
             }
 
     -- THE END
-    finish : length w ≤ a → depth ≡ 0 → 0 < n + m → RowsNoted w S' L' Z' (n + m)
+    pub finish : length w ≤ a → depth ≡ 0 → 0 < n + m → RowsNoted w S' L' Z' (n + m)
     unfolding deep_o rows_o off_o sizes_o leaf_on leaf_sizes
     finish q d r =
         let none : inked T ≡ false = blank (run.outside d) in
@@ -392,9 +391,8 @@ module _ {w S L Z H : List ℕ} {i x depth n : ℕ} (k : Noting w S L Z H i x de
         }
         go (p ∷ o) z s starts lengths sizes D = absurd (omega (arith, d, z))
 
-    pub ends : (get_or w a 0 ≡ 60 → ⊥) → (r : Noted) → LastOf (length w) a depth (n + m) r → Notes w S' L' Z' r
-    ends b r (ended q d l) = finish q d l
-    ends b r (early h) = refused k.walked run b h
+    pub early : (get_or w a 0 ≡ 60 → ⊥) → ((length w ≤ a) × (depth ≡ 0) × (0 < n + m) → ⊥) → OutsideAt w a
+    early b h = refused k.walked run b (λ q d l. h (q, d, l))
 
     -- BEYOND THE LIMITS
     pub deep_text : get_or w a 0 ≡ 60 → 64 < depth + m → TooLarge w

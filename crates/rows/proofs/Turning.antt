@@ -8,9 +8,10 @@ use Rattle.grammar.specs.Grammar.{Content}
 use Rattle.grammar.specs.Machine.{Open}
 use Rattle.tokens.specs.Tokens.{bytes}
 use Rattle.judge.proofs.Judging.{closed_within}
-use Rattle.rows.specs.Notes.{Notes}
-use Rattle.rows.specs.Turns.{MayTag, TagDone, refused, deep_open, deep_empty, opens, empty, closes, RunDone, many, last_run, deep_text, to_tag, MayTurn, TurnDone, over, tagged}
-use Rattle.rows.specs.declared.note.Noted.{Noted}
+use Rattle.rows.specs.Notes.{RowsNoted, Notes}
+use Rattle.rows.specs.Turns.{MayTag, TagDone, refused, deep_open, deep_empty, opens, empty, closes, RunDone, many, last_run, early_run, deep_text, to_tag, MayTurn, TurnDone, stopped, over, tagged}
+use Rattle.std.specs.Prelude.{Ok, Err}
+use Rattle.rows.specs.declared.note.Unread.{Unread}
 use Rattle.rows.specs.declared.note.Ran.TheVariants.{Tag}
 use Rattle.rows.specs.declared.note.Turn.TheVariants.{Ends, Opens, Empty, Closes}
 use Rattle.rows.proofs.Noting as noting
@@ -36,7 +37,7 @@ module _ {w S L Z H : List ℕ} {i x depth n : ℕ} (k : Noting w S L Z H i x de
     tag = λ done. tag done;
   }
     where
-      tag : {a m : ℕ} {S' L' Z' : List ℕ} → RunDone w S L Z depth n i S' L' Z' (Tag m a) → MayTag w S' L' x depth m a O F (bytes w i (a - i))
+      tag : {a m : ℕ} {S' L' Z' : List ℕ} → RunDone w S L Z depth n i S' L' Z' (Ok (Tag m a)) → MayTag w S' L' x depth m a O F (bytes w i (a - i))
       tag (to_tag few run put less shallow) = record {
         short = short;
         low = noting.low_top k few run put;
@@ -46,13 +47,17 @@ module _ {w S L Z H : List ℕ} {i x depth n : ℕ} (k : Noting w S L Z H i x de
       }
 
   -- IT ENDS
-  pub turn_ends : {S' L' Z' : List ℕ} {r : Noted} → TurnDone w S L Z depth n i O F S' L' Z' (Ends r) → Notes w S' L' Z' r
-  turn_ends (over (many h)) = noting.many_rows k h
-  turn_ends (over (last_run few run put other l)) = noting.ends k few run put other _ l
-  turn_ends (over (deep_text few run put less h)) = noting.deep_text k few run put less h
-  turn_ends (tagged done (refused h)) = h
-  turn_ends (tagged (to_tag few run put less shallow) (deep_open h d)) = noting.deep_open k few run put h d
-  turn_ends (tagged (to_tag few run put less shallow) (deep_empty h d)) = noting.deep_empty k few run put h d
+  pub turn_ends : {S' L' Z' : List ℕ} {m : ℕ} → TurnDone w S L Z depth n i O F S' L' Z' (Ok (Ends m)) → RowsNoted w S' L' Z' m
+  turn_ends (over (last_run few run put other l)) = noting.finish k few run put l.0 l.1 l.2
+  turn_ends (tagged (to_tag few run put less shallow) done) = elim done [ ]
+
+  pub turn_stops : {S' L' Z' : List ℕ} (e : Unread) → TurnDone w S L Z depth n i O F S' L' Z' (Err e) → Notes w S' L' Z' (Err e)
+  turn_stops e (stopped (many h)) = noting.many_rows k h
+  turn_stops e (stopped (early_run few run put other l)) = noting.early k few run put other l
+  turn_stops e (stopped (deep_text few run put less h)) = noting.deep_text k few run put less h
+  turn_stops e (tagged done (refused h)) = h
+  turn_stops e (tagged (to_tag few run put less shallow) (deep_open h d)) = noting.deep_open k few run put h d
+  turn_stops e (tagged (to_tag few run put less shallow) (deep_empty h d)) = noting.deep_empty k few run put h d
 
   -- AN ELEMENT AT y OPENS, and the pass goes on at r
   pub record Opened (S' L' Z' : List ℕ) (y r : ℕ) : Type 0 where
@@ -62,10 +67,10 @@ module _ {w S L Z H : List ℕ} {i x depth n : ℕ} (k : Noting w S L Z H i x de
     pub behind : Behind w i r
     pub kept : Noting w S' L' Z' (set H depth x) r y (depth + 1) (y + 1)
 
-  pub turn_opens : {S' L' Z' : List ℕ} {y r : ℕ} → TurnDone w S L Z depth n i O F S' L' Z' (Opens y r) → Opened S' L' Z' y r
+  pub turn_opens : {S' L' Z' : List ℕ} {y r : ℕ} → TurnDone w S L Z depth n i O F S' L' Z' (Ok (Opens y r)) → Opened S' L' Z' y r
   turn_opens {r = r} (tagged {a = a} {S' = S₁} {L' = L₁} {Z' = Z₁} (to_tag {m = m} few run put less shallow) done) = go _ done
     where
-      go : {S' L' Z' : List ℕ} (y : ℕ) → TagDone w S₁ L₁ Z₁ depth (n + m) a O F (bytes w i (a - i)) S' L' Z' (Opens y r) → Opened S' L' Z' y r
+      go : {S' L' Z' : List ℕ} (y : ℕ) → TagDone w S₁ L₁ Z₁ depth (n + m) a O F (bytes w i (a - i)) S' L' Z' (Ok (Opens y r)) → Opened S' L' Z' y r
       go y (opens l h d again) = record {
         shallow = omega (arith, d);
         low = noting.low_top k few run put;
@@ -80,10 +85,10 @@ module _ {w S L Z H : List ℕ} {i x depth n : ℕ} (k : Noting w S L Z H i x de
     pub behind : Behind w i r
     pub kept : Noting w S' L' Z' H r x depth (y + 1)
 
-  pub turn_empties : {S' L' Z' : List ℕ} {y r : ℕ} → TurnDone w S L Z depth n i O F S' L' Z' (Empty y r) → Emptied S' L' Z' y r
+  pub turn_empties : {S' L' Z' : List ℕ} {y r : ℕ} → TurnDone w S L Z depth n i O F S' L' Z' (Ok (Empty y r)) → Emptied S' L' Z' y r
   turn_empties {r = r} (tagged {a = a} {S' = S₁} {L' = L₁} {Z' = Z₁} (to_tag {m = m} few run put less shallow) done) = go _ done
     where
-      go : {S' L' Z' : List ℕ} (y : ℕ) → TagDone w S₁ L₁ Z₁ depth (n + m) a O F (bytes w i (a - i)) S' L' Z' (Empty y r) → Emptied S' L' Z' y r
+      go : {S' L' Z' : List ℕ} (y : ℕ) → TagDone w S₁ L₁ Z₁ depth (n + m) a O F (bytes w i (a - i)) S' L' Z' (Ok (Empty y r)) → Emptied S' L' Z' y r
       go y (empty l h d again) = record {
         few = omega (arith, few, run.few);
         behind = record { more = omega (arith, l, run.span.passed.from); within = h.here.within };
@@ -98,12 +103,12 @@ module _ {w S L Z H : List ℕ} {i x depth n : ℕ} (k : Noting w S L Z H i x de
     pub before : x ≤ y
     pub few : y ≤ 2049
     pub behind : Behind w i r
-    pub kept : {z : ℕ} → (z ≡ get_or H (depth - 1) 0) × (z < 65536) → Noting w S' L' (set Z' x (y - x)) H r z (depth - 1) y
+    pub kept : {z : ℕ} → z ≡ get_or H (depth - 1) 0 → Noting w S' L' (set Z' x (y - x)) H r z (depth - 1) y
 
-  pub turn_closes : {S' L' Z' : List ℕ} {y r : ℕ} → TurnDone w S L Z depth n i O F S' L' Z' (Closes y r) → Shut S' L' Z' y r
+  pub turn_closes : {S' L' Z' : List ℕ} {y r : ℕ} → TurnDone w S L Z depth n i O F S' L' Z' (Ok (Closes y r)) → Shut S' L' Z' y r
   turn_closes {r = r} (tagged {a = a} {S' = S₁} {L' = L₁} {Z' = Z₁} (to_tag {m = m} few run put less shallow) done) = go _ done
     where
-      go : {S' L' Z' : List ℕ} (y : ℕ) → TagDone w S₁ L₁ Z₁ depth (n + m) a O F (bytes w i (a - i)) S' L' Z' (Closes y r) → Shut S' L' Z' y r
+      go : {S' L' Z' : List ℕ} (y : ℕ) → TagDone w S₁ L₁ Z₁ depth (n + m) a O F (bytes w i (a - i)) S' L' Z' (Ok (Closes y r)) → Shut S' L' Z' y r
       go y (closes l h) = record {
         some = noting.some_open k few run put h;
         shallow = noting.few_open k;

@@ -1,12 +1,12 @@
 -- Not needed to believe the promise: what the pass over a document notes of its rows.
-use Rattle.std.specs.Prelude.{◌≡◌, List, ℕ, ◌≤◌, ◌<◌}
+use Rattle.std.specs.Prelude.{◌≡◌, List, ℕ, ◌≤◌, Result, Ok, Err}
 use Rattle.meaning.specs.Forest.{rows}
 use Rattle.tree.specs.Rows.{depth, sizes}
 use Rattle.grammar.specs.Grammar.{Bytes, Content, Document, OutsideAt}
 use Rattle.grammar.specs.Rows.{shape, starts, lengths}
 use Rattle.labels.specs.Lists.{Holds, Long}
-use Rattle.rows.specs.declared.note.Noted.{Noted}
-use Rattle.rows.specs.declared.note.Noted.TheVariants.{Rows, Outside, Beyond}
+use Rattle.rows.specs.declared.note.Unread.{Unread}
+use Rattle.rows.specs.declared.note.Unread.TheVariants.{Outside, Beyond}
 
 -- the n rows of a document within the limits
 pub record RowsNoted (w s l z : List ℕ) (n : ℕ) : Type 0 where
@@ -25,12 +25,7 @@ pub record RowsNoted (w s l z : List ℕ) (n : ℕ) : Type 0 where
 abbrev pub TooLarge : List ℕ → Type 0
 TooLarge w = (f : Content) (t : Bytes) → Document w f t → depth (shape f) ≤ 64 → rows (shape f) ≤ 2048 → ⊥
 
-abbrev pub Notes : (w s l z : List ℕ) → Noted → Type 0
-Notes w s l z (Rows n) = RowsNoted w s l z n
-Notes w s l z (Outside p) = OutsideAt w p
-Notes w s l z Beyond = TooLarge w
-
--- the answer where no tag follows: at is where the last run ends
-pub data LastOf (length at depth rows : ℕ) : Noted → Type 0 where
-  ended : length ≤ at → depth ≡ 0 → 0 < rows → LastOf length at depth rows (Rows rows)
-  early : (length ≤ at → depth ≡ 0 → 0 < rows → ⊥) → LastOf length at depth rows (Outside at)
+abbrev pub Notes : (w s l z : List ℕ) → Result ℕ Unread → Type 0
+Notes w s l z (Ok n) = RowsNoted w s l z n
+Notes w s l z (Err (Outside p)) = OutsideAt w p
+Notes w s l z (Err Beyond) = TooLarge w

@@ -2,5 +2,4 @@
 #![tactic(auto)]
 
 pub mod note;
-mod stack;
 pub mod tags;

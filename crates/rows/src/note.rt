@@ -3,35 +3,32 @@ ghost use Rattle.std.specs.Prelude.{List, ◌≤◌};
 ghost use lib.ListN.{length};
 ghost use Rattle.grammar.specs.Grammar.{Bytes, Content};
 ghost use Rattle.grammar.specs.Machine.{Open};
-ghost use Rattle.tokens.specs.Tokens.{Classed};
 ghost use Rattle.judge.specs.Tags.{RunTo};
 ghost use Rattle.labels.specs.Lists.{Long};
-ghost use Rattle.rows.specs.Notes.{LastOf, Notes};
+ghost use Rattle.rows.specs.Notes.{Notes};
 ghost use Rattle.rows.specs.Turns.{MayTag, TagDone, RunDone, MayTurn, TurnDone};
 
-use super::stack::{pop, push};
 use super::tags::next_tag;
-use judge::Run;
-use judge::codes::{DEEPEST, MOST_ROWS};
+use judge::limits::{DEEPEST, MOST_ROWS};
 use judge::tags::Tag;
-use labels::note::{close, number, put};
-use tokens::class::{byte_at, table};
+use judge::{Run, is_whole};
+use labels::note::RowLists;
+use tokens::class::{Classes, byte_at};
 use tokens::{long_text_end, long_white_end};
 
-// So many rows are noted; or the place of code 3; or a document, if it is one, that is too deep or has too many rows.
-#[derive(Drop)]
-pub enum Noted {
-    Rows(usize),
+// Why no rows are noted: the place of code 3; or a document, if it is one, that is too deep or has too many rows.
+#[derive(Clone, Copy, PartialEq, Eq)]
+pub enum Unread {
     Outside(usize),
     Beyond,
 }
 
 // The run that starts at `start`. What stands between tags is mostly white space.
-fn run(document: &[u8], class: &[u8; 512], depth: usize, start: usize) -> Run
-    requires { Classed class.now × (start ≤ length document.now) }
+fn run(document: &[u8], classes: &Classes, depth: usize, start: usize) -> Run
+    requires { start ≤ length document.now }
     ensures { RunTo document.now depth start result.end result.rows }
 {
-    let white = long_white_end(document, class, start);
+    let white = long_white_end(document, classes, start);
     if byte_at(document, white) == b'<' {
         return Run {
             end: white,
@@ -44,34 +41,18 @@ fn run(document: &[u8], class: &[u8; 512], depth: usize, start: usize) -> Run
             rows: 0,
         };
     }
-    let end = long_text_end(document, class, start, white);
+    let end = long_text_end(document, classes, start, white);
     if white < end {
-        return Run { end: end, rows: 1 };
+        return Run { end, rows: 1 };
     }
-    Run { end: end, rows: 0 }
+    Run { end, rows: 0 }
 }
 
-// The answer where no tag follows: the last run ends at `at`.
-fn last(length: usize, at: usize, depth: usize, rows: usize) -> Noted
-    ensures { LastOf length at depth rows result }
-{
-    if at < length {
-        return Noted::Outside(at);
-    }
-    if 0 < depth {
-        return Noted::Outside(at);
-    }
-    if rows == 0 {
-        return Noted::Outside(at);
-    }
-    Noted::Rows(rows)
-}
-
-// What a turn of the pass comes to: the answer; or an element at this row, and then where its tag ends; or an end tag behind so many
-// rows, and where it ends.
-#[derive(Drop)]
+// What a turn of the pass comes to: a whole document of so many rows; or an element at this row, and then where its tag ends; or an end tag
+// behind so many rows, and where it ends.
+#[derive(Clone, Copy)]
 enum Turn {
-    Ends(Noted),
+    Ends(usize),
     Opens(usize, usize),
     Empty(usize, usize),
     Closes(usize, usize),
@@ -80,44 +61,42 @@ enum Turn {
 // The tag whose `<` stands at `at`, behind `row` rows. `top` is the row of the innermost open element.
 fn read_tag(
     document: &[u8],
-    class: &[u8; 512],
-    starts: &mut [u16; 2052],
-    lengths: &mut [u16; 2052],
-    sizes: &mut [u16; 2052],
+    classes: &Classes,
+    notes: &mut RowLists,
     top: usize,
     depth: usize,
     row: usize,
     at: usize,
-) -> Turn
-    requires { Classed class.now × ((o : List Open) × (f : Content) × (t : Bytes) × MayTag document.now starts.old lengths.old top depth row at o f t) }
-    ensures { (o : List Open) (f : Content) (t : Bytes) → MayTag document.now starts.old lengths.old top depth row at o f t → TagDone document.now starts.old lengths.old sizes.old depth row at o f t starts.new lengths.new sizes.new result }
+) -> Result<Turn, Unread>
+    requires { (o : List Open) × (f : Content) × (t : Bytes) × MayTag document.now notes.old.starts notes.old.lengths top depth row at o f t }
+    ensures { (o : List Open) (f : Content) (t : Bytes) → MayTag document.now notes.old.starts notes.old.lengths top depth row at o f t → TagDone document.now notes.old.starts notes.old.lengths notes.old.sizes depth row at o f t notes.new.starts notes.new.lengths notes.new.sizes result }
 {
-    let name = number(starts, top);
-    let length = number(lengths, top);
-    match next_tag(document, class, name, length, depth, row, at) {
-        Tag::Refused(place) => Turn::Ends(Noted::Outside(place)),
+    let name = usize::from(notes.starts[top]);
+    let length = usize::from(notes.lengths[top]);
+    let tag = next_tag(document, classes, name, length, depth, row, at).map_err(Unread::Outside)?;
+    match tag {
         Tag::Opens(end, next) => {
             if DEEPEST <= depth {
-                return Turn::Ends(Noted::Beyond);
+                return Err(Unread::Beyond);
             }
-            put(starts, lengths, sizes, row, at + 1, end - (at + 1));
-            Turn::Opens(row, next)
+            notes.put(row, at + 1, end - (at + 1));
+            Ok(Turn::Opens(row, next))
         }
         Tag::Empty(end, next) => {
             if DEEPEST <= depth {
-                return Turn::Ends(Noted::Beyond);
+                return Err(Unread::Beyond);
             }
-            put(starts, lengths, sizes, row, at + 1, end - (at + 1));
-            Turn::Empty(row, next)
+            notes.put(row, at + 1, end - (at + 1));
+            Ok(Turn::Empty(row, next))
         }
-        Tag::Closes(next) => Turn::Closes(row, next),
+        Tag::Closes(next) => Ok(Turn::Closes(row, next)),
     }
 }
 
-// What a run comes to: the answer; or a tag behind so many rows, at this place.
-#[derive(Drop)]
+// What a run comes to: the end of a document of so many rows; or a tag behind so many rows, at this place.
+#[derive(Clone, Copy)]
 enum Ran {
-    Over(Noted),
+    Last(usize),
     Tag(usize, usize),
 }
 
@@ -125,70 +104,62 @@ enum Ran {
 // only where it is counted.
 fn read_run(
     document: &[u8],
-    class: &[u8; 512],
-    starts: &mut [u16; 2052],
-    lengths: &mut [u16; 2052],
-    sizes: &mut [u16; 2052],
+    classes: &Classes,
+    notes: &mut RowLists,
     depth: usize,
     row: usize,
     i: usize,
-) -> Ran
-    requires { Classed class.now × (lib.ListN.length document.now ≤ 32768) × (i ≤ lib.ListN.length document.now) × (depth ≤ 64) }
-    ensures { RunDone document.now starts.old lengths.old sizes.old depth row i starts.new lengths.new sizes.new result }
+) -> Result<Ran, Unread>
+    requires { (lib.ListN.length document.now ≤ 32768) × (i ≤ lib.ListN.length document.now) × (depth ≤ 64) }
+    ensures { RunDone document.now notes.old.starts notes.old.lengths notes.old.sizes depth row i notes.new.starts notes.new.lengths notes.new.sizes result }
 {
     if MOST_ROWS < row {
-        return Ran::Over(Noted::Beyond);
+        return Err(Unread::Beyond);
     }
     if byte_at(document, i) == b'<' {
-        return Ran::Tag(row, i);
+        return Ok(Ran::Tag(row, i));
     }
-    let text = run(document, class, depth, i);
+    let text = run(document, classes, depth, i);
     let at = text.end;
     let leaves = text.rows;
-    put(starts, lengths, sizes, row, i, at - i);
+    notes.put(row, i, at - i);
     let row = row + leaves;
     if byte_at(document, at) != b'<' {
-        return Ran::Over(last(document.len(), at, depth, row));
+        if !is_whole(document.len(), at, depth, row) {
+            return Err(Unread::Outside(at));
+        }
+        return Ok(Ran::Last(row));
     }
     if DEEPEST < depth + leaves {
-        return Ran::Over(Noted::Beyond);
+        return Err(Unread::Beyond);
     }
-    Ran::Tag(row, at)
+    Ok(Ran::Tag(row, at))
 }
 
 // One turn: the run that starts at `i`, and the tag behind it.
 fn read_turn(
     document: &[u8],
-    class: &[u8; 512],
-    starts: &mut [u16; 2052],
-    lengths: &mut [u16; 2052],
-    sizes: &mut [u16; 2052],
+    classes: &Classes,
+    notes: &mut RowLists,
     top: usize,
     depth: usize,
     row: usize,
     i: usize,
-) -> Turn
-    requires { Classed class.now × ((o : List Open) × (f : Content) × MayTurn document.now starts.old lengths.old sizes.old top depth row i o f) }
-    ensures { (o : List Open) (f : Content) → MayTurn document.now starts.old lengths.old sizes.old top depth row i o f → TurnDone document.now starts.old lengths.old sizes.old depth row i o f starts.new lengths.new sizes.new result }
+) -> Result<Turn, Unread>
+    requires { (o : List Open) × (f : Content) × MayTurn document.now notes.old.starts notes.old.lengths notes.old.sizes top depth row i o f }
+    ensures { (o : List Open) (f : Content) → MayTurn document.now notes.old.starts notes.old.lengths notes.old.sizes top depth row i o f → TurnDone document.now notes.old.starts notes.old.lengths notes.old.sizes depth row i o f notes.new.starts notes.new.lengths notes.new.sizes result }
 {
-    match read_run(document, class, starts, lengths, sizes, depth, row, i) {
-        Ran::Over(answer) => Turn::Ends(answer),
-        Ran::Tag(behind, at) => read_tag(
-            document, class, starts, lengths, sizes, top, depth, behind, at,
-        ),
+    let run = read_run(document, classes, notes, depth, row, i)?;
+    match run {
+        Ran::Last(rows) => Ok(Turn::Ends(rows)),
+        Ran::Tag(behind, at) => read_tag(document, classes, notes, top, depth, behind, at),
     }
 }
 
 // The pass. `around` has the rows of the elements around the innermost open one, `top`.
-fn pass(
-    document: &[u8],
-    class: &[u8; 512],
-    starts: &mut [u16; 2052],
-    lengths: &mut [u16; 2052],
-    sizes: &mut [u16; 2052],
-) -> Noted
-    requires { Classed class.now × (lib.ListN.length document.now ≤ 32768) × Long starts.old lengths.old sizes.old }
-    ensures { Notes document.now starts.new lengths.new sizes.new result }
+fn pass(document: &[u8], classes: &Classes, notes: &mut RowLists) -> Result<usize, Unread>
+    requires { (lib.ListN.length document.now ≤ 32768) × Long notes.old.starts notes.old.lengths notes.old.sizes }
+    ensures { Notes document.now notes.new.starts notes.new.lengths notes.new.sizes result }
 {
     let mut around = [0u16; 64];
     let mut top: usize = 0;
@@ -196,10 +167,11 @@ fn pass(
     let mut row: usize = 0;
     let mut i: usize = 0;
     loop {
-        match read_turn(document, class, starts, lengths, sizes, top, depth, row, i) {
-            Turn::Ends(answer) => return answer,
+        let turn = read_turn(document, classes, notes, top, depth, row, i)?;
+        match turn {
+            Turn::Ends(rows) => return Ok(rows),
             Turn::Opens(element, next) => {
-                push(&mut around, depth, top);
+                around[depth] = top as u16;
                 top = element;
                 depth = depth + 1;
                 row = element + 1;
@@ -210,9 +182,9 @@ fn pass(
                 i = next;
             }
             Turn::Closes(behind, next) => {
-                close(sizes, top, behind);
+                notes.close(top, behind);
                 depth = depth - 1;
-                top = pop(&around, depth);
+                top = usize::from(around[depth]);
                 row = behind;
                 i = next;
             }
@@ -221,15 +193,10 @@ fn pass(
 }
 
 // Three rows more than 2,048 have room, since a turn may put two before they are counted.
-pub fn note(
-    document: &[u8],
-    starts: &mut [u16; 2052],
-    lengths: &mut [u16; 2052],
-    sizes: &mut [u16; 2052],
-) -> Noted
-    requires { (lib.ListN.length document.now ≤ 32768) × Long starts.old lengths.old sizes.old }
-    ensures { Notes document.now starts.new lengths.new sizes.new result }
+pub fn note(document: &[u8], notes: &mut RowLists) -> Result<usize, Unread>
+    requires { (lib.ListN.length document.now ≤ 32768) × Long notes.old.starts notes.old.lengths notes.old.sizes }
+    ensures { Notes document.now notes.new.starts notes.new.lengths notes.new.sizes result }
 {
-    let class = table();
-    pass(document, &class, starts, lengths, sizes)
+    let classes = Classes::new();
+    pass(document, &classes, notes)
 }

@@ -18,8 +18,10 @@ use Rattle.constraint.specs.Obeys.{Constraint, Allowed}
 use Rattle.constraint.proofs.Allowed.{allowed?}
 use Rattle.walk.specs.Cycle.{stop_at}
 use Rattle.walk.specs.Taken.{Answers}
-use Rattle.walk.specs.declared.Out.{Out}
-use Rattle.walk.specs.declared.Out.TheVariants as answer
+use Rattle.std.specs.Prelude.{Result, Ok, Err}
+use Rattle.walk.specs.declared.Halt.{Halt}
+use Rattle.meaning.specs.declared.endings.Ending.TheVariants.{All, Room, Budget}
+use Rattle.walk.specs.declared.Halt.TheVariants as halt
 use Rattle.walk.proofs.Answered.{failed, matched}
 use Rattle.choice.specs.Stops.{many, StopAt, LeastPost, FurtherPre, FurtherPost, Before, MorePre, MorePost}
 use Rattle.choice.specs.Runs.{LevelPre, SkipPost}
@@ -37,6 +39,7 @@ use Rattle.levels.proofs.Going.{few, Walked, is_fixed, Leveled, Paused, Asks, as
 use Rattle.levels.proofs.Columns.{ColumnsLong, columns_moved}
 use Rattle.levels.proofs.Pauses.{pauses_back}
 use Rattle.levels.proofs.Tried.{try_long}
+use Rattle.letters.specs.declared.Tables.{Tables}
 
 pub tree_small : {L S : List ℕ} {T : Term} → GoodTree L S T → size T ≤ 2048
 unfolding rows
@@ -48,7 +51,7 @@ pub record Input : Type 0 where
   pub L : List ℕ
   pub S : List ℕ
   pub M : List ℕ
-  pub tables : List ℕ
+  pub tables : Tables
   pub budget : ℕ
   pub room : ℕ
   pub width : ℕ
@@ -64,7 +67,7 @@ pub record Input : Type 0 where
   pub before : List ℕ
 
 abbrev pub given :
-    (L S M tables : List ℕ) (budget room width : ℕ)
+    (L S M : List ℕ) (tables : Tables) (budget room width : ℕ)
     (R A G X St U N F : List ℕ) (start : ℕ) (before : List ℕ) → Input
 given L S M tables budget room width R A G X St U N F start before =
     record {
@@ -152,14 +155,14 @@ module _ (i : Input) where
     pub post : SkipPost i.L i.S i.M A (get_or G (depth - 1) 0) (get_or U (depth - 1) 0) (get_or F (depth - 1) 0) limit failed u
 
   -- a try was made, with which the walk went on at the row u, and left values come after it: the answer o, and the record R
-  pub record Tried (out R A G X St U N F : List ℕ) (depth cnt tries u left : ℕ) (o : Out) : Type 0 where
+  pub record Tried (out R A G X St U N F : List ℕ) (depth cnt tries u left : ℕ) (o : Result ℕ Halt) : Type 0 where
     pub long : length R ≡ 32
     pub charged : tries ≤ i.budget
     pub each : {T : Term} {P : Pattern} {Q : List Kind} {es : List Expression} {cs : List Constraint} {vals₀ : List ℕ} (a : Asked T P Q es cs vals₀)
         → (vals : List ℕ) × Stand a out (ahead (Walked a.search) (count Q) vals N F depth) vals N F depth cnt tries
         × Answers R o (walk (Allowed cs) (allowed? cs) P T (take depth vals)) × Leveled a.search vals X St N F depth × Paused a.search R A vals G X St U N F depth
         × Before i.L i.S A (get_or G (depth - 1) 0) u left a.search.K a.search.N a.search.Z Q
-        × ((p x s : ℕ) → o ≡ answer.Need (stop_at p x s) → Asks a.search R A vals G depth p x s)
+        × ((p x s : ℕ) → o ≡ Err (halt.Need (stop_at p x s)) → Asks a.search R A vals G depth p x s)
 
 module _ {i : Input} where
   pub going_start : ColumnsLong i.G i.X i.St i.U i.N i.F → Pre i → Going i i.before i.R i.A i.G i.X i.St i.U i.N i.F i.start 0 0
@@ -193,7 +196,7 @@ module _ {i : Input} where
               (h.0, at_back (fixed i a) h.1 _ b, levels_back (Allowed cs) (allowed? cs) a.search.pattern.numbered T b.low h.2, pauses_back b.low h.3);
         }
 
-    pub going_end : depth ≡ 0 → Post i (record { ending = 0; records = cnt; tries = tries }) out
+    pub going_end : depth ≡ 0 → Post i (record { ending = All; records = cnt; tries = tries }) out
     going_end e = record { all = λ T P Q es cs vals a. all_done (fixed i a) (g.each a).1 e }
 
     pub going_ready : {d : ℕ} → BackTo F depth d → (d ≡ 0 → ⊥) → Ready i out R A G X St U N F d cnt tries
@@ -205,7 +208,7 @@ module _ {i : Input} where
     abbrev g : Going i out R A G X St U N F depth cnt tries
     g = r.going
 
-    pub going_spent : tries ≡ i.budget → Post i (record { ending = 2; records = cnt; tries = tries }) out
+    pub going_spent : tries ≡ i.budget → Post i (record { ending = Budget; records = cnt; tries = tries }) out
     going_spent e = record { all = λ T P Q es cs vals a. at_spent (fixed i a) (g.each a).1 r.some r.live e }
 
     below : {T : Term} {P : Pattern} {Q : List Kind} {es : List Expression} {cs : List Constraint} {vals₀ : List ℕ} (a : Asked i T P Q es cs vals₀)
@@ -290,7 +293,7 @@ module _ {i : Input} where
     abbrev F' : List ℕ
     F' = set F (depth - 1) (get_or F (depth - 1) 0 - 1)
 
-    pub going_try : {o : Out} {R' A' : List ℕ} {u : ℕ} → Pre i → ColumnsLong G X St U N F → (tries ≡ i.budget → ⊥)
+    pub going_try : {o : Result ℕ Halt} {R' A' : List ℕ} {u : ℕ} → Pre i → ColumnsLong G X St U N F → (tries ≡ i.budget → ⊥)
         → FurtherPost i.S i.M (get_or G (depth - 1) 0) (get_or U (depth - 1) 0) (get_or F (depth - 1) 0 - 1) u
         → AttemptPost i.L i.S i.M i.tables R A
         (get_or G (depth - 1) 0) (get_or X (depth - 1) 0) (get_or St (depth - 1) 0) (get_or U (depth - 1) 0) (get_or N (depth - 1) 0) o R' A'
@@ -315,7 +318,7 @@ module _ {i : Input} where
         Answered {T} {P} {Q} {es} {cs} a vals n =
             Answers R' o (walk (Allowed cs) (allowed? cs) P T (take n vals)) × Leveled a.search vals X St N' F' n × Paused a.search R' A' vals G X St (set U (depth - 1) u) N' F' n
             × Before i.L i.S A' (get_or G (depth - 1) 0) (get_or U (depth - 1) 0) (get_or F (depth - 1) 0 - 1) a.search.K a.search.N a.search.Z Q
-            × ((p x s : ℕ) → o ≡ answer.Need (stop_at p x s) → Asks a.search R' A' vals G n p x s)
+            × ((p x s : ℕ) → o ≡ Err (halt.Need (stop_at p x s)) → Asks a.search R' A' vals G n p x s)
 
   module _ {out R A G X St U N F : List ℕ} {depth cnt tries limit failed u : ℕ} (g : Passing i out R A G X St U N F depth cnt tries limit failed u) where
     ready : Ready i out R A G X St (set U (depth - 1) u) (set N (depth - 1) (get_or N (depth - 1) 0 + failed)) (set F (depth - 1) (get_or F (depth - 1) 0 - failed)) depth cnt (tries + failed)
@@ -340,7 +343,7 @@ module _ {i : Input} where
     pub passed_further : FurtherPre i.S i.M (get_or G (depth - 1) 0) u (get_or F (depth - 1) 0 - failed - 1)
     passed_further = rw (row_is, left_is) at (further_pre ready g.pre)
 
-    pub passed_tried : {o : Out} {R' A' : List ℕ} {r : ℕ}
+    pub passed_tried : {o : Result ℕ Halt} {R' A' : List ℕ} {r : ℕ}
         → FurtherPost i.S i.M (get_or G (depth - 1) 0) u (get_or F (depth - 1) 0 - failed - 1) r
         → AttemptPost i.L i.S i.M i.tables R A
         (get_or G (depth - 1) 0) (get_or X (depth - 1) 0) (get_or St (depth - 1) 0) u (get_or N (depth - 1) 0 + failed) o R' A'
@@ -351,8 +354,8 @@ module _ {i : Input} where
         rw (row_is, next_is, left_is, set-set U (depth - 1) u r, set-set N (depth - 1) n (n + 1), set-set F (depth - 1) l (l - 1)) at
         (going_try ready {o = o} {R' = R'} {A' = A'} {u = r} g.pre (columns_moved (depth - 1) u n l g.columns) (λ e. omega (arith, g.afford, g.post.few)) (rw (row_is, left_is) further) (rw (row_is, next_is) post))
 
-  module _ {out R A G X St U N F : List ℕ} {depth cnt tries u left : ℕ} {o : Out} (t : Tried i out R A G X St U N F depth cnt tries u left o) where
-    pub tried_fail : o ≡ answer.Fail → Going i out R A G X St U N F depth cnt tries
+  module _ {out R A G X St U N F : List ℕ} {depth cnt tries u left : ℕ} {o : Result ℕ Halt} (t : Tried i out R A G X St U N F depth cnt tries u left o) where
+    pub tried_fail : o ≡ (Err halt.Fail) → Going i out R A G X St U N F depth cnt tries
     tried_fail e =
         record {
           long = t.long;
@@ -360,7 +363,7 @@ module _ {i : Input} where
           each = λ a. let h = t.each a in (h.0, at_fail (fixed i a) h.1 (ap outcome (failed (rw e at h.2))), h.3, h.4);
         }
 
-    module _ {p₁ x s : ℕ} (e : o ≡ answer.Need (stop_at p₁ x s)) where
+    module _ {p₁ x s : ℕ} (e : o ≡ Err (halt.Need (stop_at p₁ x s))) where
       asks : {T : Term} {P : Pattern} {Q : List Kind} {es : List Expression} {cs : List Constraint} {vals₀ : List ℕ} (a : Asked i T P Q es cs vals₀)
           → Asks a.search R A (t.each a).0 G depth p₁ x s
       asks a = (t.each a).6 p₁ x s e
@@ -411,12 +414,12 @@ module _ {i : Input} where
                   (h.0, rw (v.0, v.1) at d, rw (← (add-one depth)) at c.0, rw (← (add-one depth)) at c.1);
             }
 
-    module _ {n : ℕ} (e : o ≡ answer.Ok n) where
+    module _ {n : ℕ} (e : o ≡ Ok n) where
       done_said : {T : Term} {P : Pattern} {Q : List Kind} {es : List Expression} {cs : List Constraint} {vals₀ : List ℕ} (a : Asked i T P Q es cs vals₀)
           → (B : List Entry) × (walk (Allowed cs) (allowed? cs) P T (take depth (t.each a).0) ≡ ok B []) × (take (length (numbers B)) R ≡ numbers B)
       done_said a = matched (rw e at (t.each a).2)
 
-      pub tried_full : cnt ≡ i.room → Post i (record { ending = 1; records = cnt; tries = tries }) out
+      pub tried_full : cnt ≡ i.room → Post i (record { ending = Room; records = cnt; tries = tries }) out
       tried_full f = record { all = λ T P Q es cs vals a. let d = done_said a in no_room (fixed i a) (t.each a).1 (numbers d.0) (ap outcome d.1) f }
 
       pub put_asked : Pre i → (cnt ≡ i.room → ⊥) → (i.width ≤ 32) × (cnt * i.width + i.width ≤ length out)

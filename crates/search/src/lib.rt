@@ -2,21 +2,27 @@
 
 ghost use Rattle.std.specs.Prelude.{◌≡◌, ◌+◌, ◌<◌, ◌≤◌, length};
 ghost use Rattle.std.proofs.Math.Seq.{paste};
+ghost use Rattle.walk.specs.Packed.{numbers_of};
 ghost use Rattle.levels.specs.Columns.{places, variables, starts, rows, nexts, lefts};
 ghost use Rattle.search.specs.Search.{GoPre, GoPost};
 
-use levels::{attempt, deeper, next_try};
-use meaning::endings::{ALL, BUDGET, ROOM};
+use letters::Tables;
+use levels::{Level, attempt, deeper, next_try};
+use meaning::endings::Ending;
+use memory::Memory;
+use paths::Path;
+use tree::Tree;
+use walk::{Halt, PatternRow};
 
 // What the search comes to: the ending, how many records were written, and the tries.
 #[derive(Drop)]
 pub struct Found {
-    pub ending: u32,
+    pub ending: Ending,
     pub records: usize,
     pub tries: u32,
 }
 
-pub fn ended(ending: u32, records: usize, tries: u32) -> Found
+pub fn ended(ending: Ending, records: usize, tries: u32) -> Found
     ensures { (result.ending ≡ ending) × (result.records ≡ records) × (result.tries ≡ tries) }
 {
     Found {
@@ -31,11 +37,7 @@ pub fn put(out: &mut [u32], at: usize, record: &[u32; 32], n: usize)
     requires { (n ≤ 32) × (length «record».now ≡ 32) × (at + n ≤ length out.old) }
     ensures { out.new ≡ paste out.old at «record».now n }
 {
-    let mut j = 0;
-    while j < n {
-        out[at + j] = record[j];
-        j += 1;
-    }
+    out[at..at + n].copy_from_slice(&record[..n]);
 }
 
 // How far the search may go: the tries, the records that there is room for, and the numbers of a record.
@@ -48,58 +50,47 @@ pub struct Limits {
 
 // The search from levels that stand after some choices: the last level's next value is tried, and what the walk finds is noted.
 pub fn go(
-    label: &[u32],
-    size: &[u32],
-    pattern: &[u32; 1536],
-    tables: &[u64; 320],
+    tree: &Tree,
+    pattern: &[PatternRow; 256],
+    tables: &Tables,
     limits: Limits,
     record: &mut [u32; 32],
     at: &mut [usize; 256],
-    levels: &mut [usize; 1536],
+    levels: &mut [Level; 256],
     start: usize,
     out: &mut [u32],
 ) -> Found
-    requires { GoPre label.now size.now pattern.now tables.now limits.room limits.width «record».old at.old (places levels.old) (variables levels.old) (starts levels.old) (rows levels.old) (nexts levels.old) (lefts levels.old) start out.old
-        × (length levels.old ≡ 1536) × (limits.budget < 4294967296) × (limits.room < 18446744073709551616) }
-    ensures { GoPost label.now size.now pattern.now tables.now limits.budget limits.room limits.width «record».old at.old (places levels.old) (variables levels.old) (starts levels.old) (rows levels.old) (nexts levels.old) (lefts levels.old) start out.old result out.new }
+    requires { GoPre tree.now.label.now tree.now.size.now (numbers_of pattern.now) tables.now limits.room limits.width «record».old at.old (places levels.old) (variables levels.old) (starts levels.old) (rows levels.old) (nexts levels.old) (lefts levels.old) start out.old
+        × (length levels.old ≡ 256) × (limits.budget < 4294967296) × (limits.room < 18446744073709551616) }
+    ensures { GoPost tree.now.label.now tree.now.size.now (numbers_of pattern.now) tables.now limits.budget limits.room limits.width «record».old at.old (places levels.old) (variables levels.old) (starts levels.old) (rows levels.old) (nexts levels.old) (lefts levels.old) start out.old result out.new }
 {
     let budget = limits.budget;
     let room = limits.room;
     let width = limits.width;
-    let mut memory = [0usize; 1280];
-    let mut path = [0usize; 259];
+    let mut memory = Memory::new();
+    let mut path = Path::new();
     let mut depth = start;
     let mut count: usize = 0;
     let mut tries: u32 = 0;
     loop {
         depth = levels::back(levels, depth);
         if depth == 0 {
-            return ended(ALL, count, tries);
+            return ended(Ending::All, count, tries);
         }
         if tries == budget {
-            return ended(BUDGET, count, tries);
+            return ended(Ending::Budget, count, tries);
         }
-        let t = next_try(label, size, pattern, at, levels, depth - 1, budget, tries);
+        let t = next_try(tree, pattern, at, levels, depth - 1, budget, tries);
         tries = tries + t.failed + 1;
-        match attempt(
-            label,
-            size,
-            pattern,
-            tables,
-            record,
-            at,
-            t,
-            &mut memory,
-            &mut path,
-        ) {
-            walk::Out::Fail => {}
-            walk::Out::Need(w) => {
-                deeper(size, pattern, at, levels, depth, t.p, t.u, t.left, w);
+        match attempt(tree, pattern, tables, record, at, t, &mut memory, &mut path) {
+            Err(Halt::Fail) => {}
+            Err(Halt::Need(w)) => {
+                deeper(tree.size, pattern, at, levels, depth, t.p, t.u, t.left, w);
                 depth += 1;
             }
-            walk::Out::Ok(_) => {
+            Ok(_) => {
                 if count == room {
-                    return ended(ROOM, count, tries);
+                    return ended(Ending::Room, count, tries);
                 }
                 put(out, count * width, record, width);
                 count += 1;

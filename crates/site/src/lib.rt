@@ -8,6 +8,11 @@ ghost use Rattle.answer.specs.Answers.{Lists, ListsAfter, Tests, Makes};
 ghost use Rattle.panel.specs.Panel.{PanelSettled};
 
 use answer::{Listing, Making, Part, Reading, Testing};
+use expression::Table;
+use panel::Problems;
+use pattern::Pattern;
+use problem::Problem;
+use tree::Tree;
 
 #[unsafe(no_mangle)]
 pub extern "C" fn khargovsun_check(dictionary: &[u8], document: &[u8]) -> u64
@@ -28,11 +33,7 @@ pub extern "C" fn khargovsun_read(
     ensures { Read dictionary.now document.now label.old size.old start.old length.old label.new size.new start.new length.new result.code result.place result.rows }
 {
     let read = document::read(dictionary, document, label, size, start, length);
-    Reading {
-        code: read.code,
-        place: read.place,
-        rows: read.rows,
-    }
+    answer::of_reader(read)
 }
 
 #[unsafe(no_mangle)]
@@ -61,19 +62,21 @@ pub extern "C" fn khargovsun_list(
       constraint = constraint.now;
     }) budget out.old result.code result.ending result.records result.tries out.new }
 {
-    let listed = lister::list(
-        label,
-        size,
-        kind,
-        name,
-        pattern_size,
-        expression_kind,
-        expression_name,
-        expression_size,
+    let problem = Problem {
+        tree: Tree { label, size },
+        pattern: Pattern {
+            kind,
+            name,
+            size: pattern_size,
+        },
+        table: Table {
+            kind: expression_kind,
+            name: expression_name,
+            size: expression_size,
+        },
         constraint,
-        budget,
-        out,
-    );
+    };
+    let listed = lister::list(&problem, budget, out);
     answer::of_lister(listed)
 }
 
@@ -104,20 +107,21 @@ pub extern "C" fn khargovsun_list_after(
       constraint = constraint.now;
     }) «record».now budget page.old result.code result.ending result.records result.tries page.new }
 {
-    let later = lister::list_after(
-        label,
-        size,
-        kind,
-        name,
-        pattern_size,
-        expression_kind,
-        expression_name,
-        expression_size,
+    let problem = Problem {
+        tree: Tree { label, size },
+        pattern: Pattern {
+            kind,
+            name,
+            size: pattern_size,
+        },
+        table: Table {
+            kind: expression_kind,
+            name: expression_name,
+            size: expression_size,
+        },
         constraint,
-        record,
-        budget,
-        page,
-    );
+    };
+    let later = lister::list_after(&problem, record, budget, page);
     answer::of_lister(later)
 }
 
@@ -157,24 +161,32 @@ pub extern "C" fn khargovsun_panel(
       share = share.now;
     }) records.old answer.old result records.new answer.new }
 {
-    panel::panel(
-        label,
-        size,
-        kind,
-        name,
-        pattern_size,
-        expression_kind,
-        expression_name,
-        expression_size,
+    let tables = Problem {
+        tree: Tree { label, size },
+        pattern: Pattern {
+            kind,
+            name,
+            size: pattern_size,
+        },
+        table: Table {
+            kind: expression_kind,
+            name: expression_name,
+            size: expression_size,
+        },
         constraint,
+    };
+    let asked = Problems {
+        tables,
         pattern_length,
         expression_length,
         constraint_length,
         budget,
         share,
-        records,
-        answer,
-    )
+    };
+    match panel::panel(&asked, records, answer) {
+        Ok(()) => 0,
+        Err(refusal) => u32::from(refusal),
+    }
 }
 
 #[unsafe(no_mangle)]
@@ -202,18 +214,21 @@ pub extern "C" fn khargovsun_test(
       constraint = constraint.now;
     }) «record».now result.code result.yes }
 {
-    answer::of_test(test::test(
-        label,
-        size,
-        kind,
-        name,
-        pattern_size,
-        expression_kind,
-        expression_name,
-        expression_size,
+    let problem = Problem {
+        tree: Tree { label, size },
+        pattern: Pattern {
+            kind,
+            name,
+            size: pattern_size,
+        },
+        table: Table {
+            kind: expression_kind,
+            name: expression_name,
+            size: expression_size,
+        },
         constraint,
-        record,
-    ))
+    };
+    answer::of_test(test::test(&problem, record))
 }
 
 #[tactic(auto, using(answer::proofs::Counts::rows_fit))]
@@ -230,16 +245,13 @@ pub extern "C" fn khargovsun_instance(
 ) -> Making
     ensures { Makes (lists label.now size.now kind.now name.now pattern_size.now «record».now) out_label.old out_size.old result.code result.rows out_label.new out_size.new }
 {
-    answer::of_instance(instance::instance(
-        label,
-        size,
+    let tree = Tree { label, size };
+    let pattern = Pattern {
         kind,
         name,
-        pattern_size,
-        record,
-        out_label,
-        out_size,
-    ))
+        size: pattern_size,
+    };
+    answer::of_instance(instance::instance(&tree, &pattern, record, out_label, out_size))
 }
 
 #[unsafe(no_mangle)]
@@ -255,7 +267,7 @@ pub extern "C" fn khargovsun_spelling(
 {
     let part = dictionary::spelling::part_of(dictionary, document, label, start, length, row);
     Part {
-        source: part.source,
+        source: u32::from(part.source),
         start: part.start,
         length: part.length,
     }

@@ -15,15 +15,11 @@ const START: [u32; 7] = [1, 99, 5, 9, 9, 4294967295, 3];
 const LENGTH: [u32; 6] = [1, 1, 5, 5, 6, 4294967295];
 
 fn print_row(rt: &impl Print, dictionary: &[u8], row: usize) -> io::Result<()> {
-    let document = DOCUMENT;
-    let label = LABEL;
-    let start = START;
-    let length = LENGTH;
-    rt.write_all(b"[")?;
+    print!(rt; "[")?;
     rt.write_all(dictionary::spelling::spelling(
-        dictionary, &document, &label, &start, &length, row,
+        dictionary, &DOCUMENT, &LABEL, &START, &LENGTH, row,
     ))?;
-    rt.write_all(b"]\n")
+    println!(rt; "]")
 }
 
 fn print_rows(rt: &impl Print, dictionary: &[u8]) -> io::Result<()> {

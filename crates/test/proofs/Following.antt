@@ -21,8 +21,9 @@ use Rattle.walk.specs.Packed.{Packed}
 use Rattle.walk.specs.Cycle.{stop_at, Needs, Agree, both_fail, both_need, both_ok}
 use Rattle.walk.specs.Onward.{Lands, Problem, BeginPre, BeginPost}
 use Rattle.walk.specs.Taken.{TakeAsked, TakePre, TakePost}
-use Rattle.walk.specs.declared.Out.{Out}
-use Rattle.walk.specs.declared.Out.TheVariants as out
+use Rattle.std.specs.Prelude.{Result, Ok, Err}
+use Rattle.walk.specs.declared.Halt.{Halt}
+use Rattle.walk.specs.declared.Halt.TheVariants as halt
 use Rattle.walk.proofs.Views.{fail_agree, need_agree, ok_agree, agree_same}
 use Rattle.choice.specs.Stops.{StopAt, AtStop, LeastPost, ValuesPost, LandingPre, LandingPost}
 use Rattle.choice.proofs.Stops.{many_range, at_room}
@@ -31,18 +32,18 @@ use Rattle.test.specs.Inside.{Walkable}
 use Rattle.test.specs.Followed.{FollowPre, FollowPost, lost, found}
 
 -- how many rows of the pattern are left where the walk asks
-abbrev pub left_over : Out → ℕ
-left_over out.Fail = 0
-left_over (out.Need w) = 257 - w.place
-left_over (out.Ok n) = 0
+abbrev pub left_over : Result ℕ Halt → ℕ
+left_over (Err halt.Fail) = 0
+left_over (Err (halt.Need w)) = 257 - w.place
+left_over (Ok n) = 0
 
-fewer : {L S R A K N Z : List ℕ} {Q : List Kind} {p m : ℕ} {f : List ℕ → Res} {o : Out} → Agree L S R A K N Z Q (p + 1) m [] f o → p < 256 → left_over o < 257 - p
+fewer : {L S R A K N Z : List ℕ} {Q : List Kind} {p m : ℕ} {f : List ℕ → Res} {o : Result ℕ Halt} → Agree L S R A K N Z Q (p + 1) m [] f o → p < 256 → left_over o < 257 - p
 fewer (both_fail e) l = omega arith
 fewer (both_need h n) l = omega arith
 fewer (both_ok e s g) l = omega arith
 
 -- where the walk stands after the choices ds; rs are left
-pub record Made (L S R A K N Z list : List ℕ) (T : Term) (P : Pattern) (Q : List Kind) (o : Out) : Type 0 where
+pub record Made (L S R A K N Z list : List ℕ) (T : Term) (P : Pattern) (Q : List Kind) (o : Result ℕ Halt) : Type 0 where
   pub ds : List ℕ
   pub rs : List ℕ
   pub all : choices Q list ≡ ds ++ rs
@@ -50,7 +51,7 @@ pub record Made (L S R A K N Z list : List ℕ) (T : Term) (P : Pattern) (Q : Li
   pub m : ℕ
   pub agrees : Agree L S R A K N Z Q p₀ m [] (λ es. walk_t Any any? P T 0 [] (ds ++ es)) o
 
-pub record Following (L S M list R A : List ℕ) (o : Out) : Type 0 where
+pub record Following (L S M list R A : List ℕ) (o : Result ℕ Halt) : Type 0 where
   pub long : length R ≡ 32
   pub rows_long : length A ≡ 256
   pub is : (K N Z : List ℕ) (T : Term) (P : Pattern) (Q : List Kind) → Walkable L S K N Z list T P Q → Packed K N Z M → Made L S R A K N Z list T P Q o
@@ -72,7 +73,7 @@ module _ {L S M list R : List ℕ} where
   pub follow_begins : {A : List ℕ} → FollowPre L S M list R → length A ≡ 256 → BeginPre L S M R A
   follow_begins p l = let s = p.some in record { some = (s.3, s.4, s.5, problem p.long l s.6 s.7) }
 
-  pub follow_first : {A R' A' : List ℕ} {o : Out} → FollowPre L S M list R → length A ≡ 256 → BeginPost L S M R A o R' A' → Following L S M list R' A' o
+  pub follow_first : {A R' A' : List ℕ} {o : Result ℕ Halt} → FollowPre L S M list R → length A ≡ 256 → BeginPost L S M R A o R' A' → Following L S M list R' A' o
   unfolding problem
   follow_first p l post =
       let s = p.some in
@@ -83,12 +84,12 @@ module _ {L S M list R : List ℕ} where
         is = λ K N Z T P Q w m. record { ds = []; rs = choices Q list; all = refl; p₀ = 0; m = _; agrees = (post.is T P Q (problem p.long l w m)).0 };
       }
 
-module _ {L S M list R A : List ℕ} {o : Out} (w : Following L S M list R A o) where
+module _ {L S M list R A : List ℕ} {o : Result ℕ Halt} (w : Following L S M list R A o) where
   -- the whole walk, from where it stands
   whole : {K N Z : List ℕ} {T : Term} {P : Pattern} {Q : List Kind} (h : Made L S R A K N Z list T P Q o) → walk Any any? P T (choices Q list) ≡ over (walk_t Any any? P T 0 [] (h.ds ++ h.rs))
   whole {T = T} {P = P} h = ap (walk Any any? P T) h.all
 
-  pub follow_fails : o ≡ out.Fail → FollowPost L S M list false R
+  pub follow_fails : o ≡ (Err halt.Fail) → FollowPost L S M list false R
   follow_fails e =
       record {
         long = w.long;
@@ -98,7 +99,7 @@ module _ {L S M list R A : List ℕ} {o : Out} (w : Following L S M list R A o) 
             rw (whole h, f) lost;
       }
 
-  pub follow_matches : {n : ℕ} → o ≡ out.Ok n → FollowPost L S M list true R
+  pub follow_matches : {n : ℕ} → o ≡ Ok n → FollowPost L S M list true R
   follow_matches {n} e =
       record {
         long = w.long;
@@ -115,11 +116,11 @@ module _ {L S M list R A : List ℕ} {o : Out} (w : Following L S M list R A o) 
       no_more ds [] l = refl
       no_more ds (r ∷ rs) l = absurd (omega (arith, length-append ds (r ∷ rs)))
 
-  module _ {p x t : ℕ} (e : o ≡ out.Need (stop_at p x t)) where
+  module _ {p x t : ℕ} (e : o ≡ Err (halt.Need (stop_at p x t))) where
     needs : {K N Z : List ℕ} {T : Term} {P : Pattern} {Q : List Kind} (h : Made L S R A K N Z list T P Q o)
         → (lo : ℕ) × (hi : ℕ) × Needs L S R A K N Z Q [] (λ es. walk_t Any any? P T 0 [] (h.ds ++ es)) p x t lo hi
     needs {K} {N} {Z} {T} {P} {Q} h =
-        let n = need_agree (subst (λ (o : Out). Agree L S R A K N Z Q h.p₀ h.m [] (λ es. walk_t Any any? P T 0 [] (h.ds ++ es)) o) e h.agrees) in
+        let n = need_agree (subst (λ (o : Result ℕ Halt). Agree L S R A K N Z Q h.p₀ h.m [] (λ es. walk_t Any any? P T 0 [] (h.ds ++ es)) o) e h.agrees) in
         (n.1, n.2, n.3)
 
     -- the next choice is the variable's own
@@ -235,7 +236,7 @@ module _ {L S M list R A : List ℕ} {o : Out} (w : Following L S M list R A o) 
                 let h = made pre in
                 record { some = (s.0, s.1, s.2, s.5, _, (needs h).0, (needs h).1, taking s.6 s.7 h) }
 
-            pub follow_goes : {o₁ : Out} {R₁ A₁ : List ℕ} → FollowPre L S M list R → TakePost L S M R A p x t u v o₁ R₁ A₁ → Following L S M list R₁ A₁ o₁
+            pub follow_goes : {o₁ : Result ℕ Halt} {R₁ A₁ : List ℕ} → FollowPre L S M list R → TakePost L S M R A p x t u v o₁ R₁ A₁ → Following L S M list R₁ A₁ o₁
             follow_goes {o₁} {R₁} {A₁} pre post =
                 let s = pre.some in
                 let h = made pre in
@@ -259,7 +260,7 @@ module _ {L S M list R A : List ℕ} {o : Out} (w : Following L S M list R A o) 
                 }
 
             -- it asks further right, if it asks
-            pub follow_right : {o₁ : Out} {R₁ A₁ : List ℕ} → FollowPre L S M list R → TakePost L S M R A p x t u v o₁ R₁ A₁ → left_over o₁ < left_over (out.Need (stop_at p x t))
+            pub follow_right : {o₁ : Result ℕ Halt} {R₁ A₁ : List ℕ} → FollowPre L S M list R → TakePost L S M R A p x t u v o₁ R₁ A₁ → left_over o₁ < left_over (Err (halt.Need (stop_at p x t)))
             follow_right {o₁} pre post =
                 let s = pre.some in
                 let h = made pre in
@@ -267,5 +268,5 @@ module _ {L S M list R A : List ℕ} {o : Out} (w : Following L S M list R A o) 
                 fewer y.1 (at_room (stops s.6 s.7 h)).0
 
 -- what is asked stays
-pub follow_still : {L S M list R₀ R A : List ℕ} {o : Out} → Following L S M list R A o → FollowPre L S M list R₀ → FollowPre L S M list R
+pub follow_still : {L S M list R₀ R A : List ℕ} {o : Result ℕ Halt} → Following L S M list R A o → FollowPre L S M list R₀ → FollowPre L S M list R
 follow_still w p = record { long = w.long; some = p.some }

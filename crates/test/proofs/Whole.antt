@@ -6,7 +6,10 @@ use mathlib.Core.Bool.{Bool, true, false}
 use mathlib.Core.List.{List}
 use lib.ListN.{length, get_or}
 use native.Mathlib.Omega.{arith}
+use Rattle.std.specs.Prelude.{Ok, Err}
 use Rattle.meaning.specs.Calls.{Says}
+use Rattle.meaning.specs.declared.refusal.Refusal.TheVariants.{Record}
+use Rattle.meaning.proofs.Refusals.{code_some}
 use Rattle.meaning.specs.Forest.{none, Term, ◌◂◌}
 use Rattle.meaning.specs.Pattern.{Pattern, Kind, old, look, Numbered}
 use Rattle.meaning.specs.Matcher.{Value}
@@ -16,9 +19,10 @@ use Rattle.meaning.proofs.Lists.{look_old, look_some}
 use Rattle.meaning.proofs.Steps.{kinds_length}
 use Rattle.meaning.proofs.Next.{Any, any?}
 use Rattle.meaning.proofs.Round.{round}
-use Rattle.meaning.proofs.Answers.{says_yes, says_no, said_no}
+use Rattle.meaning.proofs.Answers.{says_no, said_no}
 use Rattle.pattern.specs.Rows.{GoodPattern}
 use Rattle.pattern.specs.Known.{KindsAre}
+use Rattle.pattern.specs.declared.Variables.{Variables}
 use Rattle.record.specs.Pairs.{RecordPre, RecordPost}
 use Rattle.record.proofs.Each.{read_look}
 use Rattle.record.specs.Good.{GoodRecordList}
@@ -27,12 +31,10 @@ use Rattle.expression.specs.Expression.{Expression}
 use Rattle.constraint.specs.Obeys.{Constraint, Allowed}
 use Rattle.constraint.proofs.Allowed.{allowed?}
 use Rattle.problem.specs.Problem.{Lists, Poses, Codes}
-use Rattle.problem.specs.Answer.{Answered}
-use Rattle.problem.specs.declared.Problem.{Problem}
-use Rattle.problem.proofs.Posed.{Posed, codes_low, codes_high, the, known}
+use Rattle.problem.specs.Answer.{told, Answered}
+use Rattle.problem.proofs.Posed.{Posed, codes_high, the, known}
 use Rattle.test.specs.Tested.{Fifteen, TestSettled}
 use Rattle.test.specs.Inside.{Walkable, WalkablePre, PlacedPost, Constrained, ConstrainedPre, AllObey, ObeyedPost}
-use Rattle.test.specs.declared.Tested.TheVariants.{Refused, Yes, No}
 
 module _ {P : Pattern} {Q : List Kind} {T : Term} {list : List ℕ} (n : Numbered P Q) (good : GoodRecord Q (T ◂ none) list) where
   -- the value of each variable of a matcher is what its numbers mean
@@ -60,90 +62,72 @@ module _ {P : Pattern} {Q : List Kind} {T : Term} {list : List ℕ} (n : Numbere
   pub obeying : (cs : List Constraint) → IsRecord (Allowed cs) Q P T list → AllObey Q T cs list (length Q)
   obeying cs i = record { each = λ x k l e. i.solves.allowed x _ (its_value (allowed? cs) i x k e) }
 
-module _ (l : Lists) {r : Problem} (a : Answered l r) where
-  pub test_refused : (list : List ℕ) → (r.code ≡ 0 → ⊥) → TestSettled l list (Refused r.code)
-  test_refused list n =
-      record {
-        code = codes_low l (Fifteen l list) r.code n a.code;
-        yes_or_no = λ e. absurd (n e);
-        numbered = λ e. n (let z : r.code ≡ 0 = cc in z);
-      }
+-- what is known where it is accepted
+module _ (l : Lists) {v : Variables} (a : Answered l (told (Ok v))) where
+  pub record_asked : RecordPre l.size v.kinds v.count
+  record_asked = fits_asked (the a refl).poses.tree (known a refl (the a refl).poses.rest.pattern)
 
-  module _ (z : r.code ≡ 0) where
-    pub record_asked : RecordPre l.size r.kinds r.variables
-    record_asked = fits_asked (the a z).poses.tree (known a z (the a z).poses.rest.pattern)
+  module _ (list : List ℕ) {b : Bool} (post : RecordPost l.size v.kinds v.count list b) where
+    pub says_good : Says b (GoodRecordList l.label l.size l.kind l.name l.pattern_size list)
+    says_good = fits_judged (the a refl).poses.tree (the a refl).poses.rest.pattern (λ P Q g. known a refl g) post
 
-    module _ (list : List ℕ) {b : Bool} (post : RecordPost l.size r.kinds r.variables list b) where
-      pub says_good : Says b (GoodRecordList l.label l.size l.kind l.name l.pattern_size list)
-      says_good = fits_judged (the a z).poses.tree (the a z).poses.rest.pattern (λ P Q g. known a z g) post
-
-      pub test_bad_record : b ≡ false → TestSettled l list (Refused 15)
-      test_bad_record e =
-          record {
-            code = codes_high l (Fifteen l list) 15 (the a z) (inl (said_no says_good e, refl));
-            yes_or_no = λ h. absurd (omega arith);
-            numbered = λ h. let y : ◌≡◌ {A = ℕ} 15 0 = cc in omega arith;
-          }
+    pub test_bad_record : b ≡ false → TestSettled l list (Err Record)
+    test_bad_record e =
+        record {
+          code = codes_high l (Fifteen l list) 15 (the a refl) (inl (said_no says_good e, refl));
+          yes_or_no = λ h. absurd (code_some Record h);
+          numbered = λ f q. code_some f;
+        }
 
 -- lists that are accepted, and a record that fits them
-pub record Fitted (l : Lists) (r : Problem) (list : List ℕ) : Type 0 where
-  pub answered : Answered l r
-  pub passed : r.code ≡ 0
-  pub fits : RecordPost l.size r.kinds r.variables list true
+pub record Fitted (l : Lists) (v : Variables) (list : List ℕ) : Type 0 where
+  pub answered : Answered l (told (Ok v))
+  pub fits : RecordPost l.size v.kinds v.count list true
 
-module _ {l : Lists} {r : Problem} {list : List ℕ} (fitted : Fitted l r list) where
+pub fitted_in : (l : Lists) {v : Variables} (list : List ℕ) {b : Bool} → Answered l (told (Ok v)) → RecordPost l.size v.kinds v.count list b → b ≡ true → Fitted l v list
+fitted_in l list answered post e = record { answered = answered; fits = rw e at post }
+
+module _ {l : Lists} {v : Variables} {list : List ℕ} (fitted : Fitted l v list) where
   posed_for : Posed l
-  posed_for = the fitted.answered fitted.passed
+  posed_for = the fitted.answered refl
 
-  kinds_for : {P : Pattern} {Q : List Kind} → GoodPattern l.kind l.name l.pattern_size P Q → KindsAre Q r.variables r.kinds
-  kinds_for g = known fitted.answered fitted.passed g
+  kinds_for : {P : Pattern} {Q : List Kind} → GoodPattern l.kind l.name l.pattern_size P Q → KindsAre Q v.count v.kinds
+  kinds_for g = known fitted.answered refl g
 
   walkable : {T : Term} {P : Pattern} {Q : List Kind} {es : List Expression} {cs : List Constraint} → Poses l T P Q es cs → Walkable l.label l.size l.kind l.name l.pattern_size list T P Q
   walkable w = record { tree = w.tree; pattern = w.rest.pattern; good = (fits_says w.tree (kinds_for w.rest.pattern) fitted.fits).0 refl }
 
   accepted : Codes l (Fifteen l list) 0
-  accepted = codes_high l (Fifteen l list) 0 posed_for (inr ((says_good l fitted.answered fitted.passed list fitted.fits).0 refl, refl))
+  accepted = codes_high l (Fifteen l list) 0 posed_for (inr ((says_good l fitted.answered list fitted.fits).0 refl, refl))
 
-  pub placed_asked : WalkablePre l.label l.size l.kind l.name l.pattern_size r.variables list
-  placed_asked = record { some = (posed_for.T, posed_for.P, posed_for.Q, walkable posed_for.poses, (kinds_for posed_for.poses.rest.pattern).many) }
+  pub placed_asked : WalkablePre l list
+  placed_asked = record { some = (posed_for.T, posed_for.P, posed_for.Q, walkable posed_for.poses) }
 
-  constrained : {T : Term} {P : Pattern} {Q : List Kind} {es : List Expression} {cs : List Constraint} → Poses l T P Q es cs
-      → Constrained l.label l.size l.expression_kind l.expression_name l.expression_size l.constraint r.kinds list T Q es cs
+  constrained : {T : Term} {P : Pattern} {Q : List Kind} {es : List Expression} {cs : List Constraint} → Poses l T P Q es cs → Constrained l v.kinds list T Q es cs
   constrained w =
       let k = kinds_for w.rest.pattern in
       record { tree = w.tree; few = k.few; known = k.are; table = w.rest.table; given = w.rest.constraints; good = (walkable w).good }
 
-  pub obeyed_asked : ConstrainedPre l.label l.size l.expression_kind l.expression_name l.expression_size l.constraint r.kinds r.variables list
+  pub obeyed_asked : ConstrainedPre l v list
   obeyed_asked = record { some = (posed_for.T, posed_for.Q, posed_for.es, posed_for.cs, constrained posed_for.poses, (kinds_for posed_for.poses.rest.pattern).many) }
 
-  module _ {p : Bool} (placed : PlacedPost l.label l.size l.kind l.name l.pattern_size list p) where
-    pub test_elsewhere : p ≡ false → TestSettled l list No
+  -- the answer is right for every problem that the lists pose
+  settled : {answer : Bool} → ((T : Term) (P : Pattern) (Q : List Kind) (es : List Expression) (cs : List Constraint) → Poses l T P Q es cs
+      → Says answer (IsRecord (Allowed cs) Q P T list)) → TestSettled l list (Ok answer)
+  settled right = record { code = accepted; yes_or_no = λ h. right; numbered = λ f q. code_some f }
+
+  module _ {p : Bool} (placed : PlacedPost l list p) where
+    pub test_elsewhere : p ≡ false → TestSettled l list (Ok false)
     test_elsewhere e =
-        record {
-          code = accepted;
-          yes_or_no = λ h T P Q es cs w.
-              let g = walkable w in
-              says_no (λ i. said_no (placed.is T P Q g) e (without g.pattern.numbered g.good cs i));
-          numbered = λ h. let y : ◌≡◌ {A = ℕ} 0 1 = cc in omega arith;
-        }
+        settled (λ T P Q es cs w.
+        let g = walkable w in
+        says_no (λ i. said_no (placed.is T P Q g) e (without g.pattern.numbered g.good cs i)))
 
-    module _ (there : p ≡ true) {o : Bool} (obeyed : ObeyedPost l.label l.size l.expression_kind l.expression_name l.expression_size l.constraint r.kinds list o) where
-      pub test_yes : o ≡ true → TestSettled l list Yes
-      test_yes e =
-          record {
-            code = accepted;
-            yes_or_no = λ h T P Q es cs w.
-                let g = walkable w in
-                says_yes (with_constraints g.pattern.numbered g.good cs ((placed.is T P Q g).0 there) ((obeyed.is T Q es cs (constrained w)).0 e));
-            numbered = λ h. let y : ◌≡◌ {A = ℕ} 0 1 = cc in omega arith;
-          }
-
-      pub test_no : o ≡ false → TestSettled l list No
-      test_no e =
-          record {
-            code = accepted;
-            yes_or_no = λ h T P Q es cs w.
-                let g = walkable w in
-                says_no (λ i. said_no (obeyed.is T Q es cs (constrained w)) e (obeying g.pattern.numbered g.good cs i));
-            numbered = λ h. let y : ◌≡◌ {A = ℕ} 0 1 = cc in omega arith;
-          }
+    pub test_there : p ≡ true → {o : Bool} → ObeyedPost l v list o → TestSettled l list (Ok o)
+    test_there there obeyed =
+        settled (λ T P Q es cs w.
+        let g = walkable w in
+        let s = obeyed.is T Q es cs (constrained w) in (
+          λ e. with_constraints g.pattern.numbered g.good cs ((placed.is T P Q g).0 there) (s.0 e),
+          λ i. s.1 (obeying g.pattern.numbered g.good cs i),
+        ))

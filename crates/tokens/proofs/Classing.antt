@@ -1,54 +1,36 @@
 -- The table of all bytes from that of the ASCII codes.
 use mathlib.Core.Path.{◌≡◌, refl, sym, ap, ◌∙◌}
 use mathlib.Core.Bool.{Bool, true, false}
-use mathlib.Core.List.{List}
-use Prim.Native.Nat.{ℕ, ◌+◌, ◌≤◌, ◌<◌}
+use mathlib.Core.List.{List, ◌++◌}
+use Prim.Native.Nat.{ℕ, ◌+◌, ◌-◌, ◌≤◌, ◌<◌}
 use native.Mathlib.Omega.{arith}
 use native.Mathlib.Decide.{ℕ_discrete}
 use lib.Dec.{ltb}
-use lib.ListN.{length, get_or, set, replicate, length-set, length-replicate, get_or-replicate}
+use lib.ListN.{length, get_or, set, drop, replicate, length-set, get_or-replicate, length-append}
+use Rattle.std.proofs.lemmas.List.{get_or_append_left, get_or-append_right, get_or-drop}
 use lib.Seq.{get_or-set_same, get_or-set_other}
 use borrow.Author.Tests.{lt-ltb, ltb-true, ltb-false}
 use Rattle.grammar.specs.Classes.{class_number}
-use Rattle.tokens.specs.Tokens.{Coded, Spread, Classed, stop_number}
+use Rattle.tokens.specs.Tokens.{Coded, Spread, stop_number}
 
 -- a byte over 127 has no class
 pub no_class : (b : ℕ) → 127 < b → class_number b ≡ 0
 unfolding class_number
 no_class b h = simp (lt-ltb 127 b h)
 
--- the classes of the bytes below k are there, and none behind
-pub record Spreading (k : ℕ) (l : List ℕ) : Type 0 where
-  pub few : k ≤ 128
-  pub long : length l ≡ 512
-  pub done : (j : ℕ) → j < k → get_or l j 0 ≡ class_number j
-  pub rest : (j : ℕ) → k ≤ j → j < 512 → get_or l j 0 ≡ 0
-
-pub spreading : Spreading 0 (replicate 512 0)
-spreading = record {
-  few = omega arith;
-  long = length-replicate {A = ℕ} 512 0;
-  done = λ j h. absurd (omega arith);
-  rest = λ j h p. get_or-replicate {A = ℕ} 512 j 0 0 p;
+-- the classes of the ASCII codes, and then noughts
+pub spread_all : (codes : List ℕ) → length codes ≡ 128 → Coded codes → Spread (codes ++ drop 128 (replicate 512 0))
+spread_all codes many c = record {
+  long = length-append codes (drop 128 (replicate 512 0)) ∙ omega (arith, many);
+  each = λ k h. go k h (ltb k 128) refl;
 }
-
-pub spread_more : {codes l : List ℕ} {k : ℕ} → Coded codes → Spreading k l → k < 128 → Spreading (k + 1) (set l k (get_or codes k 0))
-spread_more {codes} {l} {k} c h p = record {
-  few = omega arith;
-  long = length-set l k (get_or codes k 0) ∙ h.long;
-  done = λ j q. elim (ℕ_discrete j k) [
-    | yes e ↦ rw e (get_or-set_same l k (get_or codes k 0) 0 (omega (arith, h.long)) ∙ c.each k p)
-    | no e ↦ get_or-set_other l k j (get_or codes k 0) 0 e ∙ h.done j (omega (arith, q, e))
-  ];
-  rest = λ j q r. get_or-set_other l k j (get_or codes k 0) 0 (λ e. omega (arith, q, e)) ∙ h.rest j (omega (arith, q)) r;
-}
-
-pub spread_all : {l : List ℕ} {k : ℕ} → Spreading k l → 128 ≤ k → Spread l
-spread_all {l} {k} h p = record { long = h.long; each = λ j q. go j q (ltb j k) refl }
   where
-    go : (j : ℕ) → j < 256 → (t : Bool) → ltb j k ≡ t → get_or l j 0 ≡ class_number j
-    go j q true e = h.done j (ltb-true j k e)
-    go j q false e = h.rest j (ltb-false j k e) (omega (arith, q)) ∙ sym (no_class j (omega (arith, ltb-false j k e)))
+    go : (k : ℕ) → k < 256 → (t : Bool) → ltb k 128 ≡ t → get_or (codes ++ drop 128 (replicate 512 0)) k 0 ≡ class_number k
+    go k h true e = let p : k < 128 = ltb-true k 128 e in get_or_append_left codes (drop 128 (replicate 512 0)) 0 k (omega (arith, many)) ∙ c.each k p
+    go k h false e =
+        let p : 128 ≤ k = ltb-false k 128 e in
+        get_or-append_right codes (drop 128 (replicate 512 0)) 128 k 0 many p ∙ get_or-drop 128 (replicate 512 0) (k - 128) 0
+        ∙ get_or-replicate {A = ℕ} 512 (128 + (k - 128)) 0 0 (omega arith) ∙ sym (no_class k (omega arith))
 
 -- and behind the classes which of the bytes below k stop plain text
 pub record Stopping (k : ℕ) (l : List ℕ) : Type 0 where
@@ -71,6 +53,3 @@ stop_more {l} {k} {s} h p e = record {
     | no z ↦ get_or-set_other l (256 + k) (256 + j) s 0 (λ y. z (omega (arith, y))) ∙ h.done j (omega (arith, q, z))
   ];
 }
-
-pub stop_all : {l : List ℕ} {k : ℕ} → Stopping k l → 256 ≤ k → Classed l
-stop_all h p = record { each = h.spread.each; stops = λ j q. h.done j (omega (arith, p, q)) }

@@ -1,4 +1,5 @@
 pub mod Table
 pub mod Spans
+pub mod Blocks
 pub mod Classing
 pub mod Counting

@@ -199,19 +199,6 @@ passed_block {test} {w} {a} {i} n h p e = record { from = omega (arith, h.from);
         let z : i + (k - i) ≡ k = omega (arith, ltb-false k i u) in
         rw z at (e (k - i) (omega (arith, ltb-false k i u)))
 
-both_left : (a b : Bool) → (a && b) ≡ true → a ≡ true
-both_left true b h = refl
-both_left false b h = h
-
-both_right : (a b : Bool) → (a && b) ≡ true → b ≡ true
-both_right true b h = h
-both_right false b h = absurd (true≢false (sym h))
-
--- tests that are joined without a branch
-pub all_more : (test : ℕ → Bool) (i n : ℕ) (all one : Bool) → (all ≡ true → (k : ℕ) → k < n → test (i + k) ≡ true) → one ≡ test (i + n) →
-    (all && one) ≡ true → (k : ℕ) → k < n + 1 → test (i + k) ≡ true
-all_more test i n all one h e t = below_more (λ (k : ℕ). test (i + k) ≡ true) n (h (both_left all one t)) (sym e ∙ both_right all one t)
-
 pub passed_then : {test other : ℕ → Bool} {w : List ℕ} {a b r : ℕ} → Passed test w a b → Passed other w b r → ((k : ℕ) → other k ≡ true → test k ≡ true) → Passed test w a r
 passed_then {test} {other} {w} {a} {b} {r} h j e = record { from = omega (arith, h.from, j.from); within = j.within; each = λ k q u. go k q u (ltb k b) refl }
   where
@@ -226,8 +213,8 @@ span_then h j = record { passed = passed_then h j.passed (λ k e. e); stop = j.s
 pub stops_to : {test : ℕ → Bool} {w : List ℕ} {a limit i : ℕ} → Passed test w a i → i ≤ limit → test i ≡ false → SpanTo test w a limit i
 stops_to h l e = record { passed = h; below = l; stop = λ p. e }
 
-pub at_limit : {test : ℕ → Bool} {w : List ℕ} {a limit i : ℕ} → Passed test w a i → i ≤ limit → limit ≤ i → SpanTo test w a limit i
-at_limit h l e = record { passed = h; below = l; stop = λ p. absurd (omega arith) }
+pub at_limit : {test : ℕ → Bool} {w : List ℕ} {a limit i : ℕ} → Passed test w a i → i ≤ limit → limit ≤ i → SpanTo test w a limit limit
+at_limit {test} {w} {a} {limit} {i} h l e = let z : i ≡ limit = omega arith in record { passed = rw z at h; below = omega arith; stop = λ p. absurd (omega arith) }
 
 pub stops : {test : ℕ → Bool} {w : List ℕ} {a i : ℕ} → Passed test w a i → test i ≡ false → Span test w a i
 stops h e = record { passed = h; stop = λ p. e }
@@ -237,6 +224,9 @@ stopped_early h l = stops h.passed (h.stop l)
 
 pub at_end : {test : ℕ → Bool} {w : List ℕ} {a i : ℕ} → Passed test w a i → length w ≤ i → Span test w a i
 at_end h e = record { passed = h; stop = λ p. absurd (omega arith) }
+
+pub through : {test : ℕ → Bool} {w : List ℕ} {a i : ℕ} → Passed test w a i → length w ≤ i → Span test w a (length w)
+through {test} {w} {a} {i} h e = let z : i ≡ length w = omega (arith, h.within) in rw z at (at_end h e)
 
 -- the name that stands again
 pub same_yes : (w : List ℕ) (name a i k e : ℕ) → k ≡ name + (i - a) → e ≡ get_or w k 0 → name_byte e ≡ true → get_or w i 0 ≡ e → same_at w name a i ≡ true

@@ -41,43 +41,40 @@ fn stop_of(c: u8) -> u8
 fn spread() -> [u8; 512]
     ensures { Spread result }
 {
-    let codes = codes();
     let mut class = [0u8; 512];
-    let mut k: usize = 0;
-    while k < 128 {
-        class[k] = codes[k];
-        k += 1;
-    }
+    class[..128].copy_from_slice(&codes());
     class
 }
 
 // The table that is lent to whoever looks at bytes: the class of each byte, and then whether the byte stops plain text.
-pub fn table() -> [u8; 512]
-    ensures { Classed result }
-{
-    let mut class = spread();
-    let mut k: usize = 0;
-    while k < 256 {
-        class[256 + k] = stop_of(class[k]);
-        k += 1;
+#[derive(Drop)]
+pub struct Classes {
+    class: [u8; 512],
+    ghost classed: { Classed class },
+}
+
+impl Classes {
+    pub fn new() -> Classes {
+        let mut class = spread();
+        for k in 0..256 {
+            class[256 + k] = stop_of(class[k]);
+        }
+        Classes { class }
     }
-    class
-}
 
-pub fn class_of(class: &[u8; 512], b: u8) -> u8
-    requires { Classed class.now }
-    ensures { result ≡ class_number b }
-{
-    let i = b as usize;
-    class[i]
-}
+    pub fn class_of(&self, b: u8) -> u8
+        ensures { result ≡ class_number b }
+    {
+        let i = b as usize;
+        self.class[i]
+    }
 
-pub fn stops(class: &[u8; 512], b: u8) -> u32
-    requires { Classed class.now }
-    ensures { (result ≡ stop_number (class_number b)) × (result ≤ 1) }
-{
-    let i = 256 + b as usize;
-    class[i] as u32
+    pub fn stops(&self, b: u8) -> u32
+        ensures { (result ≡ stop_number (class_number b)) × (result ≤ 1) }
+    {
+        let i = 256 + b as usize;
+        self.class[i] as u32
+    }
 }
 
 // The byte at k, and behind the end 0, which no document has.

@@ -10,7 +10,7 @@ use Rattle.meaning.specs.Forest.{Forest, rows, Context, hole, node}
 use Rattle.meaning.specs.Read.{forest_from_row}
 use Rattle.meaning.proofs.From.{from_zero}
 use Rattle.tree.specs.Places.{TermsAt, Next, Level, ContextAt, at_hole, at_node}
-use Rattle.tree.specs.Helpers.{ChildPre, ChildPost, ListPre, ListPost}
+use Rattle.tree.specs.Helpers.{Child, Ahead, ChildPre, ChildPost, ListPre, ListPost}
 use Rattle.tree.proofs.Terms.{terms_le, term_next, term_size, first_at}
 use Rattle.tree.proofs.Cuts.{from_inside, from_behind}
 
@@ -26,20 +26,6 @@ hole_here (at_node x p q k) h = absurd (omega (arith, terms_le x.before))
 pub a_node : {L S : List ℕ} {a b : ℕ} {c : Context} → ContextAt L S a b c → a ≢ b → (l : ℕ) × (left : Forest) × (d : Context) × (right : Forest) × ContextAt L S a b (node l left d right)
 a_node (at_hole n e) f = absurd (f e)
 a_node (at_node {l = l} {left = left} {right = right} {c = d} x p q k) f = (l, left, d, right, at_node x p q k)
-
--- the child that holds the row b is at w; the terms from u up to it are before it
-pub record Child (L S : List ℕ) (a b u l : ℕ) (left : Forest) (c : Context) (right : Forest) : Type 0 where
-  pub at : ℕ
-  pub between : Forest
-  pub level : Level L S a at l left right
-  pub inner : ContextAt L S at b c
-  pub low : at ≤ b
-  pub high : b < at + get_or S at 0
-  pub before : TermsAt L S u at between
-
--- the child is not before u
-pub record Ahead (S : List ℕ) (a b u : ℕ) : Type 0 where
-  pub is : (L : List ℕ) (l : ℕ) (left : Forest) (c : Context) (right : Forest) → ContextAt L S a b (node l left c right) → Child L S a b u l left c right
 
 pub ahead_first : (S : List ℕ) (a b : ℕ) → Ahead S a b (a + 1)
 ahead_first S a b = record { is = go }

@@ -6,21 +6,21 @@ ghost use Rattle.tree.specs.Rows.{Below, GoodRows};
 ghost use Rattle.tree.specs.Shape.{Shape};
 ghost use Rattle.tree.specs.Endings.{Told, EndingPost, NestedPre};
 ghost use Rattle.tree.specs.Places.{SameRows};
-ghost use Rattle.tree.specs.Helpers.{SamePre, CountPre, CountPost, PastPre, PastPost, ChildPre, ChildPost, ListPre, ListPost};
+ghost use Rattle.tree.specs.Helpers.{SamePre, CountPre, CountPost, PastPre, PastPost, HolderPre, HolderPost, ChildPre, ChildPost, ListPre, ListPost};
 
-// The number at i.
+// A tree as it is lent: the label and the size of each row, in preorder.
+#[derive(Clone, Copy)]
+pub struct Tree<'a> {
+    pub label: &'a [u32],
+    pub size: &'a [u32],
+}
+
+// The number at i as a place, by one name: `s[i] as usize` in forty places would say no more, and each would ask again that i is in the list.
 pub fn at(s: &[u32], i: usize) -> usize
     requires { i < length s.now }
     ensures { (result ≡ get_or s.now i 0) × (result < 4294967296) }
 {
     s[i] as usize
-}
-
-// The number, wider.
-fn wide(x: u16) -> usize
-    ensures { result ≡ x }
-{
-    x as usize
 }
 
 // The row after the term at the row.
@@ -37,17 +37,12 @@ fn ending(size: &[u32], closing: &mut [u16; 2049]) -> bool
     ensures { EndingPost size.now closing.new result }
 {
     let rows = size.len();
-    let mut row = 0;
-    while row < rows {
+    for row in 0..rows {
         let after = next(size, row);
-        if after == row {
-            return false;
-        }
-        if rows < after {
+        if after == row || rows < after {
             return false;
         }
         closing[after] += 1;
-        row += 1;
     }
     true
 }
@@ -63,9 +58,8 @@ fn nested(size: &[u32], closing: &[u16; 2049]) -> bool
     let mut ends = [0usize; 64];
     ends[0] = rows;
     let mut opened = 1;
-    let mut row = 1;
-    while row < rows {
-        let depth = opened - wide(closing[row]);
+    for row in 1..rows {
+        let depth = opened - usize::from(closing[row]);
         let after = next(size, row);
         if ends[depth - 1] < after {
             return false;
@@ -75,7 +69,6 @@ fn nested(size: &[u32], closing: &[u16; 2049]) -> bool
         }
         ends[depth] = after;
         opened = depth + 1;
-        row += 1;
     }
     true
 }
@@ -107,42 +100,35 @@ pub fn below(s: &[u32], limit: u32) -> bool
     ensures { Says result (Below limit s.now) }
 {
     // No branch depends on a number, so that many are compared at once.
-    let mut all = true;
-    let mut i = 0;
-    while i < s.len() {
-        all = all & (s[i] < limit);
-        i += 1;
-    }
-    all
+    s.iter().fold(true, |all, x| all & (*x < limit))
 }
 
 // The tree check.
-pub fn good(label: &[u32], size: &[u32]) -> bool
-    ensures { Says result (GoodRows label.now size.now) }
+pub fn good(tree: &Tree) -> bool
+    ensures { Says result (GoodRows tree.now.label.now tree.now.size.now) }
 {
-    if label.len() != size.len() {
+    if tree.label.len() != tree.size.len() {
         return false;
     }
-    if below(label, 65536) {
-        return shape(size);
-    }
-    false
+    below(tree.label, 65536) && shape(tree.size)
 }
 
 // Whether k rows from a on are those from t on.
-pub fn same(label: &[u32], size: &[u32], a: usize, t: usize, k: usize) -> bool
-    requires { SamePre label.now size.now a t k }
-    ensures { Says result (SameRows label.now size.now a t k) }
+pub fn same(tree: &Tree, a: usize, t: usize, k: usize) -> bool
+    requires { SamePre tree.now.label.now tree.now.size.now a t k }
+    ensures { Says result (SameRows tree.now.label.now tree.now.size.now a t k) }
 {
-    let mut i = 0;
-    while i < k {
+    // The lists are looked up once: compiled without proof, a loop that reaches them through the tree takes a repeated context a twelfth longer.
+    let label = tree.label;
+    let size = tree.size;
+    // Row by row: most terms that are compared are small, and two slices of few numbers take `==` half as long again.
+    for i in 0..k {
         if label[a + i] != label[t + i] {
             return false;
         }
         if size[a + i] != size[t + i] {
             return false;
         }
-        i += 1;
     }
     true
 }
@@ -166,11 +152,23 @@ pub fn past(size: &[u32], t: usize, c: usize) -> usize
     requires { PastPre size.now t c }
     ensures { PastPost size.now t c result }
 {
-    let mut i = 0;
     let mut u = t;
-    while i < c {
+    for _ in 0..c {
         u = next(size, u);
-        i += 1;
+    }
+    u
+}
+
+// The term that holds the row b: the one at the row `from` or a neighbour behind it.
+pub fn holder(size: &[u32], from: usize, b: usize) -> usize
+    requires { HolderPre size.now from b }
+    ensures { HolderPost size.now from b result }
+{
+    let mut u = from;
+    let mut e = next(size, u);
+    while e <= b {
+        u = e;
+        e = next(size, u);
     }
     u
 }
@@ -180,13 +178,7 @@ pub fn child(size: &[u32], a: usize, b: usize) -> usize
     requires { ChildPre size.now a b }
     ensures { ChildPost size.now a b result }
 {
-    let mut u = a + 1;
-    let mut e = next(size, u);
-    while e <= b {
-        u = e;
-        e = next(size, u);
-    }
-    u
+    holder(size, a + 1, b)
 }
 
 // The end of the argument list in which the row stands; the root's is the length.

@@ -13,8 +13,7 @@ use Rattle.meaning.specs.Record.{Entry, second}
 use Rattle.meaning.proofs.Laws.{cut_plugs, plug_cut}
 use Rattle.tree.specs.Places.{TermAt, ContextAt}
 use Rattle.compare.specs.Appear.{Fits, misfit, fitting, FitsPre, FitsPost}
-use Rattle.compare.specs.declared.Found.{Found}
-use Rattle.compare.specs.declared.Found.TheVariants as found
+use Rattle.std.specs.Prelude.{Option, Some, None}
 use Rattle.variable.specs.State.{ValueAt, a_term, some_terms, a_label, a_context_value, State}
 use Rattle.variable.specs.Steps.{chose_need, context_to, InHole, ContextPre, ContextPost}
 use Rattle.variable.specs.declared.Step.TheVariants as step
@@ -27,10 +26,10 @@ context_of (some_terms T) e = let z : ◌≡◌ {A = ℕ} 0 1 = cc in absurd (om
 context_of (a_label h f) e = let z : ◌≡◌ {A = ℕ} 0 1 = cc in absurd (omega arith)
 context_of (a_context_value {c = c} x) e = (c, refl, x)
 
-misfit_of : {L S : List ℕ} {t : ℕ} {c : Context} {T : Term} → Fits L S t c T found.Fail → c ≢ (cut T (hole_row c)).around
+misfit_of : {L S : List ℕ} {t : ℕ} {c : Context} {T : Term} → Fits L S t c T None → c ≢ (cut T (hole_row c)).around
 misfit_of {c = c} {T = T} (misfit h) e = h (cut T (hole_row c)).at (ap (λ (d : Context). plug d (cut T (hole_row c)).at) e ∙ cut_plugs T (hole_row c))
 
-fitting_of : {L S : List ℕ} {t h : ℕ} {c : Context} {T : Term} → Fits L S t c T (found.At h)
+fitting_of : {L S : List ℕ} {t h : ℕ} {c : Context} {T : Term} → Fits L S t c T (Some h)
     → (c ≡ (cut T (hole_row c)).around) × (t + hole_row c ≡ h) × TermAt L S h (cut T (hole_row c)).at.label (cut T (hole_row c)).at.args
 fitting_of {L} {S} {t} {h} {c} {T} (fitting U e r x) =
     let z : cut T (hole_row c) ≡ record { around = c; at = U } = ap (λ (W : Term). cut W (hole_row c)) (sym e) ∙ plug_cut c U in
@@ -60,8 +59,8 @@ module _ {L S R : List ℕ} {x t n : ℕ} where
         let w = its_context f ea eb s.2 s.3 in
         record { here = (w.1, w.3); there = p.tree }
 
-    module _ {o : Found} (fits : FitsPost L S a b t o) where
-      pub context_differs : o ≡ found.Fail → ContextPost L S R x t n step.Fail
+    module _ {o : Option ℕ} (fits : FitsPost L S a b t o) where
+      pub context_differs : o ≡ None → ContextPost L S R x t n step.Fail
       context_differs g =
           record {
             is = λ Q T B H comes state.
@@ -73,7 +72,7 @@ module _ {L S R : List ℕ} {x t n : ℕ} where
                 unlike_before state t (t + rows T.args) t (context_to T) (InHole L S t T) comes f w.0 h;
           }
 
-      pub context_again : {h : ℕ} → o ≡ found.At h → ContextPost L S R x t n (step.Go h)
+      pub context_again : {h : ℕ} → o ≡ Some h → ContextPost L S R x t n (step.Go h)
       context_again {h} g =
           record {
             is = λ Q T B H comes state.

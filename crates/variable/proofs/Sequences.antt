@@ -5,7 +5,7 @@ use mathlib.Core.Logic.{◌≢◌}
 use mathlib.Core.List.{List}
 use lib.ListN.{length, get_or}
 use native.Mathlib.Omega.{arith}
-use Rattle.meaning.specs.Forest.{Forest, some, terms}
+use Rattle.meaning.specs.Forest.{Forest, terms}
 use Rattle.meaning.specs.Read.{take_t, span}
 use Rattle.meaning.specs.Pattern.{Kind, a_sequence, Comes}
 use Rattle.meaning.specs.Matcher.{Value, of_sequence, kind}
@@ -14,8 +14,7 @@ use Rattle.tree.specs.Places.{TermsAt}
 use Rattle.tree.proofs.Terms.{terms_rows}
 use Rattle.compare.specs.Appear.{AgainPre, AgainPost}
 use Rattle.compare.proofs.Remaining.{another_of, again_of}
-use Rattle.compare.specs.declared.Found.{Found}
-use Rattle.compare.specs.declared.Found.TheVariants as found
+use Rattle.std.specs.Prelude.{Option, Some, None}
 use Rattle.variable.specs.State.{ValueAt, a_term, some_terms, a_label, a_context_value, State}
 use Rattle.variable.specs.Steps.{chose_need, first_terms, Behind, SequencePre, SequencePost}
 use Rattle.variable.specs.declared.Step.TheVariants as step
@@ -51,8 +50,8 @@ module _ {L S R : List ℕ} {x t e n : ℕ} where
         let w = its_terms f ea ec s.2 s.3 in
         record { earlier = (w.1, w.2, w.4, w.5); tree = p.tree }
 
-    module _ {o : Found} (later : AgainPost L S a c t e o) where
-      pub sequence_differs : o ≡ found.Fail → SequencePost L S R x t e n step.Fail
+    module _ {o : Option ℕ} (later : AgainPost L S a c t e o) where
+      pub sequence_differs : o ≡ None → SequencePost L S R x t e n step.Fail
       sequence_differs g =
           record {
             is = λ Q us B T comes state.
@@ -64,7 +63,7 @@ module _ {L S R : List ℕ} {x t e n : ℕ} where
                 unlike_before state 0 (terms us) t (first_terms us) (Behind L S t e us) comes f w.0 h;
           }
 
-      pub sequence_again : {u : ℕ} → o ≡ found.At u → SequencePost L S R x t e n (step.Go u)
+      pub sequence_again : {u : ℕ} → o ≡ Some u → SequencePost L S R x t e n (step.Go u)
       sequence_again {u} g =
           record {
             is = λ Q us B T comes state.

@@ -21,7 +21,7 @@ use Rattle.meaning.proofs.Answers.{said_no}
 use Rattle.compare.specs.Appear.{AlikePre, AlikePost}
 use Rattle.variable.specs.State.{ValueAt, a_term, some_terms, a_label, a_context_value, State, zero_of_individual, zero_of_function}
 use Rattle.variable.specs.Steps.{meets_fail, meets_ok, IndividualPre, IndividualPost, HeadPre, HeadPost}
-use Rattle.variable.specs.declared.Bound.TheVariants as bound
+use Rattle.std.specs.Prelude.{Some, None}
 use Rattle.variable.proofs.States.{kept_same, kept_both, put_both, is_new, in_room, earlier, state_more}
 use Rattle.variable.proofs.Choices.{when_no}
 
@@ -53,7 +53,7 @@ module _ {L S R : List ℕ} {x t n : ℕ} where
       let s = p.variable.some in
       (in_room s.2 s.3, omega (arith, s.2.small, (term_next p.tree.2).labelled))
 
-  pub individual_first : {R' : List ℕ} → x ≡ n → R' ≡ set (set R (n + n) t) (n + n + 1) 0 → IndividualPost L S R x t n (bound.Ok (n + 1)) R'
+  pub individual_first : {R' : List ℕ} → x ≡ n → R' ≡ set (set R (n + n) t) (n + n + 1) 0 → IndividualPost L S R x t n (Some (n + 1)) R'
   individual_first e h =
       record {
         is = λ Q l us B T comes state.
@@ -81,7 +81,7 @@ module _ {L S R : List ℕ} {x t n : ℕ} where
           record { here = (some w.0 w.1 none, rw en (alone_at w.3)); there = (some p.tree.0 p.tree.1 none, rw et (alone_at p.tree.2)) }
 
       module _ {r : Bool} (alike : AlikePost L S a na t nt r) where
-        pub individual_same : r ≡ true → IndividualPost L S R x t n (bound.Ok n) R
+        pub individual_same : r ≡ true → IndividualPost L S R x t n (Some n) R
         individual_same g =
             record {
               is = λ Q l us B T comes state.
@@ -92,7 +92,7 @@ module _ {L S R : List ℕ} {x t n : ℕ} where
                   (meets_ok {k = n} (omega (arith, comes.near)) state (λ cs. rw (i, when_yes (same? (of_individual w.0 w.1) (of_individual l us)) (ok B cs) y)), kept_same);
             }
 
-        pub individual_differs : r ≡ false → IndividualPost L S R x t n bound.Fail R
+        pub individual_differs : r ≡ false → IndividualPost L S R x t n None R
         individual_differs g =
             record {
               is = λ Q l us B T comes state.
@@ -105,7 +105,7 @@ module _ {L S R : List ℕ} {x t n : ℕ} where
 
 -- symbols
 module _ {L R : List ℕ} {kind x t n y : ℕ} (e : kind ≡ 0) (ey : y ≡ get_or L t 0) where
-  pub symbol_same : x ≡ y → HeadPost L R kind x t n (bound.Ok n) R
+  pub symbol_same : x ≡ y → HeadPost L R kind x t n (Some n) R
   symbol_same f =
       record {
         symbol = λ _ S Q B state.
@@ -113,7 +113,7 @@ module _ {L R : List ℕ} {kind x t n y : ℕ} (e : kind ≡ 0) (ey : y ≡ get_
         function = λ g. absurd (g e);
       }
 
-  pub symbol_differs : x ≢ y → HeadPost L R kind x t n bound.Fail R
+  pub symbol_differs : x ≢ y → HeadPost L R kind x t n None R
   symbol_differs f =
       record {
         symbol = λ _ S Q B state.
@@ -137,7 +137,7 @@ module _ {L R : List ℕ} {kind x t n : ℕ} (e : kind ≢ 0) where
       let s = (p.variable e).1.some in
       (in_room s.2 s.3, omega (arith, s.2.small, p.row))
 
-  pub function_first : {R' : List ℕ} → t < length L → x ≡ n → R' ≡ set (set R (n + n) t) (n + n + 1) 0 → HeadPost L R kind x t n (bound.Ok (n + 1)) R'
+  pub function_first : {R' : List ℕ} → t < length L → x ≡ n → R' ≡ set (set R (n + n) t) (n + n + 1) 0 → HeadPost L R kind x t n (Some (n + 1)) R'
   function_first w f h =
       record {
         symbol = λ g. absurd (e g);
@@ -159,7 +159,7 @@ module _ {L R : List ℕ} {kind x t n : ℕ} (e : kind ≢ 0) where
         (its_label f ea s.2 s.3).1
 
     module _ {u v : ℕ} (eu : u ≡ get_or L a 0) (ev : v ≡ get_or L t 0) where
-      pub function_same : u ≡ v → HeadPost L R kind x t n (bound.Ok n) R
+      pub function_same : u ≡ v → HeadPost L R kind x t n (Some n) R
       function_same g =
           record {
             symbol = λ h. absurd (e h);
@@ -169,7 +169,7 @@ module _ {L R : List ℕ} {kind x t n : ℕ} (e : kind ≢ 0) where
                 (meets_ok {k = n} (omega (arith, comes.near)) state (λ cs. rw (i, when_yes (same? (of_function (get_or L a 0)) (of_function (get_or L t 0))) (ok B cs) y)), kept_same);
           }
 
-      pub function_differs : u ≢ v → HeadPost L R kind x t n bound.Fail R
+      pub function_differs : u ≢ v → HeadPost L R kind x t n None R
       function_differs g =
           record {
             symbol = λ h. absurd (e h);

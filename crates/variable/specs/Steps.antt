@@ -1,5 +1,5 @@
 -- Not needed to believe the promise: what the steps of a walk at a symbol or a variable ask and answer.
-use Rattle.std.specs.Prelude.{ℕ, ◌+◌, ◌<◌, ◌≡◌, ◌≢◌, List, length, get_or}
+use Rattle.std.specs.Prelude.{ℕ, ◌+◌, ◌<◌, ◌≡◌, ◌≢◌, List, length, get_or, Option, Some, None}
 use Rattle.std.proofs.Math.Decide.{ℕ_discrete}
 use Rattle.meaning.specs.Forest.{Forest, Term, rows, terms}
 use Rattle.meaning.specs.Read.{take_t, cut}
@@ -11,16 +11,14 @@ use Rattle.meaning.proofs.Walk.{Res, fail, ok, when, meet, choose}
 use Rattle.meaning.proofs.Next.{Any, any?}
 use Rattle.tree.specs.Places.{TermsAt, TermAt}
 use Rattle.variable.specs.State.{State, Kept}
-use Rattle.variable.specs.declared.Bound.{Bound}
-use Rattle.variable.specs.declared.Bound.TheVariants as bound
 use Rattle.variable.specs.declared.Step.{Step}
 use Rattle.variable.specs.declared.Step.TheVariants as step
 
 -- the answer at a symbol or a variable without choices, with the record R, is the walk's, which f says for each list of choices;
 -- where it goes on, m variables are bound
-pub data Meets (L S R : List ℕ) (Q : List Kind) (m : ℕ) (f : List ℕ → Res) : Bound → Type 0 where
-  meets_fail : ((cs : List ℕ) → f cs ≡ fail) → Meets L S R Q m f bound.Fail
-  meets_ok : {B : List Entry} {k : ℕ} → k ≡ m → State L S R Q k B → ((cs : List ℕ) → f cs ≡ ok B cs) → Meets L S R Q m f (bound.Ok k)
+pub data Meets (L S R : List ℕ) (Q : List Kind) (m : ℕ) (f : List ℕ → Res) : Option ℕ → Type 0 where
+  meets_fail : ((cs : List ℕ) → f cs ≡ fail) → Meets L S R Q m f None
+  meets_ok : {B : List Entry} {k : ℕ} → k ≡ m → State L S R Q k B → ((cs : List ℕ) → f cs ≡ ok B cs) → Meets L S R Q m f (Some k)
 
 -- the answer at a variable that has choices lo .. hi is the walk's, however it goes on; There says what stands at the row where it does.
 -- Where x comes first, it has to be chosen.
@@ -53,7 +51,7 @@ pub record IndividualPre (L S R : List ℕ) (x t n : ℕ) : Type 0 where
   pub variable : VariablePre L S R n an_individual x
   pub tree : (l : ℕ) × (us : Forest) × TermAt L S t l us
 
-pub record IndividualPost (L S R : List ℕ) (x t n : ℕ) (o : Bound) (R' : List ℕ) : Type 0 where
+pub record IndividualPost (L S R : List ℕ) (x t n : ℕ) (o : Option ℕ) (R' : List ℕ) : Type 0 where
   pub is : (Q : List Kind) (l : ℕ) (us : Forest) (B : List Entry) → TermAt L S t l us → Comes Q x an_individual n → State L S R Q n B
       → Meets L S R' Q (after x n) (meet Any any? x (of_individual l us) t B) o × Kept Q n R R'
 
@@ -62,7 +60,7 @@ pub record HeadPre (L R : List ℕ) (kind x t n : ℕ) : Type 0 where
   pub row : t < length L
   pub variable : kind ≢ 0 → (S : List ℕ) × VariablePre L S R n a_function x
 
-pub record HeadPost (L R : List ℕ) (kind x t n : ℕ) (o : Bound) (R' : List ℕ) : Type 0 where
+pub record HeadPost (L R : List ℕ) (kind x t n : ℕ) (o : Option ℕ) (R' : List ℕ) : Type 0 where
   pub symbol : kind ≡ 0 → (S : List ℕ) (Q : List Kind) (B : List Entry) → State L S R Q n B
       → Meets L S R' Q n (λ cs. when (ℕ_discrete x (get_or L t 0)) (ok B cs)) o × Kept Q n R R'
   pub function : kind ≢ 0 → (S : List ℕ) (Q : List Kind) (B : List Entry) → Comes Q x a_function n → State L S R Q n B

@@ -7,13 +7,7 @@ ghost use Rattle.std.specs.Prelude.{◌≡◌, ◌+◌, ◌<◌, length, set};
 ghost use Rattle.variable.specs.Steps.{IndividualPre, IndividualPost, HeadPre, HeadPost, SequencePre, SequencePost, ContextPre, ContextPost};
 
 use meaning::kinds::SYMBOL;
-
-// What an individual variable and the head of a term answer: no match, or one with so many variables bound.
-#[derive(Drop)]
-pub enum Bound {
-    Fail,
-    Ok(usize),
-}
+use tree::Tree;
 
 // What a sequence or context variable answers: where it comes first, that a value is needed; otherwise the row at which the walk
 // goes on.
@@ -33,88 +27,82 @@ pub fn put(record: &mut [u32], n: usize, t: usize, v: usize)
     record[n + n + 1] = v as u32;
 }
 
-// The individual variable x at row t.
-pub fn individual(
-    label: &[u32],
-    size: &[u32],
-    record: &mut [u32],
-    x: usize,
-    t: usize,
-    n: usize,
-) -> Bound
-    requires { IndividualPre label.now size.now «record».old x t n }
-    ensures { IndividualPost label.now size.now «record».old x t n result «record».new }
+// The individual variable x at row t: no match, or one with so many variables bound.
+pub fn individual(tree: &Tree, record: &mut [u32], x: usize, t: usize, n: usize) -> Option<usize>
+    requires { IndividualPre tree.now.label.now tree.now.size.now «record».old x t n }
+    ensures { IndividualPost tree.now.label.now tree.now.size.now «record».old x t n result «record».new }
 {
     if x == n {
         put(record, n, t, 0);
-        return Bound::Ok(n + 1);
+        return Some(n + 1);
     }
     let a = tree::at(record, x + x);
-    if compare::alike(label, size, a, tree::next(size, a), t, tree::next(size, t)) {
-        Bound::Ok(n)
+    let behind = tree::next(tree.size, a);
+    let after = tree::next(tree.size, t);
+    if compare::alike(tree, a, behind, t, after) {
+        Some(n)
     } else {
-        Bound::Fail
+        None
     }
 }
 
-// The head of the term at row t: the symbol or function variable x.
-pub fn head(label: &[u32], record: &mut [u32], kind: u32, x: usize, t: usize, n: usize) -> Bound
+// The head of the term at row t: the symbol or function variable x; what it answers is as above.
+pub fn head(
+    label: &[u32],
+    record: &mut [u32],
+    kind: u32,
+    x: usize,
+    t: usize,
+    n: usize,
+) -> Option<usize>
     requires { HeadPre label.now «record».old kind x t n }
     ensures { HeadPost label.now «record».old kind x t n result «record».new }
 {
     if kind == SYMBOL {
         if x == tree::at(label, t) {
-            return Bound::Ok(n);
+            return Some(n);
         }
-        return Bound::Fail;
+        return None;
     }
     if x == n {
         put(record, n, t, 0);
-        return Bound::Ok(n + 1);
+        return Some(n + 1);
     }
     if tree::at(label, tree::at(record, x + x)) == tree::at(label, t) {
-        Bound::Ok(n)
+        Some(n)
     } else {
-        Bound::Fail
+        None
     }
 }
 
 // The sequence variable x before row t of a list that ends at e.
-pub fn sequence(
-    label: &[u32],
-    size: &[u32],
-    record: &[u32],
-    x: usize,
-    t: usize,
-    e: usize,
-    n: usize,
-) -> Step
-    requires { SequencePre label.now size.now «record».now x t e n }
-    ensures { SequencePost label.now size.now «record».now x t e n result }
+pub fn sequence(tree: &Tree, record: &[u32], x: usize, t: usize, e: usize, n: usize) -> Step
+    requires { SequencePre tree.now.label.now tree.now.size.now «record».now x t e n }
+    ensures { SequencePost tree.now.label.now tree.now.size.now «record».now x t e n result }
 {
     if x == n {
         return Step::Need;
     }
     let a = tree::at(record, x + x);
     let c = tree::at(record, x + x + 1);
-    match compare::again(label, size, a, c, t, e) {
-        compare::Found::Fail => Step::Fail,
-        compare::Found::At(u) => Step::Go(u),
+    match compare::again(tree, a, c, t, e) {
+        None => Step::Fail,
+        Some(u) => Step::Go(u),
     }
 }
 
 // The context variable x at row t: where the walk goes on is the row of its hole.
-pub fn context(label: &[u32], size: &[u32], record: &[u32], x: usize, t: usize, n: usize) -> Step
-    requires { ContextPre label.now size.now «record».now x t n }
-    ensures { ContextPost label.now size.now «record».now x t n result }
+pub fn context(tree: &Tree, record: &[u32], x: usize, t: usize, n: usize) -> Step
+    requires { ContextPre tree.now.label.now tree.now.size.now «record».now x t n }
+    ensures { ContextPost tree.now.label.now tree.now.size.now «record».now x t n result }
 {
     if x == n {
         return Step::Need;
     }
     let a = tree::at(record, x + x);
     let b = tree::at(record, x + x + 1);
-    match compare::fits(label, size, a, b, t) {
-        compare::Found::Fail => Step::Fail,
-        compare::Found::At(h) => Step::Go(h),
+    match compare::fits(tree, a, b, t) {
+        None => Step::Fail,
+        Some(h) => Step::Go(h),
     }
 }

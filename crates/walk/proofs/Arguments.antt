@@ -24,14 +24,15 @@ use Rattle.variable.specs.Steps.{SequencePre, SequencePost}
 use Rattle.walk.specs.Packed.{Past, Holds}
 use Rattle.walk.specs.Above.{Came, Unchanged, in_list, before_terms}
 use Rattle.walk.specs.Cycle.{stop_at, Agree, both_fail, both_need, both_ok, TermAsked, TermPre, TermPost, ListAsked, ListPre, ListPost}
-use Rattle.walk.specs.declared.Out.{Out}
-use Rattle.walk.specs.declared.Out.TheVariants as out
+use Rattle.std.specs.Prelude.{Result, Ok, Err}
+use Rattle.walk.specs.declared.Halt.{Halt}
+use Rattle.walk.specs.declared.Halt.TheVariants as halt
 use Rattle.variable.specs.declared.Step.{Step}
 use Rattle.variable.specs.declared.Step.TheVariants as step
 use Rattle.variable.proofs.States.{kept_same, kept_then, is_new}
-use Rattle.walk.proofs.Marks.{unchanged_same, unchanged_then, marks_kept, come_unchanged, held_kept, past_one, past_term, needs_same, needs_then}
+use Rattle.walk.proofs.Marks.{unchanged_same, unchanged_then, marks_kept, come_unchanged, held_kept, past_one, past_term, needs_then}
 use Rattle.walk.proofs.Stops.{sequence_asks, sequence_goes}
-use Rattle.walk.proofs.Views.{Seen, term_seen, list_seen, SequenceFirst, sequence_first, TermFirst, term_first, no_arguments, fail_agree, need_agree, ok_agree, agree_same, agree_before, fail_chose, need_chose, go_chose}
+use Rattle.walk.proofs.Views.{Seen, term_seen, list_seen, SequenceFirst, sequence_first, TermFirst, term_first, no_arguments, ok_agree, agree_same, agree_before, fail_chose, need_chose, go_chose}
 
 -- the walk r of a list with c variables bound at its end, begun with n₀ bound, the record R₀ and the rows A₀ at the row p₀, comes to the
 -- rows p and t with n bound, the record R and the rows A: the walk of what is left comes to the same
@@ -105,7 +106,7 @@ module _ {L S M R₀ R A₀ A : List ℕ} {p₀ pe t₀ te n₀ p t n : ℕ} (wa
   now_left w = walking.is w.K w.N w.Z w.Q w.ps w.us w.B w.fs w.asked
 
   -- an answer for what is left is the answer
-  answered : {R₁ A₁ : List ℕ} (o : Out)
+  answered : {R₁ A₁ : List ℕ} (o : Result ℕ Halt)
       → ((K N Z : List ℕ) (Q : List Kind) (ps : Patterns) (us : Forest) (B : List Entry) (fs : List Frame) → ListAsked L S M R A p pe t te n K N Z Q ps us B fs
       → Agree L S R₁ A₁ K N Z Q p (after_f ps n) fs (walk_f Any any? ps us t B) o × Kept Q n R R₁ × Unchanged p A A₁)
       → ListPost L S M R₀ A₀ p₀ pe t₀ te n₀ o R₁ A₁
@@ -147,20 +148,26 @@ module _ {L S M R₀ R A₀ A : List ℕ} {p₀ pe t₀ te n₀ p t n : ℕ} (wa
 
   -- the pattern's end
   module _ (e : p ≡ pe) where
-    pub list_ends : t ≡ te → ListPost L S M R₀ A₀ p₀ pe t₀ te n₀ (out.Ok n) R A
+    pub list_ends : t ≡ te → ListPost L S M R₀ A₀ p₀ pe t₀ te n₀ (Ok n) R A
     list_ends f =
-        answered (out.Ok n)
+        answered (Ok n)
         λ K N Z Q ps us B fs a.
         let z = no_arguments a.packed a.pattern e in
         (both_ok (sym (nil_after ps n z)) a.state (λ cs. nil_walk ps us t B cs z (none_at a.tree (omega arith))), kept_same, unchanged_same)
 
-    pub list_tree_left : t ≢ te → ListPost L S M R₀ A₀ p₀ pe t₀ te n₀ out.Fail R A
+    pub list_tree_left : t ≢ te → ListPost L S M R₀ A₀ p₀ pe t₀ te n₀ (Err halt.Fail) R A
     list_tree_left f =
-        answered out.Fail
+        answered (Err halt.Fail)
         λ K N Z Q ps us B fs a.
         let z = no_arguments a.packed a.pattern e in
         let w = first_at a.tree (omega (arith, terms_le a.tree, f)) in
         (both_fail (λ cs. nil_fails ps us t B cs w.label w.args w.rest z w.is), kept_same, unchanged_same)
+
+-- what stops the walk of a term stops that of the list
+halts_then : {L S R A K N Z : List ℕ} {Q : List Kind} {p₀ m c : ℕ} {f : List ℕ → Res} {h : Halt} {fs : List Frame} (ps : Patterns) (us : Forest) (t : ℕ)
+    → Agree L S R A K N Z Q p₀ m (frame ps us t ∷ fs) f (Err h) → Agree L S R A K N Z Q p₀ c fs (λ cs. and_then (f cs) (walk_f Any any? ps us t)) (Err h)
+halts_then ps us t (both_fail e) = both_fail λ cs. rw (e cs)
+halts_then ps us t (both_need l w) = both_need l (needs_then ps us t w)
 
 -- a turn of the loop, at the pattern row p
 pub record Turn (L S M R₀ R A₀ A : List ℕ) (p₀ pe t₀ te n₀ p t n : ℕ) : Type 0 where
@@ -180,6 +187,16 @@ pub record AtTerm (L S M R₀ R A₀ A : List ℕ) (p₀ pe t₀ te n₀ p t n :
   pub kind : get_or M (6 * p) 0 ≢ 2
   pub left : t ≢ te
 
+module _ {L S M R₀ R A₀ A : List ℕ} {p₀ pe t₀ te n₀ p t n : ℕ} where
+  pub a_turn : ListPre L S M R₀ A₀ p₀ pe t₀ te n₀ → Walking L S M R₀ R A₀ A p₀ pe t₀ te n₀ p t n → p ≢ pe → Turn L S M R₀ R A₀ A p₀ pe t₀ te n₀ p t n
+  a_turn pre walking more = record { pre = pre; walking = walking; more = more }
+
+  pub at_sequence_turn : {k x : ℕ} → Turn L S M R₀ R A₀ A p₀ pe t₀ te n₀ p t n → k ≡ get_or M (6 * p) 0 → k ≡ 2 → x ≡ get_or M (6 * p + 1) 0 → AtSequence L S M R₀ R A₀ A p₀ pe t₀ te n₀ p t n x
+  at_sequence_turn turn ek two name = record { turn = turn; kind = omega arith; name = name }
+
+  pub at_term_turn : {k : ℕ} → Turn L S M R₀ R A₀ A p₀ pe t₀ te n₀ p t n → k ≡ get_or M (6 * p) 0 → k ≢ 2 → t ≢ te → AtTerm L S M R₀ R A₀ A p₀ pe t₀ te n₀ p t n
+  at_term_turn turn ek two left = record { turn = turn; kind = omega arith; left = left }
+
 module _ {L S M R₀ R A₀ A : List ℕ} {p₀ pe t₀ te n₀ p t n : ℕ} (turn : Turn L S M R₀ R A₀ A p₀ pe t₀ te n₀ p t n) where
   turn_left : let w = turn.pre in
       Left L S M R₀ R A₀ A p₀ p pe t te n n₀ w.K w.N w.Z w.Q (walk_f Any any? w.ps w.us t₀ w.B) (after_f w.ps n₀) w.fs
@@ -191,9 +208,9 @@ module _ {L S M R₀ R A₀ A : List ℕ} {p₀ pe t₀ te n₀ p t n : ℕ} (tu
   pub list_marks : p < 256
   list_marks = omega (arith, list_row.inside, turn_left.asked.marks.few)
 
-  pub list_tree_ends : get_or M (6 * p) 0 ≢ 2 → t ≡ te → ListPost L S M R₀ A₀ p₀ pe t₀ te n₀ out.Fail R A
+  pub list_tree_ends : get_or M (6 * p) 0 ≢ 2 → t ≡ te → ListPost L S M R₀ A₀ p₀ pe t₀ te n₀ (Err halt.Fail) R A
   list_tree_ends kind f =
-      answered turn.walking out.Fail
+      answered turn.walking (Err halt.Fail)
       λ K N Z Q ps us B fs a.
       let w = term_first a.packed turn.more refl a.pattern a.good kind in
       (both_fail (λ cs. cons_fails ps us t B cs w.first w.rest w.is (none_at a.tree (omega arith))), kept_same, unchanged_same)
@@ -216,17 +233,17 @@ module _ {L S M R₀ R A₀ A : List ℕ} {p₀ pe t₀ te n₀ p t n x : ℕ} (
   list_sequence_before = (the_sequence (turn_left place.turn).asked).before
 
   module _ {o : Step} (post : SequencePost L S R x t te n o) where
-    pub list_sequence_fails : o ≡ step.Fail → ListPost L S M R₀ A₀ p₀ pe t₀ te n₀ out.Fail R A
+    pub list_sequence_fails : o ≡ step.Fail → ListPost L S M R₀ A₀ p₀ pe t₀ te n₀ (Err halt.Fail) R A
     list_sequence_fails g =
-        answered place.turn.walking out.Fail
+        answered place.turn.walking (Err halt.Fail)
         λ K N Z Q ps us B fs a.
         let w = the_sequence a in
         let y = fail_chose (rw g at (post.is Q us B a.tree w.comes a.state)) in
         (both_fail (λ cs. sequence_walk ps us t B cs x w.rest w.is ∙ y cs (λ d B' cs'. walk_f Any any? w.rest (drop_t d us) (t + rows (take_t d us)) B' cs')), kept_same, unchanged_same)
 
-    pub list_sequence_needs : {A₁ : List ℕ} → o ≡ step.Need → Came A p t A₁ → ListPost L S M R₀ A₀ p₀ pe t₀ te n₀ (out.Need (stop_at p x t)) R A₁
+    pub list_sequence_needs : {A₁ : List ℕ} → o ≡ step.Need → Came A p t A₁ → ListPost L S M R₀ A₀ p₀ pe t₀ te n₀ (Err (halt.Need (stop_at p x t))) R A₁
     list_sequence_needs {A₁} g came =
-        answered place.turn.walking (out.Need (stop_at p x t))
+        answered place.turn.walking (Err (halt.Need (stop_at p x t)))
         λ K N Z Q ps us B fs a.
         let w = the_sequence a in
         let y = need_chose (rw g at (post.is Q us B a.tree w.comes a.state)) in
@@ -336,70 +353,61 @@ module _ {L S M R₀ R A₀ A : List ℕ} {p₀ pe t₀ te n₀ p t n : ℕ} (pl
   pub list_term_tree : t < length S
   list_term_tree = (term_next (first_term (turn_left place.turn).asked).first).sized
 
-  module _ {o : Out} {R₁ A₁ : List ℕ} (post : TermPost L S M R A p t n o R₁ A₁) where
-    -- what the walk of the first term says
-    first_walked : {K N Z : List ℕ} {Q : List Kind} {ps : Patterns} {us : Forest} {B : List Entry} {fs : List Frame} (a : ListAsked L S M R A p pe t te n K N Z Q ps us B fs)
-        → Agree L S R₁ A₁ K N Z Q p (after_t (the_term a).first n) (frame (the_term a).rest (first_term a).rest (t + get_or S t 0) ∷ fs)
-        (walk_t Any any? (the_term a).first (term (first_term a).label (first_term a).args) t B) o × Kept Q n R R₁ × Unchanged p A A₁
-    first_walked {K} {N} {Z} {Q} {ps} {us} {B} {fs} a = post.is K N Z Q (the_term a).first (term (first_term a).label (first_term a).args) B _ (first_asked a)
+  -- what the walk of the first term says
+  first_walked : {o : Result ℕ Halt} {R₁ A₁ : List ℕ} → TermPost L S M R A p t n o R₁ A₁ → {K N Z : List ℕ} {Q : List Kind} {ps : Patterns} {us : Forest} {B : List Entry} {fs : List Frame} (a : ListAsked L S M R A p pe t te n K N Z Q ps us B fs)
+      → Agree L S R₁ A₁ K N Z Q p (after_t (the_term a).first n) (frame (the_term a).rest (first_term a).rest (t + get_or S t 0) ∷ fs)
+      (walk_t Any any? (the_term a).first (term (first_term a).label (first_term a).args) t B) o × Kept Q n R R₁ × Unchanged p A A₁
+  first_walked {o} {R₁} {A₁} post {K} {N} {Z} {Q} {ps} {us} {B} {fs} a = post.is K N Z Q (the_term a).first (term (first_term a).label (first_term a).args) B _ (first_asked a)
 
-    list_step : {K N Z : List ℕ} {Q : List Kind} {ps : Patterns} {us : Forest} {B : List Entry} {fs : List Frame} (a : ListAsked L S M R A p pe t te n K N Z Q ps us B fs) (cs : List ℕ)
-        → walk_f Any any? ps us t B cs
-        ≡ and_then (walk_t Any any? (the_term a).first (term (first_term a).label (first_term a).args) t B cs) (walk_f Any any? (the_term a).rest (first_term a).rest (t + get_or S t 0))
-    list_step {ps = ps} {us = us} {B = B} a cs =
-        let w = the_term a in
-        let x = first_term a in
-        let j : t + size (term x.label x.args) ≡ t + get_or S t 0 = omega (arith, x.first.row.size) in
-        cons_walk ps us t B cs w.first w.rest x.label x.args x.rest w.is x.is
-        ∙ ap (λ (i : ℕ). and_then (walk_t Any any? w.first (term x.label x.args) t B cs) (walk_f Any any? w.rest x.rest i)) j
+  list_step : {K N Z : List ℕ} {Q : List Kind} {ps : Patterns} {us : Forest} {B : List Entry} {fs : List Frame} (a : ListAsked L S M R A p pe t te n K N Z Q ps us B fs) (cs : List ℕ)
+      → walk_f Any any? ps us t B cs
+      ≡ and_then (walk_t Any any? (the_term a).first (term (first_term a).label (first_term a).args) t B cs) (walk_f Any any? (the_term a).rest (first_term a).rest (t + get_or S t 0))
+  list_step {ps = ps} {us = us} {B = B} a cs =
+      let w = the_term a in
+      let x = first_term a in
+      let j : t + size (term x.label x.args) ≡ t + get_or S t 0 = omega (arith, x.first.row.size) in
+      cons_walk ps us t B cs w.first w.rest x.label x.args x.rest w.is x.is
+      ∙ ap (λ (i : ℕ). and_then (walk_t Any any? w.first (term x.label x.args) t B cs) (walk_f Any any? w.rest x.rest i)) j
 
-    pub list_term_fails : o ≡ out.Fail → ListPost L S M R₀ A₀ p₀ pe t₀ te n₀ out.Fail R₁ A₁
-    list_term_fails g =
-        answered place.turn.walking out.Fail
-        λ K N Z Q ps us B fs a.
-        let y = rw g at (first_walked a) in
-        (both_fail (λ cs. list_step a cs ∙ rw (fail_agree y.0 cs)), y.1, y.2)
+  pub list_term_halts : {h : Halt} {R₁ A₁ : List ℕ} → TermPost L S M R A p t n (Err h) R₁ A₁ → ListPost L S M R₀ A₀ p₀ pe t₀ te n₀ (Err h) R₁ A₁
+  list_term_halts {h} post =
+      answered place.turn.walking (Err h)
+      λ K N Z Q ps us B fs a.
+      let y = first_walked post a in
+      (agree_same (list_step a) (halts_then (the_term a).rest (first_term a).rest (t + get_or S t 0) y.0), y.1, y.2)
 
-    pub list_term_needs : {r x s : ℕ} → o ≡ out.Need (stop_at r x s) → ListPost L S M R₀ A₀ p₀ pe t₀ te n₀ (out.Need (stop_at r x s)) R₁ A₁
-    list_term_needs {r} {x} {s} g =
-        answered place.turn.walking (out.Need (stop_at r x s))
-        λ K N Z Q ps us B fs a.
-        let y = rw g at (first_walked a) in
-        let c = need_agree y.0 in
-        (both_need c.0 (needs_same (list_step a) (needs_then (the_term a).rest (first_term a).rest (t + get_or S t 0) c.3)), y.1, y.2)
-
-    pub list_term_goes : {m q u : ℕ} → o ≡ out.Ok m → q ≡ p + get_or M (6 * p + 2) 0 → u ≡ t + get_or S t 0 → Walking L S M R₀ R₁ A₀ A₁ p₀ pe t₀ te n₀ q u m
-    list_term_goes {m} {q} {u} g eq eu =
-        stepped place.turn.walking (omega arith) (omega arith)
-        λ K N Z Q ps us B fs a.
-        let w = the_term a in
-        let x = first_term a in
-        let y = rw g at (first_walked a) in
-        let c = ok_agree y.0 in
-        let s = term_seen a.packed w.here in
-        let i : p + get_or Z p 0 ≡ q = omega (arith, s.size) in
-        let count = cons_after ps n w.first w.rest w.is ∙ ap (after_f w.rest) (sym c.2) in
-        record {
-          ps = w.rest;
-          us = x.rest;
-          B = c.0;
-          asked =
-              record {
-                packed = a.packed;
-                pattern = subst (λ (i : ℕ). PatternsAt K N Z Q i pe w.rest) i w.behind;
-                good = subst (GoodF Q w.rest) (sym c.2) w.goods;
-                tree = subst (λ (i : ℕ). TermsAt L S i te x.rest) (sym eu) x.others;
-                state = c.3;
-                marks = marks_kept y.2 a.marks;
-                holder = a.holder;
-                below = subst (Past Z a.holder) i (past_term a.below w.here);
-                held = held_kept y.2 a.below.lower (rw (sym count) a.held);
-              };
-          same = λ cs.
-              list_step a cs ∙ ap (λ (r : Res). and_then r (walk_f Any any? w.rest x.rest (t + get_or S t 0))) (c.1 cs)
-              ∙ ap (λ (i : ℕ). walk_f Any any? w.rest x.rest i c.0 cs) (sym eu);
-          count = count;
-          kept = y.1;
-          later = omega (arith, c.2, after_ge_t w.first n);
-          unchanged = y.2;
-        }
+  pub list_term_goes : {m q u : ℕ} {R₁ A₁ : List ℕ} → TermPost L S M R A p t n (Ok m) R₁ A₁ → q ≡ p + get_or M (6 * p + 2) 0 → u ≡ t + get_or S t 0 → Walking L S M R₀ R₁ A₀ A₁ p₀ pe t₀ te n₀ q u m
+  list_term_goes {m} {q} {u} post eq eu =
+      stepped place.turn.walking (omega arith) (omega arith)
+      λ K N Z Q ps us B fs a.
+      let w = the_term a in
+      let x = first_term a in
+      let y = first_walked post a in
+      let c = ok_agree y.0 in
+      let s = term_seen a.packed w.here in
+      let i : p + get_or Z p 0 ≡ q = omega (arith, s.size) in
+      let count = cons_after ps n w.first w.rest w.is ∙ ap (after_f w.rest) (sym c.2) in
+      record {
+        ps = w.rest;
+        us = x.rest;
+        B = c.0;
+        asked =
+            record {
+              packed = a.packed;
+              pattern = subst (λ (i : ℕ). PatternsAt K N Z Q i pe w.rest) i w.behind;
+              good = subst (GoodF Q w.rest) (sym c.2) w.goods;
+              tree = subst (λ (i : ℕ). TermsAt L S i te x.rest) (sym eu) x.others;
+              state = c.3;
+              marks = marks_kept y.2 a.marks;
+              holder = a.holder;
+              below = subst (Past Z a.holder) i (past_term a.below w.here);
+              held = held_kept y.2 a.below.lower (rw (sym count) a.held);
+            };
+        same = λ cs.
+            list_step a cs ∙ ap (λ (r : Res). and_then r (walk_f Any any? w.rest x.rest (t + get_or S t 0))) (c.1 cs)
+            ∙ ap (λ (i : ℕ). walk_f Any any? w.rest x.rest i c.0 cs) (sym eu);
+        count = count;
+        kept = y.1;
+        later = omega (arith, c.2, after_ge_t w.first n);
+        unchanged = y.2;
+      }

@@ -6,5 +6,6 @@ pub mod Arguments
 pub mod Terms
 pub mod Ups
 pub mod Resumes
+pub mod Rows
 pub mod Answered
 pub mod Taken

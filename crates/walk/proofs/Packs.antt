@@ -1,10 +1,9 @@
 -- The loop that packs the pattern's lists into one.
 use Prim.Native.Nat.{ℕ, ◌+◌, ◌-◌, ◌*◌, ◌<◌, ◌≤◌}
-use mathlib.Core.Path.{◌≡◌, refl, ap, ◌∙◌}
+use mathlib.Core.Path.{◌≡◌, refl, sym, ap, ◌∙◌}
 use mathlib.Core.Logic.{◌≢◌}
 use mathlib.Core.List.{List}
-use lib.ListN.{length, get_or, set, length-set}
-use lib.Seq.{get_or-set_same, get_or-set_other}
+use lib.ListN.{length, get_or}
 use native.Mathlib.Omega.{arith}
 use native.Mathlib.Decide.{dec_lt, ℕ_discrete}
 use Rattle.meaning.specs.Pattern.{Pattern, Kind}
@@ -28,60 +27,6 @@ pub pack_asked : {K N Z M : List ℕ} {P : Pattern} {Q : List Kind} → GoodPatt
 pack_asked g m =
     let l = lengths (good_scan g) in
     record { names = l.0; sizes = l.1; few = g.few; whole = root_whole (good_shape g) ∙ l.1; room = omega (arith, g.few) }
-
--- ---- six numbers are stored
-
-module _ (M : List ℕ) (p a b c d e f : ℕ) where
-  abbrev i : ℕ
-  i = 6 * p
-
-  abbrev one : List ℕ
-  one = set M i a
-
-  abbrev two : List ℕ
-  two = set one (i + 1) b
-
-  abbrev three : List ℕ
-  three = set two (i + 2) c
-
-  abbrev four : List ℕ
-  four = set three (i + 3) d
-
-  abbrev five : List ℕ
-  five = set four (i + 4) e
-
-  abbrev six : List ℕ
-  six = set five (i + 5) f
-
-  -- a number that none of the last is
-  over_six : (j : ℕ) → j ≢ i + 5 → get_or six j 0 ≡ get_or five j 0
-  over_six j n = get_or-set_other five (i + 5) j f 0 n
-
-  over_five : (j : ℕ) → j ≢ i + 5 → j ≢ i + 4 → get_or six j 0 ≡ get_or four j 0
-  over_five j n m = over_six j n ∙ get_or-set_other four (i + 4) j e 0 m
-
-  over_four : (j : ℕ) → j < i + 4 → j ≢ i + 3 → get_or six j 0 ≡ get_or three j 0
-  over_four j l n = over_five j (λ z. omega arith) (λ z. omega arith) ∙ get_or-set_other three (i + 3) j d 0 n
-
-  over_three : (j : ℕ) → j < i + 3 → j ≢ i + 2 → get_or six j 0 ≡ get_or two j 0
-  over_three j l n = over_four j (omega arith) (λ z. omega arith) ∙ get_or-set_other two (i + 2) j c 0 n
-
-  over_two : (j : ℕ) → j < i + 2 → j ≢ i + 1 → get_or six j 0 ≡ get_or one j 0
-  over_two j l n = over_three j (omega arith) (λ z. omega arith) ∙ get_or-set_other one (i + 1) j b 0 n
-
-  module _ (room : 6 * p + 5 < length M) where
-    pub six_put : Put M p a b c d e f six
-    six_put =
-        record {
-          long = simp length-set refl;
-          before = λ j h. over_two j (omega arith) (λ z. omega arith) ∙ get_or-set_other M i j a 0 (λ z. omega arith);
-          kind = over_two i (omega arith) (λ z. omega arith) ∙ get_or-set_same M i a 0 (omega arith);
-          name = over_three (i + 1) (omega arith) (λ z. omega arith) ∙ get_or-set_same one (i + 1) b 0 (simp length-set (omega arith));
-          size = over_four (i + 2) (omega arith) (λ z. omega arith) ∙ get_or-set_same two (i + 2) c 0 (simp length-set (omega arith));
-          holder = over_five (i + 3) (λ z. omega arith) (λ z. omega arith) ∙ get_or-set_same three (i + 3) d 0 (simp length-set (omega arith));
-          start = over_six (i + 4) (λ z. omega arith) ∙ get_or-set_same four (i + 4) e 0 (simp length-set (omega arith));
-          flag = get_or-set_same five (i + 5) f 0 (simp length-set (omega arith));
-        }
 
 -- ---- the row that holds another
 
@@ -159,7 +104,8 @@ module _ {K N Z C M₀ M : List ℕ} {row : ℕ} (packing : Packing K N Z C M₀
     pub packing_room : 6 * row + 5 < length M
     packing_room = omega (arith, packing.long, p.room)
 
-    module _ {g : ℕ} (holder : HolderPost Z row g) {M' : List ℕ} (put : Put M row (get_or K row 0) (get_or N row 0) (get_or Z row 0) g (get_or C (get_or N row 0 + get_or N row 0) 0) (get_or C (get_or N row 0 + get_or N row 0 + 1) 0) M') where
+    module _ {g x start flag : ℕ} (holder : HolderPost Z row g) (named : x ≡ get_or N row 0) (started : start ≡ get_or C (x + x) 0) (flagged : flag ≡ get_or C (x + x + 1) 0)
+        {M' : List ℕ} (put : Put M row (get_or K row 0) (get_or N row 0) (get_or Z row 0) g start flag M') where
       -- a number of a row, this one's or one before
       step : (k : ℕ) (f : ℕ → ℕ) → k < 6 → get_or M' (6 * row + k) 0 ≡ f row → ((q : ℕ) → q < row → get_or M (6 * q + k) 0 ≡ f q) → (q : ℕ) → q < row + 1 → get_or M' (6 * q + k) 0 ≡ f q
       step k f few here old q l = go (dec_lt q row)
@@ -179,8 +125,8 @@ module _ {K N Z C M₀ M : List ℕ} {row : ℕ} (packing : Packing K N Z C M₀
             names = step 1 (λ i. get_or N i 0) (omega arith) put.name packing.names;
             sizes = step 2 (λ i. get_or Z i 0) (omega arith) put.size packing.sizes;
             held = record { is = held };
-            starts = step 4 (λ i. get_or C (get_or N i 0 + get_or N i 0) 0) (omega arith) put.start packing.starts;
-            flags = step 5 (λ i. get_or C (get_or N i 0 + get_or N i 0 + 1) 0) (omega arith) put.flag packing.flags;
+            starts = step 4 (λ i. get_or C (get_or N i 0 + get_or N i 0) 0) (omega arith) (put.start ∙ rw (sym named) started) packing.starts;
+            flags = step 5 (λ i. get_or C (get_or N i 0 + get_or N i 0 + 1) 0) (omega arith) (put.flag ∙ rw (sym named) flagged) packing.flags;
           }
         where
           held : (q : ℕ) → 0 < q → q < row + 1 → Holds Z (get_or M' (6 * q + 3) 0) q

@@ -21,13 +21,13 @@ use Rattle.variable.specs.State.{Kept}
 use Rattle.variable.proofs.States.{kept_then}
 use Rattle.walk.specs.Packed.{Past, Holds, Packed}
 use Rattle.walk.specs.Above.{Marked, Unchanged, Behind, in_context, Held, Stands, before_terms, over_term}
-use Rattle.walk.specs.Cycle.{stop_at, Agree, both_fail, both_need, TermAsked, TermPre, TermPost, ListAsked, ListPre, ListPost}
+use Rattle.walk.specs.Cycle.{Agree, TermAsked, TermPre, TermPost, ListAsked, ListPre, ListPost}
 use Rattle.walk.specs.Onward.{UpAsked, UpPre, UpPost, Lands, at_terms, at_hole, ResumeAsked, ResumePre, ResumePost}
-use Rattle.walk.specs.declared.Out.{Out}
-use Rattle.walk.specs.declared.Out.TheVariants as out
-use Rattle.walk.proofs.Marks.{unchanged_then, marks_kept, marked_kept, behind_kept, needs_same, past_first}
-use Rattle.walk.proofs.Views.{term_seen, fail_agree, need_agree, ok_agree, agree_same, agree_before}
-use Rattle.walk.proofs.Ups.{patterns_le, needs_run}
+use Rattle.std.specs.Prelude.{Result, Ok, Err}
+use Rattle.walk.specs.declared.Halt.{Halt}
+use Rattle.walk.proofs.Marks.{unchanged_then, marks_kept, marked_kept, behind_kept, past_first}
+use Rattle.walk.proofs.Views.{term_seen, ok_agree, agree_same, agree_before}
+use Rattle.walk.proofs.Ups.{patterns_le, halts_run}
 
 patterns_end : {K N Z : List ℕ} {Q : List Kind} {p e : ℕ} {ps : Patterns} → PatternsAt K N Z Q p e ps → e ≤ length K
 patterns_end (at_nil h e) = e
@@ -36,13 +36,10 @@ patterns_end (at_sequence r v z b i) = patterns_end i
 
 -- a part f of the walk g, and then the frames
 module _ {L S R A K N Z : List ℕ} {Q : List Kind} {p₀ m : ℕ} (fs : List Frame) (f : List ℕ → Res) {g : List ℕ → Res} (goes : (cs : List ℕ) → g cs ≡ and_then (f cs) (run Any any? fs)) where
-  part_fails : Agree L S R A K N Z Q p₀ m fs f out.Fail → Agree L S R A K N Z Q p₀ m [] g out.Fail
-  part_fails a = both_fail λ cs. goes cs ∙ rw (fail_agree a cs)
+  part_halts : {h : Halt} → Agree L S R A K N Z Q p₀ m fs f (Err h) → Agree L S R A K N Z Q p₀ m [] g (Err h)
+  part_halts a = agree_same goes (halts_run fs a)
 
-  part_needs : {p x s : ℕ} → Agree L S R A K N Z Q p₀ m fs f (out.Need (stop_at p x s)) → Agree L S R A K N Z Q p₀ m [] g (out.Need (stop_at p x s))
-  part_needs a = let c = need_agree a in both_need c.0 (needs_same goes (needs_run fs c.3))
-
-  part_goes : {B : List Entry} {o : Out} → ((cs : List ℕ) → f cs ≡ ok B cs) → Agree L S R A K N Z Q p₀ m [] (run Any any? fs B) o → Agree L S R A K N Z Q p₀ m [] g o
+  part_goes : {B : List Entry} {o : Result ℕ Halt} → ((cs : List ℕ) → f cs ≡ ok B cs) → Agree L S R A K N Z Q p₀ m [] (run Any any? fs B) o → Agree L S R A K N Z Q p₀ m [] g o
   part_goes e a = agree_same (λ cs. goes cs ∙ rw (e cs)) a
 
 -- the walk goes on in the list that a sequence variable stands in
@@ -176,74 +173,64 @@ module _ {L S M R A : List ℕ} {p u n : ℕ} where
             let a = s.10 in
             record { K = s.0; N = s.1; Z = s.2; Q = s.3; ps = (list a).ps; us = (list a).us; B = s.4; fs = s.8; asked = list_asked a }
 
-        module _ {o : Out} {R₁ A₁ : List ℕ} (post : ListPost L S M R A (p + 1) pe u te n o R₁ A₁) where
-          walked : {K N Z : List ℕ} {Q : List Kind} {B : List Entry} {x s : ℕ} {w : Stop} {fs : List Frame} {d : ℕ} (a : ResumeAsked L S M R A p u n K N Z Q B x s w fs d)
-              → Agree L S R₁ A₁ K N Z Q (p + 1) (after_f (list a).ps n) fs (walk_f Any any? (list a).ps (list a).us u B) o × Kept Q n R R₁ × Unchanged (p + 1) A A₁
-          walked {K} {N} {Z} {Q} {B} {fs = fs} a = post.is K N Z Q (list a).ps (list a).us B fs (list_asked a)
+        walked : {o : Result ℕ Halt} {R₁ A₁ : List ℕ} → ListPost L S M R A (p + 1) pe u te n o R₁ A₁ → {K N Z : List ℕ} {Q : List Kind} {B : List Entry} {x s : ℕ} {w : Stop} {fs : List Frame} {d : ℕ} (a : ResumeAsked L S M R A p u n K N Z Q B x s w fs d)
+            → Agree L S R₁ A₁ K N Z Q (p + 1) (after_f (list a).ps n) fs (walk_f Any any? (list a).ps (list a).us u B) o × Kept Q n R R₁ × Unchanged (p + 1) A A₁
+        walked post {K} {N} {Z} {Q} {B} {fs = fs} a = post.is K N Z Q (list a).ps (list a).us B fs (list_asked a)
 
-          pub resume_list_fails : o ≡ out.Fail → ResumePost L S M R A p u n out.Fail R₁ A₁
-          resume_list_fails g =
-              record {
-                is = λ K N Z Q B x s w fs d a.
-                    let y = rw g at (walked a) in
-                    let l = list a in
-                    (_, part_fails fs (walk_f Any any? l.ps l.us u B) (l.goes B) y.0, y.1, y.2);
-              }
+        pub resume_list_halts : {i : Halt} {R₁ A₁ : List ℕ} → ListPost L S M R A (p + 1) pe u te n (Err i) R₁ A₁ → ResumePost L S M R A p u n (Err i) R₁ A₁
+        resume_list_halts post =
+            record {
+              is = λ K N Z Q B x s w fs d a.
+                  let y = walked post a in
+                  let l = list a in
+                  (_, part_halts fs (walk_f Any any? l.ps l.us u B) (l.goes B) y.0, y.1, y.2);
+            }
 
-          pub resume_list_needs : {i y t : ℕ} → o ≡ out.Need (stop_at i y t) → ResumePost L S M R A p u n (out.Need (stop_at i y t)) R₁ A₁
-          resume_list_needs g =
-              record {
-                is = λ K N Z Q B x s w fs d a.
-                    let y = rw g at (walked a) in
-                    let l = list a in
-                    (_, part_needs fs (walk_f Any any? l.ps l.us u B) (l.goes B) y.0, y.1, y.2);
-              }
-
-          module _ {m : ℕ} (g : o ≡ out.Ok m) where
-            list_up : {K N Z : List ℕ} {Q : List Kind} {B : List Entry} {x s : ℕ} {w : Stop} {fs : List Frame} {d : ℕ} (a : ResumeAsked L S M R A p u n K N Z Q B x s w fs d)
-                → (C : List Entry) × UpAsked L S M R₁ A₁ h m K N Z Q C fs × ((cs : List ℕ) → walk_f Any any? (list a).ps (list a).us u B cs ≡ ok C cs) × (n ≤ m)
-            unfolding list_asked
-            list_up a =
-                let y = rw g at (walked a) in
-                let c = ok_agree y.0 in
-                let k = list_asked a in
-                let l : h < p + 1 = k.below.lower in
-                let l' : h ≤ p + 1 = omega arith in (
-                  c.0,
-                  record {
-                    packed = a.packed;
-                    state = c.3;
-                    marks = marks_kept y.2 a.marks;
-                    holder = k.held.holder;
-                    end = te;
-                    marked = marked_kept y.2 l k.held.marked;
-                    above = behind_kept y.2 l' (rw c.2 k.held.above);
-                  },
-                  c.1,
-                  omega (arith, c.2, after_ge_f (list a).ps n),
-                )
-
-            pub resume_up_pre : ResumePre L S M R A p u n → UpPre L S M R₁ A₁ h m
-            resume_up_pre pre =
-                let s = pre.some in
-                let y = list_up s.10 in
-                record { some = (s.0, s.1, s.2, s.3, y.0, s.8, y.1) }
-
-            pub resume_up_is : {o₂ : Out} {R₂ A₂ : List ℕ} → UpPost L S M R₁ A₁ h m o₂ R₂ A₂ → ResumePost L S M R A p u n o₂ R₂ A₂
-            unfolding list_asked
-            resume_up_is up =
+        module _ {m : ℕ} {R₁ A₁ : List ℕ} (post : ListPost L S M R A (p + 1) pe u te n (Ok m) R₁ A₁) where
+          list_up : {K N Z : List ℕ} {Q : List Kind} {B : List Entry} {x s : ℕ} {w : Stop} {fs : List Frame} {d : ℕ} (a : ResumeAsked L S M R A p u n K N Z Q B x s w fs d)
+              → (C : List Entry) × UpAsked L S M R₁ A₁ h m K N Z Q C fs × ((cs : List ℕ) → walk_f Any any? (list a).ps (list a).us u B cs ≡ ok C cs) × (n ≤ m)
+          unfolding list_asked
+          list_up a =
+              let y = walked post a in
+              let c = ok_agree y.0 in
+              let k = list_asked a in
+              let l : h < p + 1 = k.below.lower in
+              let l' : h ≤ p + 1 = omega arith in (
+                c.0,
                 record {
-                  is = λ K N Z Q B x s w fs d a.
-                      let l = list a in
-                      let y = list_up a in
-                      let v = up.is K N Z Q y.0 fs y.1 in
-                      let b : p + 1 ≤ h + get_or Z h 0 = omega (arith, patterns_le (list_asked a).pattern, (list_asked a).held.ends) in (
-                        v.0,
-                        agree_before b (part_goes fs (walk_f Any any? l.ps l.us u B) (l.goes B) y.2 v.1),
-                        kept_then y.3 (walked a).1 v.2,
-                        unchanged_then b (walked a).2 v.3,
-                      );
-                }
+                  packed = a.packed;
+                  state = c.3;
+                  marks = marks_kept y.2 a.marks;
+                  holder = k.held.holder;
+                  end = te;
+                  marked = marked_kept y.2 l k.held.marked;
+                  above = behind_kept y.2 l' (rw c.2 k.held.above);
+                },
+                c.1,
+                omega (arith, c.2, after_ge_f (list a).ps n),
+              )
+
+          pub resume_up_pre : ResumePre L S M R A p u n → UpPre L S M R₁ A₁ h m
+          resume_up_pre pre =
+              let s = pre.some in
+              let y = list_up s.10 in
+              record { some = (s.0, s.1, s.2, s.3, y.0, s.8, y.1) }
+
+          pub resume_up_is : {o₂ : Result ℕ Halt} {R₂ A₂ : List ℕ} → UpPost L S M R₁ A₁ h m o₂ R₂ A₂ → ResumePost L S M R A p u n o₂ R₂ A₂
+          unfolding list_asked
+          resume_up_is up =
+              record {
+                is = λ K N Z Q B x s w fs d a.
+                    let l = list a in
+                    let y = list_up a in
+                    let v = up.is K N Z Q y.0 fs y.1 in
+                    let b : p + 1 ≤ h + get_or Z h 0 = omega (arith, patterns_le (list_asked a).pattern, (list_asked a).held.ends) in (
+                      v.0,
+                      agree_before b (part_goes fs (walk_f Any any? l.ps l.us u B) (l.goes B) y.2 v.1),
+                      kept_then y.3 (walked post a).1 v.2,
+                      unchanged_then b (walked post a).2 v.3,
+                    );
+              }
 
   -- a context variable: what fills its hole
   module _ (two : get_or M (6 * p) 0 ≢ 2) where
@@ -274,70 +261,60 @@ module _ {L S M R A : List ℕ} {p u n : ℕ} where
         let a = s.10 in
         record { K = s.0; N = s.1; Z = s.2; Q = s.3; q = (hole a).q; T = (hole a).T; B = s.4; fs = s.8; asked = hole_asked a }
 
-    module _ {o : Out} {R₁ A₁ : List ℕ} (post : TermPost L S M R A (p + 1) u n o R₁ A₁) where
-      filled : {K N Z : List ℕ} {Q : List Kind} {B : List Entry} {x s : ℕ} {w : Stop} {fs : List Frame} {d : ℕ} (a : ResumeAsked L S M R A p u n K N Z Q B x s w fs d)
-          → Agree L S R₁ A₁ K N Z Q (p + 1) (after_t (hole a).q n) fs (walk_t Any any? (hole a).q (hole a).T u B) o × Kept Q n R R₁ × Unchanged (p + 1) A A₁
-      filled {K} {N} {Z} {Q} {B} {fs = fs} a = post.is K N Z Q (hole a).q (hole a).T B fs (hole_asked a)
+    filled : {o : Result ℕ Halt} {R₁ A₁ : List ℕ} → TermPost L S M R A (p + 1) u n o R₁ A₁ → {K N Z : List ℕ} {Q : List Kind} {B : List Entry} {x s : ℕ} {w : Stop} {fs : List Frame} {d : ℕ} (a : ResumeAsked L S M R A p u n K N Z Q B x s w fs d)
+        → Agree L S R₁ A₁ K N Z Q (p + 1) (after_t (hole a).q n) fs (walk_t Any any? (hole a).q (hole a).T u B) o × Kept Q n R R₁ × Unchanged (p + 1) A A₁
+    filled post {K} {N} {Z} {Q} {B} {fs = fs} a = post.is K N Z Q (hole a).q (hole a).T B fs (hole_asked a)
 
-      pub resume_term_fails : o ≡ out.Fail → ResumePost L S M R A p u n out.Fail R₁ A₁
-      resume_term_fails g =
-          record {
-            is = λ K N Z Q B x s w fs d a.
-                let y = rw g at (filled a) in
-                let l = hole a in
-                (_, part_fails fs (walk_t Any any? l.q l.T u B) (l.goes B) y.0, y.1, y.2);
-          }
+    pub resume_term_halts : {i : Halt} {R₁ A₁ : List ℕ} → TermPost L S M R A (p + 1) u n (Err i) R₁ A₁ → ResumePost L S M R A p u n (Err i) R₁ A₁
+    resume_term_halts post =
+        record {
+          is = λ K N Z Q B x s w fs d a.
+              let y = filled post a in
+              let l = hole a in
+              (_, part_halts fs (walk_t Any any? l.q l.T u B) (l.goes B) y.0, y.1, y.2);
+        }
 
-      pub resume_term_needs : {i y t : ℕ} → o ≡ out.Need (stop_at i y t) → ResumePost L S M R A p u n (out.Need (stop_at i y t)) R₁ A₁
-      resume_term_needs g =
-          record {
-            is = λ K N Z Q B x s w fs d a.
-                let y = rw g at (filled a) in
-                let l = hole a in
-                (_, part_needs fs (walk_t Any any? l.q l.T u B) (l.goes B) y.0, y.1, y.2);
-          }
-
-      module _ {m : ℕ} (g : o ≡ out.Ok m) where
-        term_up : {K N Z : List ℕ} {Q : List Kind} {B : List Entry} {x s : ℕ} {w : Stop} {fs : List Frame} {d : ℕ} (a : ResumeAsked L S M R A p u n K N Z Q B x s w fs d)
-            → (C : List Entry) × UpAsked L S M R₁ A₁ p m K N Z Q C fs × ((cs : List ℕ) → walk_t Any any? (hole a).q (hole a).T u B cs ≡ ok C cs) × (n ≤ m)
-        term_up {K} {N} {Z} {Q} {fs = fs} a =
-            let y = rw g at (filled a) in
-            let c = ok_agree y.0 in
-            let k = hole a in
-            let l : p < p + 1 = omega arith in
-            let l' : p ≤ p + 1 = omega arith in (
-              c.0,
-              record {
-                packed = a.packed;
-                state = c.3;
-                marks = marks_kept y.2 a.marks;
-                holder = k.h;
-                end = k.end;
-                marked = marked_kept y.2 l k.marked;
-                above = behind_kept y.2 l'
-                    (subst (λ (i : ℕ). Behind L S A K N Z Q k.h p k.end i fs) (ap (after_t k.q) (sym a.last) ∙ sym c.2) k.above);
-              },
-              c.1,
-              omega (arith, c.2, after_ge_t (hole a).q n),
-            )
-
-        pub resume_over_pre : ResumePre L S M R A p u n → UpPre L S M R₁ A₁ p m
-        resume_over_pre pre =
-            let s = pre.some in
-            let y = term_up s.10 in
-            record { some = (s.0, s.1, s.2, s.3, y.0, s.8, y.1) }
-
-        pub resume_over_is : {o₂ : Out} {R₂ A₂ : List ℕ} → UpPost L S M R₁ A₁ p m o₂ R₂ A₂ → ResumePost L S M R A p u n o₂ R₂ A₂
-        resume_over_is up =
+    module _ {m : ℕ} {R₁ A₁ : List ℕ} (post : TermPost L S M R A (p + 1) u n (Ok m) R₁ A₁) where
+      term_up : {K N Z : List ℕ} {Q : List Kind} {B : List Entry} {x s : ℕ} {w : Stop} {fs : List Frame} {d : ℕ} (a : ResumeAsked L S M R A p u n K N Z Q B x s w fs d)
+          → (C : List Entry) × UpAsked L S M R₁ A₁ p m K N Z Q C fs × ((cs : List ℕ) → walk_t Any any? (hole a).q (hole a).T u B cs ≡ ok C cs) × (n ≤ m)
+      term_up {K} {N} {Z} {Q} {fs = fs} a =
+          let y = filled post a in
+          let c = ok_agree y.0 in
+          let k = hole a in
+          let l : p < p + 1 = omega arith in
+          let l' : p ≤ p + 1 = omega arith in (
+            c.0,
             record {
-              is = λ K N Z Q B x s w fs d a.
-                  let l = hole a in
-                  let y = term_up a in
-                  let v = up.is K N Z Q y.0 fs y.1 in
-                  let b : p + 1 ≤ p + get_or Z p 0 = omega (arith, l.within) in (
-                    v.0,
-                    agree_before b (part_goes fs (walk_t Any any? l.q l.T u B) (l.goes B) y.2 v.1),
-                    kept_then y.3 (filled a).1 v.2,
-                    unchanged_then b (filled a).2 v.3,
-                  );
-            }
+              packed = a.packed;
+              state = c.3;
+              marks = marks_kept y.2 a.marks;
+              holder = k.h;
+              end = k.end;
+              marked = marked_kept y.2 l k.marked;
+              above = behind_kept y.2 l'
+                  (subst (λ (i : ℕ). Behind L S A K N Z Q k.h p k.end i fs) (ap (after_t k.q) (sym a.last) ∙ sym c.2) k.above);
+            },
+            c.1,
+            omega (arith, c.2, after_ge_t (hole a).q n),
+          )
+
+      pub resume_over_pre : ResumePre L S M R A p u n → UpPre L S M R₁ A₁ p m
+      resume_over_pre pre =
+          let s = pre.some in
+          let y = term_up s.10 in
+          record { some = (s.0, s.1, s.2, s.3, y.0, s.8, y.1) }
+
+      pub resume_over_is : {o₂ : Result ℕ Halt} {R₂ A₂ : List ℕ} → UpPost L S M R₁ A₁ p m o₂ R₂ A₂ → ResumePost L S M R A p u n o₂ R₂ A₂
+      resume_over_is up =
+          record {
+            is = λ K N Z Q B x s w fs d a.
+                let l = hole a in
+                let y = term_up a in
+                let v = up.is K N Z Q y.0 fs y.1 in
+                let b : p + 1 ≤ p + get_or Z p 0 = omega (arith, l.within) in (
+                  v.0,
+                  agree_before b (part_goes fs (walk_t Any any? l.q l.T u B) (l.goes B) y.2 v.1),
+                  kept_then y.3 (filled post a).1 v.2,
+                  unchanged_then b (filled post a).2 v.3,
+                );
+          }

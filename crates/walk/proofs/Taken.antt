@@ -25,7 +25,8 @@ use Rattle.walk.specs.Above.{Unchanged, Stands, before_terms, over_term}
 use Rattle.walk.specs.Cycle.{Needs}
 use Rattle.walk.specs.Onward.{Lands, at_terms, at_hole, ResumeAsked, ResumePre, ResumePost}
 use Rattle.walk.specs.Taken.{TakeAsked, TakePre, TakePost}
-use Rattle.walk.specs.declared.Out.{Out}
+use Rattle.std.specs.Prelude.{Result}
+use Rattle.walk.specs.declared.Halt.{Halt}
 use Rattle.walk.proofs.Marks.{marked_kept, behind_kept, held_kept}
 use Rattle.walk.proofs.Views.{agree_same}
 
@@ -157,7 +158,7 @@ module _ {L S M R A : List ℕ} {p x s u v : ℕ} where
         let a = h.7 in
         record { some = (h.0, h.1, h.2, h.3, bound a, x, s, a.needs.stop, a.needs.frames, v - h.5, resume_asked a) }
 
-    pub take_is : {o : Out} {R₂ A₂ : List ℕ} → ResumePost L S M R₁ A p u (x + 1) o R₂ A₂ → TakePost L S M R A p x s u v o R₂ A₂
+    pub take_is : {o : Result ℕ Halt} {R₂ A₂ : List ℕ} → ResumePost L S M R₁ A p u (x + 1) o R₂ A₂ → TakePost L S M R A p x s u v o R₂ A₂
     take_is {R₂ = R₂} post =
         record {
           is = λ K N Z Q f lo hi a.

@@ -22,17 +22,17 @@ use Rattle.meaning.proofs.Next.{Any, any?}
 use Rattle.variable.specs.State.{Kept}
 use Rattle.variable.specs.Steps.{Meets, VariablePre, IndividualPre, IndividualPost, HeadPre, HeadPost, ContextPre, ContextPost}
 use Rattle.walk.specs.Above.{Marked, Came, Unchanged, Behind, in_context, over_term}
-use Rattle.walk.specs.Cycle.{stop_at, Agree, both_fail, both_need, both_ok, TermAsked, TermPre, TermPost, ListAsked, ListPre, ListPost}
-use Rattle.walk.specs.declared.Out.{Out}
-use Rattle.walk.specs.declared.Out.TheVariants as out
-use Rattle.variable.specs.declared.Bound.{Bound}
-use Rattle.variable.specs.declared.Bound.TheVariants as bound
+use Rattle.walk.specs.Cycle.{stop_at, Agree, both_fail, both_need, TermAsked, TermPre, TermPost, ListAsked, ListPre, ListPost}
+use Rattle.std.specs.Prelude.{Option, Some, None, Result, Err}
+use Rattle.walk.specs.declared.Halt.{Halt}
+use Rattle.walk.specs.declared.Halt.TheVariants as halt
+use Rattle.std.specs.Option.{ok_or}
 use Rattle.variable.specs.declared.Step.{Step}
 use Rattle.variable.specs.declared.Step.TheVariants as step
 use Rattle.variable.proofs.States.{kept_same, kept_then, is_new}
 use Rattle.walk.proofs.Marks.{marks_kept, unchanged_then, come_unchanged, come_marked, behind_kept, past_first}
 use Rattle.walk.proofs.Stops.{context_asks, context_goes}
-use Rattle.walk.proofs.Views.{Seen, term_seen, TermView, v_symbol, v_individual, v_function, v_context, term_view, agree_same, agree_before, fail_meets, ok_meets, fail_chose, need_chose, go_chose}
+use Rattle.walk.proofs.Views.{Seen, term_seen, TermView, v_symbol, v_individual, v_function, v_context, term_view, agree_same, agree_before, meets_agree, fail_meets, ok_meets, fail_chose, need_chose, go_chose}
 
 module _ {L S M R A : List ℕ} {p t n : ℕ} where
   pub term_row : (w : TermPre L S M R A p t n) → Seen w.K w.Z M p
@@ -76,7 +76,7 @@ as_context_lem four (v_function e c i g) = absurd (omega arith)
 as_context_lem four (v_context {q = q} e c z i g) = record { inner = q; is = refl; comes = c; size = z; here = i; good = g }
 
 -- the walk of a term with a head and arguments: r is what the head gives, where m variables are bound then
-record Headed (L S R R₁ : List ℕ) (p t n : ℕ) (o : Bound) (K N Z : List ℕ) (Q : List Kind) (q : Pattern) (T : Term) (B : List Entry) : Type 0 where
+record Headed (L S R R₁ : List ℕ) (p t n : ℕ) (o : Option ℕ) (K N Z : List ℕ) (Q : List Kind) (q : Pattern) (T : Term) (B : List Entry) : Type 0 where
   m : ℕ
   ps : Patterns
   r : List ℕ → Res
@@ -99,6 +99,9 @@ pub record AtRow (L S M R A A₁ : List ℕ) (p t n k x : ℕ) : Type 0 where
   pub came : Came A p t A₁
   pub kind : k ≡ get_or M (6 * p) 0
   pub name : x ≡ get_or M (6 * p + 1) 0
+
+pub at_row : {L S M R A A₁ : List ℕ} {p t n k x : ℕ} → TermPre L S M R A p t n → Came A p t A₁ → k ≡ get_or M (6 * p) 0 → x ≡ get_or M (6 * p + 1) 0 → AtRow L S M R A A₁ p t n k x
+at_row pre came ek ex = record { pre = pre; came = came; kind = ek; name = ex }
 
 module _ {L S M R A A₁ : List ℕ} {p t n k x : ℕ} (row : AtRow L S M R A A₁ p t n k x) where
   view : {K N Z : List ℕ} {Q : List Kind} {q : Pattern} {T : Term} {B : List Entry} {fs : List Frame} → TermAsked L S M R A p t n K N Z Q q T B fs → TermView K N Z Q p k x n q
@@ -129,7 +132,7 @@ module _ {L S M R A A₁ : List ℕ} {p t n k x : ℕ} (row : AtRow L S M R A A�
         let a = w.asked in
         record { variable = record { some = (w.Q, w.B, a.state, (as_individual one (view a)).1) }; tree = (w.T.label, w.T.args, a.tree) }
 
-    module _ {o : Bound} {R₁ : List ℕ} (post : IndividualPost L S R x t n o R₁) where
+    module _ {o : Option ℕ} {R₁ : List ℕ} (post : IndividualPost L S R x t n o R₁) where
       met : {K N Z : List ℕ} {Q : List Kind} {q : Pattern} {T : Term} {B : List Entry} {fs : List Frame} → TermAsked L S M R A p t n K N Z Q q T B fs
           → Meets L S R₁ Q (after_t q n) (walk_t Any any? q T t B) o × Kept Q n R R₁
       unfolding walk_t after_t
@@ -138,21 +141,12 @@ module _ {L S M R A A₁ : List ℕ} {p t n k x : ℕ} (row : AtRow L S M R A A�
           let y = post.is Q T.label T.args B a.tree w.1 a.state in
           (subst (λ (q : Pattern). Meets L S R₁ Q (after_t q n) (walk_t Any any? q T t B) o) (sym w.0) y.0, y.1)
 
-      pub term_individual_fails : o ≡ bound.Fail → TermPost L S M R A p t n out.Fail R₁ A₁
-      term_individual_fails g =
+      pub term_individual_is : TermPost L S M R A p t n (ok_or o halt.Fail) R₁ A₁
+      term_individual_is =
           record {
             is = λ K N Z Q q T B fs a.
-                let y = rw g at (met a) in
-                (both_fail (fail_meets y.0), y.1, here);
-          }
-
-      pub term_individual_ok : {m : ℕ} → o ≡ bound.Ok m → TermPost L S M R A p t n (out.Ok m) R₁ A₁
-      term_individual_ok g =
-          record {
-            is = λ K N Z Q q T B fs a.
-                let y = rw g at (met a) in
-                let e = ok_meets y.0 in
-                (both_ok e.2 e.3 e.1, y.1, here);
+                let y = met a in
+                (meets_agree y.0, y.1, here);
           }
 
   -- at a context variable
@@ -172,7 +166,7 @@ module _ {L S M R A A₁ : List ℕ} {p t n k x : ℕ} (row : AtRow L S M R A A�
         (omega (arith, s.room), omega (arith, s.size, (term_row row.pre).size, w.size))
 
     module _ {o : Step} (post : ContextPost L S R x t n o) where
-      pub term_context_fails : o ≡ step.Fail → TermPost L S M R A p t n out.Fail R A₁
+      pub term_context_fails : o ≡ step.Fail → TermPost L S M R A p t n (Err halt.Fail) R A₁
       unfolding walk_t
       term_context_fails g =
           record {
@@ -182,7 +176,7 @@ module _ {L S M R A A₁ : List ℕ} {p t n k x : ℕ} (row : AtRow L S M R A A�
                 (both_fail (λ cs. rw w.is (y cs (λ d B' cs'. walk_t Any any? w.inner (cut T d).at (t + d) B' cs'))), kept_same, here);
           }
 
-      pub term_context_needs : o ≡ step.Need → TermPost L S M R A p t n (out.Need (stop_at p x t)) R A₁
+      pub term_context_needs : o ≡ step.Need → TermPost L S M R A p t n (Err (halt.Need (stop_at p x t))) R A₁
       unfolding after_t
       term_context_needs g =
           record {
@@ -257,7 +251,7 @@ module _ {L S M R A A₁ : List ℕ} {p t n k x : ℕ} (row : AtRow L S M R A A�
         pub term_under_tree : get_or S u 0 ≤ get_or S t 0
         term_under_tree = let c = row.pre in (below c.asked (as_context_lem four (view c.asked))).4
 
-        pub term_under_is : {o₁ : Out} {R₂ A₂ : List ℕ} → TermPost L S M R A₁ (p + 1) u n o₁ R₂ A₂ → TermPost L S M R A p t n o₁ R₂ A₂
+        pub term_under_is : {o₁ : Result ℕ Halt} {R₂ A₂ : List ℕ} → TermPost L S M R A₁ (p + 1) u n o₁ R₂ A₂ → TermPost L S M R A p t n o₁ R₂ A₂
         unfolding after_t
         term_under_is {o₁} {R₂} {A₂} post₂ =
             record {
@@ -290,7 +284,7 @@ module _ {L S M R A A₁ : List ℕ} {p t n k x : ℕ} (row : AtRow L S M R A A�
             (S, record { some = (w.Q, w.B, w.asked.state, c) })
         go f q (v_context e c z i g) = absurd (four e)
 
-    module _ {o : Bound} {R₁ : List ℕ} (post : HeadPost L R k x t n o R₁) where
+    module _ {o : Option ℕ} {R₁ : List ℕ} (post : HeadPost L R k x t n o R₁) where
       headed : {K N Z : List ℕ} {Q : List Kind} {q : Pattern} {T : Term} {B : List Entry} {fs : List Frame} → TermAsked L S M R A p t n K N Z Q q T B fs → TermView K N Z Q p k x n q
           → Headed L S R R₁ p t n o K N Z Q q T B
       unfolding walk_t after_t
@@ -327,21 +321,21 @@ module _ {L S M R A A₁ : List ℕ} {p t n k x : ℕ} (row : AtRow L S M R A A�
           }
       headed a (v_context e c z i g) = absurd (four e)
 
-      pub term_head_fails : o ≡ bound.Fail → TermPost L S M R A p t n out.Fail R₁ A₁
+      pub term_head_fails : o ≡ None → TermPost L S M R A p t n (Err halt.Fail) R₁ A₁
       term_head_fails g =
           record {
             is = λ K N Z Q q T B fs a.
                 let w = headed a (view a) in
-                let e = fail_meets (subst (λ (o : Bound). Meets L S R₁ Q w.m w.r o) g w.heads) in
+                let e = fail_meets (subst (λ (o : Option ℕ). Meets L S R₁ Q w.m w.r o) g w.heads) in
                 (both_fail (λ cs. w.is cs ∙ rw (e cs)), w.kept, here);
           }
 
-      module _ {m pe te : ℕ} (g : o ≡ bound.Ok m) (ep : pe ≡ p + get_or M (6 * p + 2) 0) (et : te ≡ t + get_or S t 0) where
+      module _ {m pe te : ℕ} (g : o ≡ Some m) (ep : pe ≡ p + get_or M (6 * p + 2) 0) (et : te ≡ t + get_or S t 0) where
         -- what is asked of the walk of the arguments
         inside : {K N Z : List ℕ} {Q : List Kind} {q : Pattern} {T : Term} {B : List Entry} {fs : List Frame} → TermAsked L S M R A p t n K N Z Q q T B fs → (w : Headed L S R R₁ p t n o K N Z Q q T B)
             → (B' : List Entry) × ListAsked L S M R₁ A₁ (p + 1) pe (t + 1) te m K N Z Q w.ps T.args B' fs × (m ≡ w.m) × ((cs : List ℕ) → w.r cs ≡ ok B' cs)
         inside {K} {N} {Z} {Q} {q} {T} {fs = fs} a w =
-            let e = ok_meets (subst (λ (o : Bound). Meets L S R₁ Q w.m w.r o) g w.heads) in
+            let e = ok_meets (subst (λ (o : Option ℕ). Meets L S R₁ Q w.m w.r o) g w.heads) in
             let s = term_seen a.packed a.pattern in
             let z : p + get_or Z p 0 ≡ pe = omega (arith, s.size) in
             let c : after_t q n ≡ after_f w.ps m = w.count ∙ ap (after_f w.ps) (sym e.2) in (
@@ -376,7 +370,7 @@ module _ {L S M R A A₁ : List ℕ} {p t n k x : ℕ} (row : AtRow L S M R A A�
             let b = inside c.asked w in
             record { K = c.K; N = c.N; Z = c.Z; Q = c.Q; ps = w.ps; us = c.T.args; B = b.0; fs = c.fs; asked = b.1 }
 
-        pub term_inside_is : {o₁ : Out} {R₂ A₂ : List ℕ} → ListPost L S M R₁ A₁ (p + 1) pe (t + 1) te m o₁ R₂ A₂ → TermPost L S M R A p t n o₁ R₂ A₂
+        pub term_inside_is : {o₁ : Result ℕ Halt} {R₂ A₂ : List ℕ} → ListPost L S M R₁ A₁ (p + 1) pe (t + 1) te m o₁ R₂ A₂ → TermPost L S M R A p t n o₁ R₂ A₂
         term_inside_is {o₁} {R₂} {A₂} post₂ =
             record {
               is = λ K N Z Q q T B fs a.

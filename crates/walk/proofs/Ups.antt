@@ -10,7 +10,7 @@ use Rattle.meaning.specs.Pattern.{Pattern, Patterns, Kind, GoodF, after_f}
 use Rattle.meaning.specs.Record.{Entry}
 use Rattle.meaning.proofs.Lists.{look_old}
 use Rattle.meaning.proofs.Complete.{after_ge_f}
-use Rattle.meaning.proofs.Walk.{Res, fail, ok, and_then, walk_f}
+use Rattle.meaning.proofs.Walk.{Res, ok, and_then, walk_f}
 use Rattle.meaning.proofs.Resume.{Frame, frame, run, then_done}
 use Rattle.meaning.proofs.Next.{Any, any?}
 use Rattle.tree.specs.Places.{TermsAt}
@@ -21,12 +21,12 @@ use Rattle.variable.specs.State.{Kept}
 use Rattle.variable.proofs.States.{kept_same, kept_then}
 use Rattle.walk.specs.Packed.{Past, Holds}
 use Rattle.walk.specs.Above.{Marked, Unchanged, Behind, at_root, in_list, in_context}
-use Rattle.walk.specs.Cycle.{stop_at, Needs, Agree, both_fail, both_need, both_ok, TermAsked, TermPre, TermPost, ListAsked, ListPre, ListPost}
+use Rattle.walk.specs.Cycle.{Needs, Agree, both_fail, both_need, both_ok, TermAsked, TermPre, TermPost, ListAsked, ListPre, ListPost}
 use Rattle.walk.specs.Onward.{UpAsked, UpPre, UpPost, Problem, BeginPre, BeginPost}
-use Rattle.walk.specs.declared.Out.{Out}
-use Rattle.walk.specs.declared.Out.TheVariants as out
+use Rattle.std.specs.Prelude.{Result, Ok, Err}
+use Rattle.walk.specs.declared.Halt.{Halt}
 use Rattle.walk.proofs.Marks.{unchanged_same, unchanged_then, marks_kept, marked_kept, behind_kept}
-use Rattle.walk.proofs.Views.{fail_agree, need_agree, ok_agree, agree_same, agree_before}
+use Rattle.walk.proofs.Views.{ok_agree, agree_same, agree_before}
 
 pub patterns_le : {K N Z : List ℕ} {Q : List Kind} {p e : ℕ} {ps : Patterns} → PatternsAt K N Z Q p e ps → p ≤ e
 patterns_le (at_nil h e) = omega arith
@@ -34,10 +34,6 @@ patterns_le (at_cons a b i) = omega arith
 patterns_le (at_sequence r v z b i) = omega arith
 
 -- the frames behind a list, walked after it
-run_fails : (ps : Patterns) (us : Forest) (t : ℕ) (fs : List Frame) (B : List Entry) (cs : List ℕ) → walk_f Any any? ps us t B cs ≡ fail → run Any any? (frame ps us t ∷ fs) B cs ≡ fail
-unfolding run
-run_fails ps us t fs B cs e = rw e
-
 run_goes : (ps : Patterns) (us : Forest) (t : ℕ) (fs : List Frame) (B C : List Entry) (cs : List ℕ) → walk_f Any any? ps us t B cs ≡ ok C cs → run Any any? (frame ps us t ∷ fs) B cs ≡ run Any any? fs C cs
 unfolding run
 run_goes ps us t fs B C cs e = rw e
@@ -62,6 +58,12 @@ needs_run {f = f} fs w =
       asks = rw w.asks;
       goes = λ v cs. then_done Any any? (and_then (f (v ∷ cs)) (run Any any? fs)) ∙ w.goes v cs;
     }
+
+-- what stops a walk stops it with the frames behind it
+pub halts_run : {L S R A K N Z : List ℕ} {Q : List Kind} {p₀ m c : ℕ} {f : List ℕ → Res} {h : Halt} (fs : List Frame) → Agree L S R A K N Z Q p₀ m fs f (Err h)
+    → Agree L S R A K N Z Q p₀ c [] (λ cs. and_then (f cs) (run Any any? fs)) (Err h)
+halts_run fs (both_fail e) = both_fail λ cs. rw (e cs)
+halts_run fs (both_need l w) = both_need l (needs_run fs w)
 
 run_first : (ps : Patterns) (us : Forest) (t : ℕ) (fs : List Frame) (B : List Entry) (cs : List ℕ) → run Any any? (frame ps us t ∷ fs) B cs ≡ and_then (walk_f Any any? ps us t B cs) (run Any any? fs)
 unfolding run
@@ -129,7 +131,7 @@ rising_first =
 
 module _ {L S M R₀ R A₀ A : List ℕ} {p₀ n₀ q m : ℕ} (rising : Rising L S M R₀ R A₀ A p₀ n₀ q m) where
   -- at the root nothing is left
-  pub up_ends : q ≡ 0 → UpPost L S M R₀ A₀ p₀ n₀ (out.Ok m) R A
+  pub up_ends : q ≡ 0 → UpPost L S M R₀ A₀ p₀ n₀ (Ok m) R A
   up_ends e =
       record {
         is = λ K N Z Q B fs a.
@@ -143,6 +145,9 @@ pub record Below (L S M R₀ R A₀ A : List ℕ) (p₀ n₀ q m : ℕ) : Type 0
   pub pre : UpPre L S M R₀ A₀ p₀ n₀
   pub rising : Rising L S M R₀ R A₀ A p₀ n₀ q m
   pub more : q ≢ 0
+
+pub a_below : {L S M R₀ R A₀ A : List ℕ} {p₀ n₀ q m : ℕ} → UpPre L S M R₀ A₀ p₀ n₀ → Rising L S M R₀ R A₀ A p₀ n₀ q m → q ≢ 0 → Below L S M R₀ R A₀ A p₀ n₀ q m
+a_below pre rising more = record { pre = pre; rising = rising; more = more }
 
 -- the row that holds it, in the packed pattern and in the rows that were come to
 pub record Holding (S M A : List ℕ) (q h : ℕ) : Type 0 where
@@ -252,82 +257,66 @@ module _ {L S M R₀ R A₀ A : List ℕ} {p₀ n₀ q m : ℕ} (below : Below L
             let a = now.asked in
             record { K = s.0; N = s.1; Z = s.2; Q = s.3; ps = (rest a).ps; us = (rest a).us; B = now.B; fs = (rest a).behind; asked = rest_asked a }
 
-        module _ {o : Out} {R₁ A₁ : List ℕ} (post : ListPost L S M R A r pe t te m o R₁ A₁) where
-          walked : {K N Z : List ℕ} {Q : List Kind} {B : List Entry} {fs : List Frame} (a : UpAsked L S M R A q m K N Z Q B fs)
-              → Agree L S R₁ A₁ K N Z Q r (after_f (rest a).ps m) (rest a).behind (walk_f Any any? (rest a).ps (rest a).us t B) o × Kept Q m R R₁ × Unchanged r A A₁
-          walked {K} {N} {Z} {Q} {B} a = post.is K N Z Q (rest a).ps (rest a).us B (rest a).behind (rest_asked a)
+        walked : {o : Result ℕ Halt} {R₁ A₁ : List ℕ} → ListPost L S M R A r pe t te m o R₁ A₁ → {K N Z : List ℕ} {Q : List Kind} {B : List Entry} {fs : List Frame} (a : UpAsked L S M R A q m K N Z Q B fs)
+            → Agree L S R₁ A₁ K N Z Q r (after_f (rest a).ps m) (rest a).behind (walk_f Any any? (rest a).ps (rest a).us t B) o × Kept Q m R R₁ × Unchanged r A A₁
+        walked post {K} {N} {Z} {Q} {B} a = post.is K N Z Q (rest a).ps (rest a).us B (rest a).behind (rest_asked a)
 
-          -- the rows behind are behind p₀
-          on : {K N Z : List ℕ} {Q : List Kind} {B : List Entry} {fs : List Frame} (w : Risen L S M R₀ R A₀ A p₀ n₀ q m K N Z Q B fs) → p₀ + get_or Z p₀ 0 ≤ r
-          on w = omega (arith, w.over, w.asked.packed.sizes q (held w.asked).2)
+        -- the rows behind are behind p₀
+        on : {K N Z : List ℕ} {Q : List Kind} {B : List Entry} {fs : List Frame} (w : Risen L S M R₀ R A₀ A p₀ n₀ q m K N Z Q B fs) → p₀ + get_or Z p₀ 0 ≤ r
+        on w = omega (arith, w.over, w.asked.packed.sizes q (held w.asked).2)
 
-          first : {K N Z : List ℕ} {Q : List Kind} {B₀ : List Entry} {fs₀ : List Frame} (w : Risen L S M R₀ R A₀ A p₀ n₀ q m K N Z Q B₀ fs₀) (cs : List ℕ)
-              → run Any any? fs₀ B₀ cs ≡ run Any any? (frame (rest w.asked).ps (rest w.asked).us t ∷ (rest w.asked).behind) w.B cs
-          first w cs =
-              let v = rest w.asked in
-              let k : w.asked.end ≡ t = sym w.asked.marked.behind ∙ sym et in
-              w.same cs ∙ ap (λ (g : List Frame). run Any any? g w.B cs) (v.is ∙ ap (λ (i : ℕ). frame v.ps v.us i ∷ v.behind) k)
+        first : {K N Z : List ℕ} {Q : List Kind} {B₀ : List Entry} {fs₀ : List Frame} (w : Risen L S M R₀ R A₀ A p₀ n₀ q m K N Z Q B₀ fs₀) (cs : List ℕ)
+            → run Any any? fs₀ B₀ cs ≡ run Any any? (frame (rest w.asked).ps (rest w.asked).us t ∷ (rest w.asked).behind) w.B cs
+        first w cs =
+            let v = rest w.asked in
+            let k : w.asked.end ≡ t = sym w.asked.marked.behind ∙ sym et in
+            w.same cs ∙ ap (λ (g : List Frame). run Any any? g w.B cs) (v.is ∙ ap (λ (i : ℕ). frame v.ps v.us i ∷ v.behind) k)
 
-          pub up_fails : o ≡ out.Fail → UpPost L S M R₀ A₀ p₀ n₀ out.Fail R₁ A₁
-          up_fails g =
-              record {
-                is = λ K N Z Q B fs a.
-                    let w = below.rising.is K N Z Q B fs a in
-                    let v = rest w.asked in
-                    let y = rw g at (walked w.asked) in (
-                      m,
-                      both_fail (λ cs. first w cs ∙ run_fails v.ps v.us t v.behind w.B cs (fail_agree y.0 cs)),
-                      kept_then w.later w.kept y.1,
-                      unchanged_then (on w) w.unchanged y.2,
-                    );
-              }
+        pub up_halts : {i : Halt} {R₁ A₁ : List ℕ} → ListPost L S M R A r pe t te m (Err i) R₁ A₁ → UpPost L S M R₀ A₀ p₀ n₀ (Err i) R₁ A₁
+        up_halts post =
+            record {
+              is = λ K N Z Q B fs a.
+                  let w = below.rising.is K N Z Q B fs a in
+                  let v = rest w.asked in
+                  let y = walked post w.asked in (
+                    m,
+                    agree_before (on w) (agree_same (λ cs. first w cs ∙ run_first v.ps v.us t v.behind w.B cs) (halts_run v.behind y.0)),
+                    kept_then w.later w.kept y.1,
+                    unchanged_then (on w) w.unchanged y.2,
+                  );
+            }
 
-          pub up_needs : {i x s : ℕ} → o ≡ out.Need (stop_at i x s) → UpPost L S M R₀ A₀ p₀ n₀ (out.Need (stop_at i x s)) R₁ A₁
-          up_needs g =
-              record {
-                is = λ K N Z Q B fs a.
-                    let w = below.rising.is K N Z Q B fs a in
-                    let v = rest w.asked in
-                    let y = rw g at (walked w.asked) in
-                    let c = need_agree y.0 in (
-                      m,
-                      agree_before (on w) (agree_same (λ cs. first w cs ∙ run_first v.ps v.us t v.behind w.B cs) (both_need c.0 (needs_run v.behind c.3))),
-                      kept_then w.later w.kept y.1,
-                      unchanged_then (on w) w.unchanged y.2,
-                    );
-              }
-
-          pub up_goes : {k : ℕ} → o ≡ out.Ok k → Rising L S M R₀ R₁ A₀ A₁ p₀ n₀ h k
-          up_goes {k} g =
-              record {
-                is = λ K N Z Q B fs a.
-                    let w = below.rising.is K N Z Q B fs a in
-                    let v = rest w.asked in
-                    let b = held w.asked in
-                    let y = rw g at (walked w.asked) in
-                    let c = ok_agree y.0 in
-                    let l : h < r = omega (arith, b.1) in
-                    let l' : h ≤ r = omega arith in
-                    record {
-                      B = c.0;
-                      fs = v.behind;
-                      asked =
-                          record {
-                            packed = w.asked.packed;
-                            state = c.3;
-                            marks = marks_kept y.2 w.asked.marks;
-                            holder = v.holder;
-                            end = v.end;
-                            marked = marked_kept y.2 l v.marked;
-                            above = behind_kept y.2 l' (rw c.2 v.above);
-                          };
-                      same = λ cs. first w cs ∙ run_goes v.ps v.us t v.behind w.B c.0 cs (c.1 cs);
-                      kept = kept_then w.later w.kept y.1;
-                      later = omega (arith, w.later, c.2, after_ge_f v.ps m);
-                      over = omega (arith, w.over, b.3);
-                      unchanged = unchanged_then (on w) w.unchanged y.2;
-                    };
-              }
+        pub up_goes : {k : ℕ} {R₁ A₁ : List ℕ} → ListPost L S M R A r pe t te m (Ok k) R₁ A₁ → Rising L S M R₀ R₁ A₀ A₁ p₀ n₀ h k
+        up_goes {k} post =
+            record {
+              is = λ K N Z Q B fs a.
+                  let w = below.rising.is K N Z Q B fs a in
+                  let v = rest w.asked in
+                  let b = held w.asked in
+                  let y = walked post w.asked in
+                  let c = ok_agree y.0 in
+                  let l : h < r = omega (arith, b.1) in
+                  let l' : h ≤ r = omega arith in
+                  record {
+                    B = c.0;
+                    fs = v.behind;
+                    asked =
+                        record {
+                          packed = w.asked.packed;
+                          state = c.3;
+                          marks = marks_kept y.2 w.asked.marks;
+                          holder = v.holder;
+                          end = v.end;
+                          marked = marked_kept y.2 l v.marked;
+                          above = behind_kept y.2 l' (rw c.2 v.above);
+                        };
+                    same = λ cs. first w cs ∙ run_goes v.ps v.us t v.behind w.B c.0 cs (c.1 cs);
+                    kept = kept_then w.later w.kept y.1;
+                    later = omega (arith, w.later, c.2, after_ge_f v.ps m);
+                    over = omega (arith, w.over, b.3);
+                    unchanged = unchanged_then (on w) w.unchanged y.2;
+                  };
+            }
 
 -- from the root nothing is left behind
 root_asked : {L S M R A : List ℕ} {T : Term} {P : Pattern} {Q : List Kind} (w : Problem L S M R A T P Q) → TermAsked L S M R A 0 0 0 w.K w.N w.Z Q P T [] []
@@ -355,5 +344,5 @@ root_pre b =
     let w = b.some.3 in
     record { K = w.K; N = w.N; Z = w.Z; Q = b.some.2; q = b.some.1; T = b.some.0; B = []; fs = []; asked = root_asked w }
 
-pub root_is : {L S M R A R' A' : List ℕ} {o : Out} → TermPost L S M R A 0 0 0 o R' A' → BeginPost L S M R A o R' A'
+pub root_is : {L S M R A R' A' : List ℕ} {o : Result ℕ Halt} → TermPost L S M R A 0 0 0 o R' A' → BeginPost L S M R A o R' A'
 root_is post = record { is = λ T P Q w. post.is w.K w.N w.Z Q P T [] [] (root_asked w) }

@@ -16,10 +16,11 @@ use Rattle.meaning.proofs.Next.{Any, any?}
 use Rattle.variable.specs.State.{State}
 use Rattle.variable.specs.Steps.{Meets, meets_fail, meets_ok, Chose, chose_fail, chose_need, chose_go}
 use Rattle.walk.specs.Cycle.{stop_at, Needs, Agree, both_fail, both_need, both_ok}
-use Rattle.walk.specs.declared.Out.{Out}
+use Rattle.std.specs.Prelude.{Option, Some, None, Result, Ok, Err}
+use Rattle.std.specs.Option.{ok_or}
+use Rattle.walk.specs.declared.Halt.{Halt}
 use Rattle.walk.proofs.Marks.{needs_same}
-use Rattle.walk.specs.declared.Out.TheVariants as out
-use Rattle.variable.specs.declared.Bound.TheVariants as bound
+use Rattle.walk.specs.declared.Halt.TheVariants as halt
 use Rattle.variable.specs.declared.Step.TheVariants as step
 
 -- a row of the pattern, packed
@@ -129,34 +130,48 @@ no_arguments m (at_nil h b) f = refl
 no_arguments m (at_cons a b i) f = absurd (omega (arith, (term_seen m a).some))
 no_arguments m (at_sequence r v z b i) f = absurd (omega arith)
 
+-- an option that is passed on, with an error in place of nothing
+pub ok_or_err : {r : Result ℕ Halt} {h : Halt} (o : Option ℕ) → r ≡ ok_or o halt.Fail → r ≡ Err h → (o ≡ None) × (h ≡ halt.Fail)
+ok_or_err None p q = (refl, cc)
+ok_or_err (Some m) p q = absurd (cc)
+
+pub ok_or_ok : {r : Result ℕ Halt} {m : ℕ} (o : Option ℕ) → r ≡ ok_or o halt.Fail → r ≡ Ok m → o ≡ Some m
+ok_or_ok None p q = absurd (cc)
+ok_or_ok (Some m) p q = cc
+
 -- what an answer says
 module _ {L S R A K N Z : List ℕ} {Q : List Kind} {p₀ m : ℕ} {fs : List Frame} {f : List ℕ → Res} where
-  pub fail_agree : Agree L S R A K N Z Q p₀ m fs f out.Fail → (cs : List ℕ) → f cs ≡ fail
+  pub fail_agree : Agree L S R A K N Z Q p₀ m fs f (Err halt.Fail) → (cs : List ℕ) → f cs ≡ fail
   fail_agree (both_fail e) = e
 
-  pub need_agree : {p x s : ℕ} → Agree L S R A K N Z Q p₀ m fs f (out.Need (stop_at p x s)) → (p₀ ≤ p) × (lo : ℕ) × (hi : ℕ) × Needs L S R A K N Z Q fs f p x s lo hi
+  pub need_agree : {p x s : ℕ} → Agree L S R A K N Z Q p₀ m fs f (Err (halt.Need (stop_at p x s))) → (p₀ ≤ p) × (lo : ℕ) × (hi : ℕ) × Needs L S R A K N Z Q fs f p x s lo hi
   need_agree (both_need {lo = lo} {hi = hi} h w) = (h, lo, hi, w)
 
-  pub ok_agree : {k : ℕ} → Agree L S R A K N Z Q p₀ m fs f (out.Ok k) → (B : List Entry) × ((cs : List ℕ) → f cs ≡ ok B cs) × (k ≡ m) × State L S R Q k B
+  pub ok_agree : {k : ℕ} → Agree L S R A K N Z Q p₀ m fs f (Ok k) → (B : List Entry) × ((cs : List ℕ) → f cs ≡ ok B cs) × (k ≡ m) × State L S R Q k B
   ok_agree (both_ok {B = B} e s g) = (B, g, e, s)
 
   -- a walk that comes to the same
-  pub agree_same : {g : List ℕ → Res} {o : Out} → ((cs : List ℕ) → g cs ≡ f cs) → Agree L S R A K N Z Q p₀ m fs f o → Agree L S R A K N Z Q p₀ m fs g o
+  pub agree_same : {g : List ℕ → Res} {o : Result ℕ Halt} → ((cs : List ℕ) → g cs ≡ f cs) → Agree L S R A K N Z Q p₀ m fs f o → Agree L S R A K N Z Q p₀ m fs g o
   agree_same e (both_fail h) = both_fail λ cs. e cs ∙ h cs
   agree_same e (both_need h w) = both_need h (needs_same e w)
   agree_same e (both_ok k s h) = both_ok k s λ cs. e cs ∙ h cs
 
   -- one that began earlier
-  pub agree_before : {r : ℕ} {o : Out} → r ≤ p₀ → Agree L S R A K N Z Q p₀ m fs f o → Agree L S R A K N Z Q r m fs f o
+  pub agree_before : {r : ℕ} {o : Result ℕ Halt} → r ≤ p₀ → Agree L S R A K N Z Q p₀ m fs f o → Agree L S R A K N Z Q r m fs f o
   agree_before l (both_fail h) = both_fail h
   agree_before {r} l (both_need {p = p} h w) = let y : r ≤ p = omega arith in both_need y w
   agree_before l (both_ok k s h) = both_ok k s h
 
 module _ {L S R : List ℕ} {Q : List Kind} {m : ℕ} {f : List ℕ → Res} where
-  pub fail_meets : Meets L S R Q m f bound.Fail → (cs : List ℕ) → f cs ≡ fail
+  pub fail_meets : Meets L S R Q m f None → (cs : List ℕ) → f cs ≡ fail
   fail_meets (meets_fail e) = e
 
-  pub ok_meets : {k : ℕ} → Meets L S R Q m f (bound.Ok k) → (B : List Entry) × ((cs : List ℕ) → f cs ≡ ok B cs) × (k ≡ m) × State L S R Q k B
+  -- as the answer of the walk there
+  pub meets_agree : {A K N Z : List ℕ} {p₀ : ℕ} {fs : List Frame} {o : Option ℕ} → Meets L S R Q m f o → Agree L S R A K N Z Q p₀ m fs f (ok_or o halt.Fail)
+  meets_agree (meets_fail e) = both_fail e
+  meets_agree (meets_ok k s e) = both_ok k s e
+
+  pub ok_meets : {k : ℕ} → Meets L S R Q m f (Some k) → (B : List Entry) × ((cs : List ℕ) → f cs ≡ ok B cs) × (k ≡ m) × State L S R Q k B
   ok_meets (meets_ok {B = B} e s g) = (B, g, e, s)
 
 -- what a step says

@@ -1,5 +1,5 @@
 -- Not needed to believe the promise: what the term walk and the argument-list walk ask and answer.
-use Rattle.std.specs.Prelude.{ℕ, ◌+◌, ◌<◌, ◌≤◌, ◌≡◌, List, [], ◌∷◌, length, get_or}
+use Rattle.std.specs.Prelude.{ℕ, ◌+◌, ◌<◌, ◌≤◌, ◌≡◌, List, [], ◌∷◌, length, get_or, Result, Ok, Err}
 use Rattle.meaning.specs.Forest.{Forest, Term}
 use Rattle.meaning.specs.Pattern.{Pattern, Patterns, Kind, GoodT, GoodF, after_t, after_f}
 use Rattle.meaning.specs.Record.{Entry}
@@ -11,8 +11,8 @@ use Rattle.variable.specs.State.{State, Kept}
 use Rattle.walk.specs.Packed.{Past, Packed}
 use Rattle.walk.specs.Above.{Marks, Unchanged, Behind, Held, Stands}
 use Rattle.meaning.proofs.Next.{Any, any?}
-use Rattle.walk.specs.declared.Out.{Out}
-use Rattle.walk.specs.declared.Out.TheVariants as out
+use Rattle.walk.specs.declared.Halt.{Halt}
+use Rattle.walk.specs.declared.Halt.TheVariants as halt
 use Rattle.walk.specs.declared.Stop.{Stop as Stopped}
 
 -- f is a walk, which says its result for each list of choices; fs is left behind it. It asks for the variable x at the row p of the
@@ -35,10 +35,10 @@ stop_at p x s = record { place = p; variable = x; start = s }
 
 -- the code's answer, with the record R and the rows A, is that of the walk f; where it goes on, m variables are bound. It does not ask
 -- before the row p₀.
-pub data Agree (L S R A K N Z : List ℕ) (Q : List Kind) (p₀ m : ℕ) (fs : List Frame) (f : List ℕ → Res) : Out → Type 0 where
-  both_fail : ((cs : List ℕ) → f cs ≡ fail) → Agree L S R A K N Z Q p₀ m fs f out.Fail
-  both_need : {p x s lo hi : ℕ} → p₀ ≤ p → Needs L S R A K N Z Q fs f p x s lo hi → Agree L S R A K N Z Q p₀ m fs f (out.Need (stop_at p x s))
-  both_ok : {B : List Entry} {k : ℕ} → k ≡ m → State L S R Q k B → ((cs : List ℕ) → f cs ≡ ok B cs) → Agree L S R A K N Z Q p₀ m fs f (out.Ok k)
+pub data Agree (L S R A K N Z : List ℕ) (Q : List Kind) (p₀ m : ℕ) (fs : List Frame) (f : List ℕ → Res) : Result ℕ Halt → Type 0 where
+  both_fail : ((cs : List ℕ) → f cs ≡ fail) → Agree L S R A K N Z Q p₀ m fs f (Err halt.Fail)
+  both_need : {p x s lo hi : ℕ} → p₀ ≤ p → Needs L S R A K N Z Q fs f p x s lo hi → Agree L S R A K N Z Q p₀ m fs f (Err (halt.Need (stop_at p x s)))
+  both_ok : {B : List Entry} {k : ℕ} → k ≡ m → State L S R Q k B → ((cs : List ℕ) → f cs ≡ ok B cs) → Agree L S R A K N Z Q p₀ m fs f (Ok k)
 
 -- the pattern term q at row p, the term T at row t, and the state of the walk between them
 pub record TermAsked (L S M R A : List ℕ) (p t n : ℕ) (K N Z : List ℕ) (Q : List Kind) (q : Pattern) (T : Term) (B : List Entry) (fs : List Frame) : Type 0 where
@@ -62,7 +62,7 @@ pub record TermPre (L S M R A : List ℕ) (p t n : ℕ) : Type 0 where
   pub fs : List Frame
   pub asked : TermAsked L S M R A p t n K N Z Q q T B fs
 
-pub record TermPost (L S M R A : List ℕ) (p t n : ℕ) (o : Out) (R' A' : List ℕ) : Type 0 where
+pub record TermPost (L S M R A : List ℕ) (p t n : ℕ) (o : Result ℕ Halt) (R' A' : List ℕ) : Type 0 where
   pub is : (K N Z : List ℕ) (Q : List Kind) (q : Pattern) (T : Term) (B : List Entry) (fs : List Frame) → TermAsked L S M R A p t n K N Z Q q T B fs
       → Agree L S R' A' K N Z Q p (after_t q n) fs (walk_t Any any? q T t B) o × Kept Q n R R' × Unchanged p A A'
 
@@ -89,6 +89,6 @@ pub record ListPre (L S M R A : List ℕ) (p pe t te n : ℕ) : Type 0 where
   pub fs : List Frame
   pub asked : ListAsked L S M R A p pe t te n K N Z Q ps us B fs
 
-pub record ListPost (L S M R A : List ℕ) (p pe t te n : ℕ) (o : Out) (R' A' : List ℕ) : Type 0 where
+pub record ListPost (L S M R A : List ℕ) (p pe t te n : ℕ) (o : Result ℕ Halt) (R' A' : List ℕ) : Type 0 where
   pub is : (K N Z : List ℕ) (Q : List Kind) (ps : Patterns) (us : Forest) (B : List Entry) (fs : List Frame) → ListAsked L S M R A p pe t te n K N Z Q ps us B fs
       → Agree L S R' A' K N Z Q p (after_f ps n) fs (walk_f Any any? ps us t B) o × Kept Q n R R' × Unchanged p A A'

@@ -1,5 +1,5 @@
 -- Not needed to believe the promise: how a walk begins, and how it goes on where it stopped.
-use Rattle.std.specs.Prelude.{ℕ, ◌+◌, ◌≤◌, ◌≡◌, List, [], length, get_or}
+use Rattle.std.specs.Prelude.{ℕ, ◌+◌, ◌≤◌, ◌≡◌, List, [], length, get_or, Result}
 use Rattle.meaning.specs.Forest.{Forest, Term}
 use Rattle.meaning.specs.Pattern.{Pattern, Patterns, Kind, after_t}
 use Rattle.meaning.specs.Record.{Entry}
@@ -14,7 +14,7 @@ use Rattle.variable.specs.Steps as steps
 use Rattle.walk.specs.Packed.{Packed}
 use Rattle.walk.specs.Above.{Marks, Unchanged, Marked, Behind, Stands}
 use Rattle.walk.specs.Cycle.{Agree}
-use Rattle.walk.specs.declared.Out.{Out}
+use Rattle.walk.specs.declared.Halt.{Halt}
 
 -- up: the walk is behind the pattern term at the row p, and the frames are left
 pub record UpAsked (L S M R A : List ℕ) (p n : ℕ) (K N Z : List ℕ) (Q : List Kind) (B : List Entry) (fs : List Frame) : Type 0 where
@@ -30,7 +30,7 @@ pub record UpPre (L S M R A : List ℕ) (p n : ℕ) : Type 0 where
   pub some : (K : List ℕ) × (N : List ℕ) × (Z : List ℕ) × (Q : List Kind) × (B : List Entry) × (fs : List Frame) × UpAsked L S M R A p n K N Z Q B fs
 
 -- all of the frames are walked. It asks behind the term at p.
-pub record UpPost (L S M R A : List ℕ) (p n : ℕ) (o : Out) (R' A' : List ℕ) : Type 0 where
+pub record UpPost (L S M R A : List ℕ) (p n : ℕ) (o : Result ℕ Halt) (R' A' : List ℕ) : Type 0 where
   pub is : (K N Z : List ℕ) (Q : List Kind) (B : List Entry) (fs : List Frame) → UpAsked L S M R A p n K N Z Q B fs
       → (m : ℕ) × Agree L S R' A' K N Z Q (p + get_or Z p 0) m [] (run Any any? fs B) o × Kept Q n R R' × Unchanged (p + get_or Z p 0) A A'
 
@@ -52,7 +52,7 @@ pub record ResumePre (L S M R A : List ℕ) (p u n : ℕ) : Type 0 where
   pub some : (K : List ℕ) × (N : List ℕ) × (Z : List ℕ) × (Q : List Kind) × (B : List Entry) × (x : ℕ) × (s : ℕ) × (w : Stop) × (fs : List Frame) × (d : ℕ)
       × ResumeAsked L S M R A p u n K N Z Q B x s w fs d
 
-pub record ResumePost (L S M R A : List ℕ) (p u n : ℕ) (o : Out) (R' A' : List ℕ) : Type 0 where
+pub record ResumePost (L S M R A : List ℕ) (p u n : ℕ) (o : Result ℕ Halt) (R' A' : List ℕ) : Type 0 where
   pub is : (K N Z : List ℕ) (Q : List Kind) (B : List Entry) (x s : ℕ) (w : Stop) (fs : List Frame) (d : ℕ) → ResumeAsked L S M R A p u n K N Z Q B x s w fs d
       → (m : ℕ) × Agree L S R' A' K N Z Q (p + 1) m [] (onward Any any? w s fs d B) o × Kept Q n R R' × Unchanged (p + 1) A A'
 
@@ -70,6 +70,6 @@ pub record Problem (L S M R A : List ℕ) (T : Term) (P : Pattern) (Q : List Kin
 pub record BeginPre (L S M R A : List ℕ) : Type 0 where
   pub some : (T : Term) × (P : Pattern) × (Q : List Kind) × Problem L S M R A T P Q
 
-pub record BeginPost (L S M R A : List ℕ) (o : Out) (R' A' : List ℕ) : Type 0 where
+pub record BeginPost (L S M R A : List ℕ) (o : Result ℕ Halt) (R' A' : List ℕ) : Type 0 where
   pub is : (T : Term) (P : Pattern) (Q : List Kind) (h : Problem L S M R A T P Q)
       → Agree L S R' A' h.K h.N h.Z Q 0 (after_t P 0) [] (walk_t Any any? P T 0 []) o × Kept Q 0 R R' × Unchanged 0 A A'

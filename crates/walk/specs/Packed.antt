@@ -1,5 +1,15 @@
--- Not needed to believe the promise: what the walk needs of a pattern, prepared once: six numbers a row in one list.
-use Rattle.std.specs.Prelude.{ℕ, ◌+◌, ◌-◌, ◌*◌, ◌<◌, ◌≤◌, ◌≡◌, List, length, get_or}
+-- Not needed to believe the promise: what the walk needs of a pattern, prepared once: six numbers a row.
+use Rattle.std.specs.Prelude.{ℕ, ◌+◌, ◌-◌, ◌*◌, ◌<◌, ◌≤◌, ◌≡◌, List, [], ◌∷◌, length, get_or}
+use Rattle.walk.specs.declared.PatternRow.{PatternRow}
+
+-- the six numbers of each row, one row after another
+unfoldable pub numbers_of : List PatternRow → List ℕ
+numbers_of [] = []
+numbers_of (r ∷ rows) = r.kind ∷ r.name ∷ r.size ∷ r.holder ∷ r.start ∷ r.flag ∷ numbers_of rows
+
+-- a row before it is packed
+abbrev pub unpacked : PatternRow
+unpacked = record { kind = 0; name = 0; size = 0; holder = 0; start = 0; flag = 0 }
 
 -- the terms at the rows between h and p end before p
 pub record Past (Z : List ℕ) (h p : ℕ) : Type 0 where

@@ -6,8 +6,13 @@ use Prim.Native.Nat.{ℕ, zero, suc, ◌+◌, ◌-◌, ◌*◌, ◌/◌, ◌%◌
 use native.Mathlib.Omega.{arith}
 use native.Mathlib.Nat.{mul-le-mul_right}
 use lib.Dec.{eqb, ltb}
-use lib.ListN.{get_or}
-use borrow.Author.Count.{below_more}
+use lib.ListN.{get_or, length, take, drop}
+use lib.Pointwise.{pointwise}
+use Rattle.std.proofs.lemmas.Bool.Decides.{Decides-eqb}
+use Rattle.std.proofs.lemmas.Grind.{common_steps, same_number_lists}
+use Rattle.std.proofs.lemmas.List.{get_or-take, get_or-drop}
+use Rattle.std.proofs.lemmas.Slice.Eq.{slice_eq-Decides}
+use Rattle.std.specs.Bool.{Decides}
 use borrow.Author.Tests.{ltb-true, ltb-false, eqb-true, eq-eqb}
 use Rattle.meaning.specs.Calls.{Says}
 use Rattle.words.specs.Words.{word_of, Again, mixed_of, few_of, long_hash_of, hash_of}
@@ -83,10 +88,6 @@ word_same {v} {w} {a} {b} {n} h = go n a b h.each
 pub part_same : {v w : List ℕ} {a b n : ℕ} (k m : ℕ) → Again v a w b n → k + m ≤ n → word_of v (a + k) m ≡ word_of w (b + k) m
 part_same k m h l = word_same (again_part k m h l)
 
--- one byte more
-pub again_one : {v w : List ℕ} {a b k : ℕ} → Again v a w b k → get_or v (a + k) 0 ≡ get_or w (b + k) 0 → Again v a w b (k + 1)
-again_one {v} {w} {a} {b} {k} h e = record { each = below_more (λ (j : ℕ). get_or w (b + j) 0 ≡ get_or v (a + j) 0) k h.each (sym e) }
-
 -- m bytes more
 pub again_more : {v w : List ℕ} {a b k : ℕ} (m : ℕ) → Again v a w b k → Again v (a + k) w (b + k) m → Again v a w b (k + m)
 again_more {v} {w} {a} {b} {k} m h e = record { each = λ j p. go j p (ltb j k) refl }
@@ -109,12 +110,23 @@ again_all {v} {w} {a} {b} {k} {n} m h l s e = record { each = λ j p. go j p (lt
         let y : b + (n - m) + (j - (n - m)) ≡ b + j = omega (arith, ltb-false j (n - m) q) in
         rw (x, y) at (e.each (j - (n - m)) (omega (arith, p, ltb-false j (n - m) q)))
 
--- THE ANSWERS of a comparison, up to k
-pub says_all : {v w : List ℕ} {a b k n : ℕ} → Again v a w b k → n ≤ k → Says true (Again v a w b n)
-says_all h l = (λ e. record { each = λ j q. h.each j (omega (arith, q, l)) }, λ q. refl)
+-- THE ANSWERS of a comparison: of two slices
+slice_each : (v : List ℕ) (a n k : ℕ) → k < n → get_or (take (a + n - a) (drop a v)) k 0 ≡ get_or v (a + k) 0
+slice_each v a n k h = get_or-take (a + n - a) (drop a v) k 0 (omega arith) ∙ get_or-drop a v k 0
 
-pub says_byte : {v w : List ℕ} {a b n : ℕ} (k : ℕ) → k < n → (get_or v (a + k) 0 ≡ get_or w (b + k) 0 → ⊥) → Says false (Again v a w b n)
-says_byte k l d = (λ e. absurd (true≢false (sym e)), λ q. absurd (d (sym (q.each k l))))
+slice_length : (v : List ℕ) (a n : ℕ) → a + n ≤ length v → length (take (a + n - a) (drop a v)) ≡ n
+slice_length v a n h = grind (arith, common_steps)
+
+pub says_equal : {v w : List ℕ} {a b n : ℕ} (r : Bool) → a + n ≤ length v → b + n ≤ length w →
+    r ≡ pointwise eqb (take (a + n - a) (drop a v)) (take (b + n - b) (drop b w)) → Says r (Again v a w b n)
+says_equal {v} {w} {a} {b} {n} r h l e =
+    let x = take (a + n - a) (drop a v) in
+    let y = take (b + n - b) (drop b w) in
+    let says : Decides r (x ≡ y) = slice_eq-Decides Decides-eqb x y r e in (
+      λ t. record { each = λ k p. sym (slice_each w b n k p) ∙ ap (λ (z : List ℕ). get_or z k 0) (sym (says.0 t)) ∙ slice_each v a n k p },
+      λ q. says.1 (same_number_lists x y (slice_length v a n h ∙ sym (slice_length w b n l))
+          (λ k p. let s : k < n = omega (arith, p, slice_length v a n h) in slice_each v a n k s ∙ sym (q.each k s) ∙ sym (slice_each w b n k s))),
+    )
 
 module _ {v w : List ℕ} (sv : Bytes v) (sw : Bytes w) {a b n : ℕ} (m : ℕ) {x y : ℕ} where
   -- a number differs

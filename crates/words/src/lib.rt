@@ -6,21 +6,15 @@ ghost use lib.ListN.{length};
 ghost use Rattle.meaning.specs.Calls.{Says};
 ghost use Rattle.words.specs.Words.{word_of, Again, mixed_of, few_of, long_hash_of, hash_of};
 
-fn wide(x: u8) -> u64
-    ensures { (result ≡ x) × (result < 256) }
-{
-    x as u64
-}
-
 // Four bytes as one number, the first the lowest. The compiler makes one load of it.
 pub fn half(text: &[u8], i: usize) -> u64
     requires { i + 4 ≤ length text.now }
     ensures { (result ≡ word_of text.now i 4) × (result < 4294967296) }
 {
-    let a = wide(text[i]);
-    let b = wide(text[i + 1]);
-    let c = wide(text[i + 2]);
-    let d = wide(text[i + 3]);
+    let a = u64::from(text[i]);
+    let b = u64::from(text[i + 1]);
+    let c = u64::from(text[i + 2]);
+    let d = u64::from(text[i + 3]);
     a + 256 * (b + 256 * (c + 256 * d))
 }
 
@@ -37,14 +31,7 @@ pub fn same_bytes(left: &[u8], at: usize, right: &[u8], from: usize, length: usi
     requires { (at + length ≤ lib.ListN.length left.now) × (from + length ≤ lib.ListN.length right.now) }
     ensures { Says result (Again left.now at right.now from length) }
 {
-    let mut k: usize = 0;
-    while k < length {
-        if left[at + k] != right[from + k] {
-            return false;
-        }
-        k += 1;
-    }
-    true
+    left[at..at + length] == right[from..from + length]
 }
 
 // Four to seven bytes: the first four and the last four.
@@ -75,7 +62,7 @@ fn same_words(left: &[u8], at: usize, right: &[u8], from: usize, length: usize) 
     word(left, at + rest) == word(right, from + rest)
 }
 
-// Are the `length` bytes of `left` from `at` those of `right` from `from`?
+// Are the `length` bytes of `left` from `at` those of `right` from `from`? The `==` of slices alone makes the reader an eighth slower.
 pub fn same(left: &[u8], at: usize, right: &[u8], from: usize, length: usize) -> bool
     requires { (at + length ≤ lib.ListN.length left.now) × (from + length ≤ lib.ListN.length right.now) }
     ensures { Says result (Again left.now at right.now from length) }
@@ -113,9 +100,9 @@ fn few(text: &[u8], start: usize, length: usize) -> u64
     requires { (0 < length) × (start + length ≤ lib.ListN.length text.now) }
     ensures { result ≡ few_of text.now start length }
 {
-    let a = wide(text[start]);
-    let b = wide(text[start + length / 2]);
-    let c = wide(text[start + (length - 1)]);
+    let a = u64::from(text[start]);
+    let b = u64::from(text[start + length / 2]);
+    let c = u64::from(text[start + (length - 1)]);
     a + 256 * (b + 256 * c)
 }
 
