@@ -59,6 +59,14 @@ impl Classes {
         for k in 0..256 {
             class[256 + k] = stop_of(class[k]);
         }
+        Classes::of(class)
+    }
+
+    // A caller's own table, if it is one: whoever has the classes of all bytes can lend them.
+    pub fn of(class: [u8; 512]) -> Classes
+        requires { Classed class }
+        ensures { result.class ≡ class }
+    {
         Classes { class }
     }
 
