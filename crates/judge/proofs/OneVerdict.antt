@@ -1,18 +1,22 @@
--- The verdict is unique.
+-- The verdict is unique, and so is the answer that it is about: a code, a place and a number of rows are those of one answer.
 use mathlib.Core.Path.{◌≡◌, refl, sym, ◌∙◌}
 use mathlib.Core.Bool.{cond}
 use mathlib.Core.List.{List}
 use Prim.Native.Nat.{ℕ, ◌≤◌, ◌<◌}
 use native.Mathlib.Omega.{arith}
-use lib.Dec.{ltb}
+use lib.Dec.{eqb, ltb}
 use lib.ListN.{length}
 use borrow.Author.Tests.{lt-ltb, le-ltb}
+use Rattle.std.specs.Prelude.{Result, Ok, Err}
 use Rattle.meaning.specs.Forest.{rows}
 use Rattle.tree.specs.Rows.{depth}
 use Rattle.grammar.specs.Grammar.{Bytes, Content, Document, OutsideAt}
 use Rattle.grammar.specs.Rows.{shape}
 use Rattle.grammar.proofs.Unique.{one_reading, one_place}
+use Rattle.judge.specs.Answer as Told
 use Rattle.judge.specs.Verdict.{Verdict, long, outside, deep, many, read}
+use Rattle.judge.specs.declared.refusal.Refusal.{Refusal}
+use Rattle.judge.specs.declared.refusal.Refusal.TheVariants.{BadDictionary, TooLong, Outside, TooDeep, TooMany, NoRoom}
 
 abbrev Answer : ℕ → ℕ → ℕ → ℕ → ℕ → ℕ → Type 0
 Answer c p n c' p' n' = (c ≡ c') × (p ≡ p') × (n ≡ n')
@@ -62,3 +66,29 @@ one_verdict (outside h o) v = same (refused (outside h o) h o) (refused v h o)
 one_verdict (deep h d e) v = same (whole (deep h d e) h d) (whole v h d)
 one_verdict (many h d e m) v = same (whole (many h d e m) h d) (whole v h d)
 one_verdict (read h d e m) v = same (whole (read h d e m) h d) (whole v h d)
+
+-- the answer of a code, a place and a number of rows
+abbrev of_numbers : ℕ → ℕ → ℕ → Result ℕ Refusal
+of_numbers code place rows =
+    cond (eqb code 0) (Ok rows)
+    (cond (eqb code 1) (Err BadDictionary)
+    (cond (eqb code 2) (Err TooLong)
+    (cond (eqb code 3) (Err (Outside place))
+    (cond (eqb code 4) (Err TooDeep)
+    (cond (eqb code 5) (Err TooMany) (Err NoRoom))))))
+
+of_its_numbers : (r : Result ℕ Refusal) → of_numbers (Told.code_of r) (Told.place_of r) (Told.rows_of r) ≡ r
+of_its_numbers (Ok n) = refl
+of_its_numbers (Err BadDictionary) = refl
+of_its_numbers (Err TooLong) = refl
+of_its_numbers (Err (Outside p)) = refl
+of_its_numbers (Err TooDeep) = refl
+of_its_numbers (Err TooMany) = refl
+of_its_numbers (Err NoRoom) = refl
+
+-- no two answers have the same numbers
+pub one_told : (r s : Result ℕ Refusal) → Told.code_of r ≡ Told.code_of s → Told.place_of r ≡ Told.place_of s → Told.rows_of r ≡ Told.rows_of s → r ≡ s
+one_told r s c p n = sym (of_its_numbers r) ∙ (λ i. of_numbers (c i) (p i) (n i)) ∙ of_its_numbers s
+
+pub one_judged : {w : List ℕ} {r s : Result ℕ Refusal} → Verdict w (Told.code_of r) (Told.place_of r) (Told.rows_of r) → Verdict w (Told.code_of s) (Told.place_of s) (Told.rows_of s) → r ≡ s
+one_judged {r = r} {s = s} a b = let o = one_verdict a b in one_told r s o.0 o.1 o.2
