@@ -8,6 +8,8 @@ use native.Mathlib.Numerals.{add-one}
 use native.Mathlib.Decide.{ℕ_discrete}
 use lib.ListN.{length, get_or, take, drop, length-drop, drop_of_length-le, take-append-drop}
 use lib.Seq.{drop-drop, take-suc, take-add, get_or-drop, drop_at, take_all, length-take-le}
+use Rattle.std.specs.Prelude.{Option, Some, None}
+use Rattle.std.specs.Option.{is_some, unwrap_or}
 use Rattle.meaning.proofs.Answers.{one_answer}
 use Rattle.dictionary.specs.Names.{encoding, GoodDictionary, NamesOf, DictionaryChecked}
 use Rattle.dictionary.specs.Scan.{range, upto, pieces}
@@ -51,6 +53,16 @@ checked_bad h = record { says = (λ e. absurd (true≢false (sym e)), λ g. absu
 pub checked_unique : (d : List ℕ) (a b : Bool) (j k : ℕ) → DictionaryChecked d a j → DictionaryChecked d b k → (a ≡ b) × (j ≡ k)
 checked_unique d a b j k s t =
     (one_answer a b s.says t.says, s.counted.2 ∙ ap length (names_unique s.counted.1 t.counted.1) ∙ sym t.counted.2)
+
+-- .. and with it the number that is given or not
+one_told : (r s : Option ℕ) → is_some r ≡ is_some s → unwrap_or r 0 ≡ unwrap_or s 0 → r ≡ s
+one_told None None e f = refl
+one_told None (Some k) e f = absurd (true≢false (sym e))
+one_told (Some j) None e f = absurd (true≢false e)
+one_told (Some j) (Some k) e f = ap Some f
+
+pub one_checked : {d : List ℕ} {r s : Option ℕ} → DictionaryChecked d (is_some r) (unwrap_or r 0) → DictionaryChecked d (is_some s) (unwrap_or s 0) → r ≡ s
+one_checked {d} {r} {s} a b = let o = checked_unique d _ _ _ _ a b in one_told r s o.0 o.1
 
 -- THE WALK: p is where the piece k starts
 pub record Begins (d : List ℕ) (p k : ℕ) : Type 0 where

@@ -12,6 +12,10 @@ use lib.Seq.{take_at, drop_at, drop-cons}
 use borrow.Author.Tests.{ltb-true, leb-true, eq-eqb, ne_eqb, lt-ltb, le-ltb, le-leb, lt-leb}
 use Rattle.dictionary.specs.Names.{encoding, GoodDictionary, NamesOf, DictionaryChecked}
 use Rattle.dictionary.specs.Scan.{range, upto, pieces}
+use Rattle.dictionary.specs.Source.{number_of_source}
+use Rattle.dictionary.specs.declared.spelling.Part.{Part}
+use Rattle.dictionary.specs.declared.spelling.Source.{Source}
+use Rattle.dictionary.specs.declared.spelling.Source.TheVariants.{Dictionary, Document}
 use Rattle.dictionary.specs.Spelling.{PartOf, empty_part, part_of_dictionary, part_of_document, half, spelling_of, bytes_of, IsPart, PartAnswered, part_stands_at, SpellingAnswered}
 use Rattle.dictionary.proofs.Pieces.{piece_length, within, encoding_append}
 use Rattle.dictionary.proofs.Names.{Begins, begins_next, begins_start, piece_is, good_pieces, names_unique, names_good, bad_end}
@@ -207,6 +211,16 @@ module _ {dictionary document labels starts lengths : List ℕ} {row source star
   spelled_document d w h = spelled d w (w.0, start + w.1) document (simp (ne_eqb source 0 h)) (simp (ne_eqb source 0 h))
 
 -- BOTH PROMISES SETTLE THEIR ANSWERS
+abbrev source_of : ℕ → Source
+source_of n = cond (eqb n 0) Dictionary Document
+
+of_its_number : (a : Source) → source_of (number_of_source a) ≡ a
+of_its_number Dictionary = refl
+of_its_number Document = refl
+
+one_source : (a b : Source) → number_of_source a ≡ number_of_source b → a ≡ b
+one_source a b e = sym (of_its_number a) ∙ ap source_of e ∙ of_its_number b
+
 module _ (dictionary document labels starts lengths : List ℕ) (row : ℕ) where
   pub part_unique : (s t u s' t' u' : ℕ) → PartAnswered dictionary document labels starts lengths row s t u → PartAnswered dictionary document labels starts lengths row s' t' u' →
       (s ≡ s') × (t ≡ t') × (u ≡ u')
@@ -217,6 +231,14 @@ module _ (dictionary document labels starts lengths : List ℕ) (row : ℕ) wher
         x.part_is.start_is ∙ ap (λ (p : PartOf). p.start) e ∙ sym y.part_is.start_is,
         x.part_is.length_is ∙ ap (λ (p : PartOf). p.length) e ∙ sym y.part_is.length_is,
       )
+
+  -- .. and the part itself, of which these are the numbers
+  pub one_part : (p q : Part) → PartAnswered dictionary document labels starts lengths row (number_of_source p.source) p.start p.length →
+      PartAnswered dictionary document labels starts lengths row (number_of_source q.source) q.start q.length → p ≡ q
+  one_part p q x y =
+      let o = part_unique _ _ _ _ _ _ x y in
+      let same : p.source ≡ q.source = one_source p.source q.source o.0 in
+      λ i. record { source = same i; start = o.1 i; length = o.2 i }
 
   pub spelling_unique : (d w at at' : ℕ × ℕ) (v v' : List ℕ) → SpellingAnswered d w dictionary document labels starts lengths row at v →
       SpellingAnswered d w dictionary document labels starts lengths row at' v' → (at ≡ at') × (v ≡ v')
