@@ -1,3 +1,4 @@
 pub mod Lowest
 pub mod Posed
 pub mod Allows
+pub mod Unique
