@@ -5,6 +5,7 @@ use Prim.Native.Nat.{ℕ, ◌+◌, ◌-◌, ◌*◌, ◌≤◌, ◌<◌}
 use native.Mathlib.Omega.{arith}
 use lib.ListN.{length, get_or, take, drop, length-map}
 use lib.Seq.{take_at}
+use Rattle.std.specs.Prelude.{Result}
 use Rattle.meaning.specs.Forest.{none, Term, ◌◂◌}
 use Rattle.tree.specs.Rows.{GoodRows, labels, sizes, depth}
 use Rattle.tree.proofs.Lists.{labels_rows, sizes_rows}
@@ -12,8 +13,10 @@ use Rattle.grammar.specs.Grammar.{Bytes, ◌⊲◌, Content, Document}
 use Rattle.grammar.specs.Rows.{label_of, shape, Row, rows_of}
 use Rattle.grammar.proofs.Unique.{one_reading}
 use Rattle.grammar.proofs.Trees.{one_term, depth_is, shape_depth}
+use Rattle.judge.specs.Answer as Told
 use Rattle.judge.specs.Verdict.{Verdict}
-use Rattle.judge.proofs.OneVerdict.{one_verdict}
+use Rattle.judge.specs.declared.refusal.Refusal.{Refusal}
+use Rattle.judge.proofs.OneVerdict.{one_verdict, one_told}
 use Rattle.dictionary.specs.Scan.{range}
 use Rattle.dictionary.specs.Names.{GoodDictionary}
 use Rattle.dictionary.proofs.Names.{good_unique}
@@ -88,6 +91,13 @@ pub one_answer : (d w label size start width label₁ size₁ start₁ width₁ 
     Read d w label size start width label₁ size₁ start₁ width₁ c₁ p₁ n₁ → Read d w label size start width label₂ size₂ start₂ width₂ c₂ p₂ n₂ →
     Same c₁ p₁ n₁ label₁ size₁ start₁ width₁ c₂ p₂ n₂ label₂ size₂ start₂ width₂
 one_answer d w _ _ _ _ _ _ _ _ _ _ _ _ _ _ _ _ _ _ x y = one_case (cases x) (cases y)
+
+-- .. and so is the answer itself, of which these are the code, the place and the rows
+pub one_read : {d w label size start width label₁ size₁ start₁ width₁ label₂ size₂ start₂ width₂ : List ℕ} {r s : Result ℕ Refusal} →
+    Read d w label size start width label₁ size₁ start₁ width₁ (Told.code_of r) (Told.place_of r) (Told.rows_of r) →
+    Read d w label size start width label₂ size₂ start₂ width₂ (Told.code_of s) (Told.place_of s) (Told.rows_of s) →
+    (r ≡ s) × (label₁ ≡ label₂) × (size₁ ≡ size₂) × (start₁ ≡ start₂) × (width₁ ≡ width₂)
+one_read {r = r} {s = s} x y = let o = one_case (cases x) (cases y) in (one_told r s o.0 o.1 o.2, o.3, o.4, o.5, o.6)
 
 one_check_case : (d w : List ℕ) (r s : ℕ) → CheckCases d w r → CheckCases d w s → r ≡ s
 one_check_case d w r s (bad h) (bad k) = refl
