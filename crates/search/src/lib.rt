@@ -15,7 +15,7 @@ use tree::Tree;
 use walk::{Halt, PatternRow};
 
 // What the search comes to: the ending, how many records were written, and the tries.
-#[derive(Drop)]
+#[derive(Clone, Copy)]
 pub struct Found {
     pub ending: Ending,
     pub records: usize,
