@@ -100,3 +100,14 @@ module _ {l : Lists} {budget : ℕ} {before : List ℕ} {r s : Listed} {v w : Li
       let p = posed l (RecordCodes l list) r.code e a.code in
       one_shown (λ x y. one_page) (a.listed e p.T p.P p.Q p.es p.cs p.poses) (b.listed (sym c ∙ e) p.T p.P p.Q p.es p.cs p.poses))
       a.refused b.refused
+
+-- the answer itself, and not only its numbers
+told_one : {r s : Result Found Refusal} {v w : List ℕ} → Same (told r) (told s) v w → (r ≡ s) × (v ≡ w)
+told_one {r} {s} o = let e = are_one o in (one_told r s e.0, e.1)
+
+module _ {l : Lists} {budget : ℕ} {before : List ℕ} {r s : Result Found Refusal} {v w : List ℕ} where
+  pub one_list : Settled l budget before (told r) v → Settled l budget before (told s) w → (r ≡ s) × (v ≡ w)
+  one_list a b = told_one (one_listed a b)
+
+  pub one_list_after : {list : List ℕ} → PageSettled l list budget before (told r) v → PageSettled l list budget before (told s) w → (r ≡ s) × (v ≡ w)
+  one_list_after a b = told_one (one_paged a b)
