@@ -7,13 +7,16 @@ use lib.ListN.{length, get_or}
 use lib.Seq.{ext_get_or}
 use native.Mathlib.Omega.{arith}
 use native.Mathlib.Decide.{ℕ_discrete}
+use Rattle.std.specs.Prelude.{Result, Ok, Err}
 use Rattle.meaning.specs.Calls.{refuse, accept}
+use Rattle.meaning.specs.declared.refusal.Refusal.{Refusal}
 use Rattle.meaning.proofs.OneCode.{one_refuse, one_accept}
+use Rattle.meaning.proofs.Refusals.{code_some, one_refusal}
 use Rattle.catalogue.specs.Listing.{joined}
 use Rattle.lister.specs.Listed.{Listed, Settled}
 use Rattle.lister.proofs.Unique.{one_listed, are_one}
 use Rattle.panel.specs.Parts.{sum, part, first_parts}
-use Rattle.panel.specs.Panel.{Panel, problems, problem, answer_at, ListsAgree, LengthsAddUp, PanelSettled}
+use Rattle.panel.specs.Panel.{Panel, told, problems, problem, answer_at, ListsAgree, LengthsAddUp, PanelSettled}
 use Rattle.panel.proofs.Parts.{parts_joined}
 
 -- lists whose parts are the same are the same
@@ -86,3 +89,15 @@ module _ {p : Panel} {out answer : List ℕ} {r r' : ℕ} {out₁ answer₁ out�
           let x = s.refused n in
           let y = t.refused (λ e. n (one_code ∙ e)) in
           (one_code, x.0 ∙ sym y.0, x.1 ∙ sym y.1)
+
+-- no two answers have one code
+pub one_told : (r s : Result (Unit {0}) Refusal) → told r ≡ told s → r ≡ s
+one_told (Ok x) (Ok y) e = refl
+one_told (Ok x) (Err d) e = absurd (code_some d (sym e))
+one_told (Err d) (Ok y) e = absurd (code_some d e)
+one_told (Err d) (Err k) e = ap Err (one_refusal d k e)
+
+-- the answer itself, and not only its code
+pub one_panel_answer : {p : Panel} {out answer out₁ answer₁ out₂ answer₂ : List ℕ} {r s : Result (Unit {0}) Refusal} → PanelSettled p out answer (told r) out₁ answer₁ → PanelSettled p out answer (told s) out₂ answer₂
+    → (r ≡ s) × (out₁ ≡ out₂) × (answer₁ ≡ answer₂)
+one_panel_answer {r = r} {s = s} a b = let o = one_panel a b in (one_told r s o.0, o.1, o.2)
