@@ -5,11 +5,14 @@ use mathlib.Core.Logic.{◌↔◌}
 use mathlib.Core.List.{List, [], ◌∷◌}
 use lib.ListN.{length}
 use native.Mathlib.Omega.{arith}
+use Rattle.std.specs.Prelude.{Result, Ok, Err}
 use Rattle.meaning.specs.Forest.{Term}
 use Rattle.meaning.specs.Pattern.{Pattern, Kind, Numbered}
 use Rattle.meaning.specs.Matcher.{Value, Solves}
 use Rattle.meaning.specs.Calls.{accept}
+use Rattle.meaning.specs.declared.refusal.Refusal.{Refusal}
 use Rattle.meaning.proofs.OneCode.{one_accept}
+use Rattle.meaning.proofs.Refusals.{code_some, one_refusal}
 use Rattle.constraint.specs.Obeys.{Constraint, Allowed}
 use Rattle.constraint.proofs.Allowed.{allowed?}
 use Rattle.problem.specs.Problem.{Lists}
@@ -17,8 +20,10 @@ use Rattle.problem.proofs.Posed.{Posed, posed, codes_high, one_codes}
 use Rattle.catalogue.specs.Listing.{Solutions, Listing}
 use Rattle.catalogue.specs.Answer.{at_most, room_of}
 use Rattle.catalogue.proofs.Facts.{at_most_one}
-use Rattle.client.specs.Solvable.{Answer, Refused, Yes, No, Open, code_of, Settled}
-use Rattle.client.specs.Promises.{ForOne, RoomForOne, Decides, Client}
+use Rattle.client.specs.Solvable.{Answer, Refused, Yes, No, Open, answer, told, code_of, Settled}
+use Rattle.client.specs.Promises.{ForOne, RoomForOne, OneAnswer, Decides, DecidesTold, Client}
+use Rattle.client.specs.declared.HasMatcher.{HasMatcher}
+use Rattle.client.specs.declared.HasMatcher.TheVariants as HasMatcher
 use Rattle.client.proofs.Ways.{Way, full, spent, done}
 use Rattle.client.proofs.Known.{way, found, absent}
 
@@ -86,8 +91,35 @@ module _ (l : Lists) (budget : ℕ) where
   one_of Open No a b = no_and_open b a
   one_of Open Open a b = refl
 
-decides : Decides
-decides l budget r T P Q es cs tries s w u h = go r s
+-- WHAT IS TOLD IS OF ONE ANSWER
+abbrev of_answer : Answer → HasMatcher
+of_answer (Refused c) = HasMatcher.Open
+of_answer Yes = HasMatcher.Yes
+of_answer No = HasMatcher.No
+of_answer Open = HasMatcher.Open
+
+of_its_answer : (a : HasMatcher) → of_answer (answer a) ≡ a
+of_its_answer HasMatcher.Yes = refl
+of_its_answer HasMatcher.No = refl
+of_its_answer HasMatcher.Open = refl
+
+no_code : (a : HasMatcher) → code_of (answer a) ≡ 0
+no_code HasMatcher.Yes = refl
+no_code HasMatcher.No = refl
+no_code HasMatcher.Open = refl
+
+-- no two answers are told alike
+pub one_told : (r s : Result HasMatcher Refusal) → told r ≡ told s → r ≡ s
+one_told (Ok a) (Ok b) e = ap Ok (sym (of_its_answer a) ∙ ap of_answer e ∙ of_its_answer b)
+one_told (Ok a) (Err d) e = absurd (code_some d (sym (ap code_of e) ∙ no_code a))
+one_told (Err d) (Ok b) e = absurd (code_some d (ap code_of e ∙ no_code b))
+one_told (Err d) (Err k) e = ap Err (one_refusal d k (ap code_of e))
+
+one_answer : OneAnswer
+one_answer l budget r s a b = one_told r s (one_of l budget (told r) (told s) a b)
+
+decides_told : DecidesTold
+decides_told l budget r T P Q es cs tries s w u h = go r s
   where
     go : (r : Answer) → Settled l budget r → (r ≡ Open → ⊥) × ((r ≡ Yes) ↔ ((σ : List Value) × Solves (Allowed cs) Q σ P T))
     go (Refused c) s = let p : Posed l = record { T = T; P = P; Q = Q; es = es; cs = cs; poses = w } in absurd (s.answered (one_codes l accept one_accept c 0 s.code (codes_high l accept 0 p refl)) T P Q es cs w)
@@ -99,5 +131,10 @@ decides l budget r T P Q es cs tries s w u h = go r s
         (λ e. let z : ◌≡◌ {A = ℕ} 0 1 = cc in omega arith, (λ e. let z : ◌≡◌ {A = ℕ} 0 1 = cc in absurd (omega arith), λ p. absurd (n.none p.0 p.1)))
     go Open s = let k = (s.answered refl T P Q es cs w).more tries u in absurd (omega arith)
 
+decides : Decides
+decides l budget r T P Q es cs tries s w u h =
+    let d = decides_told l budget (told r) T P Q es cs tries s w u h in
+    (λ e. d.0 (ap told e), (λ e. d.1.0 (ap told e), λ p. one_told r (Ok HasMatcher.Yes) (d.1.1 p)))
+
 pub client : Client
-client = record { room_for_one = room_for_one; one_answer = one_of; decides = decides }
+client = record { room_for_one = room_for_one; one_answer = one_answer; one_told = one_of; decides = decides; decides_told = decides_told }
