@@ -51,6 +51,7 @@ fn refused() -> Checked
 }
 
 // Whether the row has one argument, not a sequence variable.
+#[tactic(auto, using(crate::proofs::Rules::one_sequence))]
 fn one_argument(pattern: &Pattern, row: usize) -> bool
     requires row_in { row < length pattern.now.kind.now }
     requires lengths { length pattern.now.size.now ≡ length pattern.now.kind.now }
@@ -84,6 +85,7 @@ fn sized(pattern: &Pattern, row: usize) -> bool
 }
 
 // What the name is to a row of this kind, where so many variables have appeared and kinds has theirs.
+#[tactic(auto, using(crate::specs::Scan::next, crate::specs::Scan::too_many))]
 fn named(kinds: &[u32; 16], kind: u32, name: usize, variables: usize) -> Naming
     requires { (length kinds.now ≡ 16) × (variables ≤ 16) }
     ensures { Named kinds.now kind name variables result }

@@ -1,5 +1,5 @@
 use native.Mathlib.Omega.{arith}
-use Rattle.pattern.specs.Scan.{small_symbol, large_symbol, same_kind, other_kind, next, too_many, left_out}
+use Rattle.pattern.specs.Scan.{small_symbol, large_symbol, same_kind, other_kind, left_out}
 use Rattle.pattern.proofs.named.Goals as goal
 
 -- `named` meets its contract: each return is one case of Named.
@@ -14,12 +14,6 @@ returns-then-kinds-name c = same_kind c.if-kind-eq-SYMBOL.false c.if-name-variab
 
 pub returns-then-name-variables : goal.returns-then-name-variables
 returns-then-name-variables c = other_kind c.if-kind-eq-SYMBOL.false c.if-name-variables.true c.if-kinds-name.false
-
-pub returns-then-variables-lt16 : goal.returns-then-variables-lt16
-returns-then-variables-lt16 c = next c.if-kind-eq-SYMBOL.false c.if-name-variables-2.true (omega arith)
-
-pub returns-else-variables-lt16 : goal.returns-else-variables-lt16
-returns-else-variables-lt16 c = too_many c.if-kind-eq-SYMBOL.false c.if-name-variables-2.true (omega arith)
 
 pub returns-else-name-variables-2 : goal.returns-else-name-variables-2
 returns-else-name-variables-2 c = left_out c.if-kind-eq-SYMBOL.false (omega (arith, c.if-name-variables-2.false))
