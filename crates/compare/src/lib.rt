@@ -18,6 +18,7 @@ pub fn alike(tree: &Tree, a: usize, b: usize, t: usize, u: usize) -> bool
 
 // The c terms from row a on, again from row t on in a list that ends at e: the row behind them. Term by term, so that nothing is looked at
 // behind the first one that differs.
+#[tactic(auto, using(crate::proofs::Sequences::compared_differs))]
 pub fn again(tree: &Tree, a: usize, c: usize, t: usize, e: usize) -> Option<usize>
     requires { AgainPre tree.now.label.now tree.now.size.now a c t e }
     ensures { AgainPost tree.now.label.now tree.now.size.now a c t e result }
@@ -67,6 +68,7 @@ fn left(tree: &Tree, a: usize, b: usize, t: usize, e: usize) -> Option<usize>
 
 // The arguments of the term at row t against those of the term at row a, all but the one that holds row b: the row of what stands for
 // that one.
+#[tactic(auto, using(crate::proofs::Levels::level_at))]
 fn level(tree: &Tree, a: usize, b: usize, t: usize) -> Option<usize>
     requires { LevelPre tree.now.label.now tree.now.size.now a b t }
     ensures { LevelPost tree.now.label.now tree.now.size.now a b t result }

@@ -1,5 +1,5 @@
 use borrow.Author.Rules.{rules}
-use Rattle.compare.proofs.Sequences.{compared_first, compared_all, compared_end, compared_rows, compared_alike_pre, compared_differs, compared_more}
+use Rattle.compare.proofs.Sequences.{compared_first, compared_all, compared_end, compared_rows, compared_alike_pre, compared_more}
 use Rattle.compare.proofs.again.Goals as goal
 
 pub loop-init : goal.loop-init
@@ -19,9 +19,6 @@ alike-requires c = compared_alike_pre c.loop.invariant c.loop-test.true c.if-the
 
 pub loop-preserved : goal.loop-preserved
 loop-preserved c = compared_more c.loop.invariant c.loop-test.true c.if-there-e.false c.next-behind.ensures c.next-after.ensures c.alike.ensures (search rules)
-
-pub returns-then-not-alike : goal.returns-then-not-alike
-returns-then-not-alike c = compared_differs c.loop.invariant c.loop-test.true c.if-there-e.false c.next-behind.ensures c.next-after.ensures c.alike.ensures (search rules)
 
 pub returns : goal.returns
 returns c = compared_all c.loop.invariant c.loop-test.false

@@ -1,5 +1,5 @@
 use native.Mathlib.Omega.{arith}
-use Rattle.compare.proofs.Levels.{level_rows, level_left_pre, level_differ, level_none, level_places, level_alike_pre, level_at, level_right}
+use Rattle.compare.proofs.Levels.{level_rows, level_left_pre, level_differ, level_none, level_places, level_alike_pre, level_right}
 use borrow.Author.Rules.{rules}
 use Rattle.compare.proofs.level.Goals as goal
 
@@ -35,9 +35,6 @@ next-there-requires c = (level_places c.next-e.ensures c.in_ok-v.ensures c.if-v-
 
 pub alike-requires : goal.alike-requires
 alike-requires c = level_alike_pre c.next-e.ensures c.in_ok-v.ensures c.if-v-e.false c.next-right.ensures c.next-end.ensures c.next-there.ensures c.requires
-
-pub returns-then-alike : goal.returns-then-alike
-returns-then-alike c = level_at c.next-e.ensures c.in_ok-v.ensures c.if-v-e.false c.next-right.ensures c.next-end.ensures c.next-there.ensures c.alike.ensures c.requires.label (search rules)
 
 pub returns-in_err-v : goal.returns-in_err-v
 returns-in_err-v c = rw c.from_residual.ensures (level_differ c.next-e.ensures c.in_err-v.ensures)
