@@ -28,6 +28,7 @@ pub fn put(record: &mut [u32], n: usize, t: usize, v: usize)
 }
 
 // The individual variable x at row t: no match, or one with so many variables bound.
+#[tactic(auto, using(crate::proofs::Singles::individual_same, crate::proofs::Singles::individual_differs))]
 pub fn individual(tree: &Tree, record: &mut [u32], x: usize, t: usize, n: usize) -> Option<usize>
     requires { IndividualPre tree.now.label.now tree.now.size.now «record».old x t n }
     ensures { IndividualPost tree.now.label.now tree.now.size.now «record».old x t n result «record».new }

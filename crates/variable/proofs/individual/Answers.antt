@@ -1,7 +1,6 @@
 use native.Mathlib.Omega.{arith}
-use Rattle.variable.proofs.Singles.{individual_room, individual_first, individual_next, individual_alike_pre, individual_same, individual_differs}
+use Rattle.variable.proofs.Singles.{individual_room, individual_first, individual_next, individual_alike_pre}
 use Rattle.tree.proofs.Terms.{term_next}
-use borrow.Author.Rules.{rules}
 use Rattle.variable.proofs.individual.Goals as goal
 
 pub put-requires : goal.put-requires
@@ -27,9 +26,3 @@ next-after-requires c = (term_next c.requires.tree.2).sized
 
 pub alike-requires : goal.alike-requires
 alike-requires c = individual_alike_pre c.if-x-n.false c.at-a.ensures.0 c.next-behind.ensures c.next-after.ensures c.requires
-
-pub returns-then-alike : goal.returns-then-alike
-returns-then-alike c = individual_same c.if-x-n.false c.at-a.ensures.0 c.next-behind.ensures c.next-after.ensures c.alike.ensures (search rules)
-
-pub returns-else-alike : goal.returns-else-alike
-returns-else-alike c = individual_differs c.if-x-n.false c.at-a.ensures.0 c.next-behind.ensures c.next-after.ensures c.alike.ensures (search rules)
