@@ -49,6 +49,7 @@ fn ending(size: &[u32], closing: &mut [u16; 2049]) -> bool
 
 // Whether each row ends within the row that holds it, and none is deeper than 64. How many rows are closed is read and not found out by
 // comparing ends, so that no branch depends on the tree.
+#[tactic(auto, using(crate::proofs::Turns::too_deep))]
 fn nested(size: &[u32], closing: &[u16; 2049]) -> bool
     requires { NestedPre size.now closing.now }
     ensures { Says result (Shape size.now) }

@@ -1,6 +1,6 @@
 use Rattle.std.proofs.Common.{refl, arith}
 use Rattle.meaning.proofs.Answers.{says_yes, says_no}
-use Rattle.tree.proofs.Turns.{seen_root, all_closed, fewer, beyond_end, too_deep, seen_open}
+use Rattle.tree.proofs.Turns.{seen_root, all_closed, fewer, beyond_end, seen_open}
 use Rattle.tree.proofs.nested.Goals as goal
 
 pub loop-row-init : goal.loop-row-init
@@ -14,9 +14,6 @@ overflow_sub-depth-in-loop-row c = omega (arith, fewer c.loop-row.invariant c.re
 
 pub returns-then-ends-depth : goal.returns-then-ends-depth
 returns-then-ends-depth c = says_no (beyond_end c.loop-row.invariant c.requires c.loop-row-test.true c.from.ensures refl c.next-after.ensures (omega (arith, c.next-after.ensures)))
-
-pub returns-then-depth-eq64 : goal.returns-then-depth-eq64
-returns-then-depth-eq64 c = says_no (too_deep c.loop-row.invariant c.requires c.loop-row-test.true c.from.ensures refl c.next-after.ensures (omega arith))
 
 pub loop-row-preserved : goal.loop-row-preserved
 loop-row-preserved c = seen_open c.loop-row.invariant c.requires c.loop-row-test.true c.from.ensures refl c.next-after.ensures c.if-ends-depth.false (omega (arith, c.loop-row.invariant.low))

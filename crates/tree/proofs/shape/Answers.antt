@@ -8,9 +8,6 @@ use Rattle.tree.proofs.shape.Goals as goal
 pub returns-then-rows-eq0 : goal.returns-then-rows-eq0
 returns-then-rows-eq0 c = says_no (λ s. no_rows c.if-rows-eq0.true s.0)
 
-pub returns-then-rows-gt2048 : goal.returns-then-rows-gt2048
-returns-then-rows-gt2048 c = says_no (λ s. omega (arith, s.1))
-
 pub returns-then-at-rows : goal.returns-then-at-rows
 returns-then-at-rows c = says_no (λ s. c.if-at-rows.true (c.at.ensures.0 ∙ (root_forth s.0).0))
 
