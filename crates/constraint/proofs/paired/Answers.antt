@@ -9,9 +9,6 @@ returns-then-first-eq0 c = λ es k p q. without_expression es k _ _ c.if-first-e
 pub returns-then-flag-gt1 : goal.returns-then-flag-gt1
 returns-then-flag-gt1 c = λ es k p q. says_no (flag_above es k _ _ (omega (arith, c.if-flag-gt1.true)))
 
-pub returns-then-kind-eq-INDIVIDUAL : goal.returns-then-kind-eq-INDIVIDUAL
-returns-then-kind-eq-INDIVIDUAL c = λ es k p q. says_no (kind_without es k _ _ c.if-first-eq0.false (may_not k (λ e. omega (arith, q)) (λ e. omega (arith, q))))
-
 pub returns-then-kind-eq-FUNCTION : goal.returns-then-kind-eq-FUNCTION
 returns-then-kind-eq-FUNCTION c = λ es k p q. says_no (kind_without es k _ _ c.if-first-eq0.false (may_not k (λ e. omega (arith, q)) (λ e. omega (arith, q))))
 
