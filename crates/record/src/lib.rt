@@ -51,6 +51,7 @@ fn context_fits(size: &[u32], a: usize, b: usize) -> bool
 }
 
 // The numbers a and b for a variable of the kind with this number.
+#[tactic(auto, using(crate::proofs::Each::pair_context))]
 fn pair_fits(size: &[u32], kind: u32, a: usize, b: usize) -> bool
     requires { RowsPre size.now }
     ensures { PairPost size.now kind a b result }

@@ -1,12 +1,9 @@
 use borrow.Author.Rules.{rules}
-use Rattle.record.proofs.Each.{pair_sequence, pair_context, pair_row}
+use Rattle.record.proofs.Each.{pair_sequence, pair_row}
 use Rattle.record.proofs.pair_fits.Goals as goal
 
 pub returns-then-kind-eq-SEQUENCE : goal.returns-then-kind-eq-SEQUENCE
 returns-then-kind-eq-SEQUENCE c = pair_sequence c.if-kind-eq-SEQUENCE.true c.sequence_fits.ensures
-
-pub returns-then-kind-eq-CONTEXT : goal.returns-then-kind-eq-CONTEXT
-returns-then-kind-eq-CONTEXT c = pair_context (search rules) c.context_fits.ensures
 
 pub returns : goal.returns
 returns c = pair_row c.if-kind-eq-SEQUENCE.false (search rules) c.row_fits.ensures
