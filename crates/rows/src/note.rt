@@ -130,7 +130,8 @@ fn read_run(
         }
         return Ok(Ran::Last(row));
     }
-    if DEEPEST < depth + leaves {
+    let deep = DEEPEST < depth + leaves;
+    if deep {
         return Err(Unread::Beyond);
     }
     Ok(Ran::Tag(row, at))

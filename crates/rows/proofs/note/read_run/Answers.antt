@@ -1,5 +1,6 @@
 use mathlib.Core.Path.{sym, ◌∙◌}
 use native.Mathlib.Omega.{arith}
+use borrow.Author.Tests.{ltb-true, ltb-false}
 use Rattle.meaning.proofs.Answers.{said_no}
 use Rattle.rows.specs.Turns.{noted, many, last_run, early_run, deep_text, to_tag}
 use Rattle.rows.proofs.Names.{at_once}
@@ -20,9 +21,9 @@ pub returns-then-byte_at-ne60 : goal.returns-then-byte_at-ne60
 returns-then-byte_at-ne60 c =
     last_run c.if-row-gt-MOST_ROWS.false c.run-text.ensures (noted c.put.ensures) (λ e. c.if-byte_at-ne60.true (c.byte_at-2.ensures ∙ e)) (c.is_whole.ensures.0 c.if-not-is_whole.false)
 
-pub returns-then-depth-leaves-gt-DEEPEST : goal.returns-then-depth-leaves-gt-DEEPEST
-returns-then-depth-leaves-gt-DEEPEST c =
-    deep_text c.if-row-gt-MOST_ROWS.false c.run-text.ensures (noted c.put.ensures) (sym c.byte_at-2.ensures ∙ c.if-byte_at-ne60.false) (omega arith)
+pub returns-then-deep : goal.returns-then-deep
+returns-then-deep c =
+    deep_text c.if-row-gt-MOST_ROWS.false c.run-text.ensures (noted c.put.ensures) (sym c.byte_at-2.ensures ∙ c.if-byte_at-ne60.false) (omega (arith, ltb-true))
 
 pub returns : goal.returns
-returns c = to_tag c.if-row-gt-MOST_ROWS.false c.run-text.ensures (noted c.put.ensures) (sym c.byte_at-2.ensures ∙ c.if-byte_at-ne60.false) (omega arith)
+returns c = to_tag c.if-row-gt-MOST_ROWS.false c.run-text.ensures (noted c.put.ensures) (sym c.byte_at-2.ensures ∙ c.if-byte_at-ne60.false) (omega (arith, ltb-false))
