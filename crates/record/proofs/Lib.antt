@@ -1,3 +1,4 @@
 pub mod Judged
 pub mod Each
 pub mod Whole
+pub mod Same

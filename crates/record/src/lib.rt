@@ -84,6 +84,7 @@ pub fn fits(size: &[u32], kinds: &[u32; 16], variables: usize, record: &[u32]) -
 }
 
 // Whether the first numbers of found are those of the list.
+#[tactic(auto, using(crate::proofs::Same::says_copied))]
 pub fn equal(found: &[u32; 32], list: &[u32]) -> bool
     requires { (length found.now ≡ 32) × (length list.now ≤ 32) }
     ensures { Says result (Copied list.now found.now) }
