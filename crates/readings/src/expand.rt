@@ -2,14 +2,10 @@
 // hex digits, and `{N:PIECE}` is the piece N times. In a piece `\0` to `\3` are the ones to the thousands of how many
 // times it stands before, and `\4` to `\7` of how many times it still follows, so that many different names can be
 // written, and their end tags. Any other byte after `\` is itself.
-ghost use Rattle.std.specs.Prelude.{◌<◌, ◌≤◌, length, vec_len, IfOk, IfSome};
+ghost use Rattle.std.specs.Prelude.{◌<◌, ◌≤◌, length, IfSome};
 ghost use Rattle.std.specs.Iterator.{at_most};
 
 use lines::fields::cut;
-use std::alloc::{AllocError, Global};
-
-// A little more than the largest document that is read.
-const ROOM: usize = 33000;
 
 // The bytes of a piece that stands `pass` times before and `left` times after.
 #[derive(Drop)]
@@ -92,45 +88,58 @@ fn opened(text: &[u8]) -> Option<Braced<'_>> {
     })
 }
 
-// Adds the piece so many times. What is too long already grows no further.
-fn push_repeated(bytes: &mut Vec<u8>, piece: &[u8], many: u32) -> Result<(), AllocError> {
-    for pass in 0..many {
-        if ROOM < bytes.len() {
-            break;
+// Writes the piece's bytes at the room's beginning. How many they are, or none where they have no room.
+fn write_piece(piece: Piece<'_>, room: &mut [u8]) -> Option<usize>
+    ensures { IfSome result (λ many. many ≤ length room.new) }
+{
+    let mut many = 0;
+    for byte in piece {
+        if room.len() <= many {
+            return None;
         }
-        let left = many - pass - 1;
-        bytes.extend(Piece {
-            rest: piece,
-            pass,
-            left,
-        })?;
+        room[many] = byte;
+        many += 1;
     }
-    Ok(())
+    Some(many)
 }
 
-// The bytes that the text stands for, or none where it cannot be read or they are more than have room.
-pub fn expand(alloc: Global, text: &[u8]) -> Result<Option<Vec<u8>>, AllocError>
-    ensures { IfOk result (λ found. IfSome found (λ bytes. vec_len bytes ≤ 33000)) }
+// Writes the piece so many times at the room's beginning.
+fn write_repeated(piece: &[u8], many: u32, room: &mut [u8]) -> Option<usize>
+    ensures { IfSome result (λ end. end ≤ length room.new) }
 {
-    let mut bytes = Vec::new(alloc);
-    let mut parts = text.split(|byte| *byte == b'{');
-    push_repeated(&mut bytes, parts.next().unwrap_or(b""), 1)?;
-    for part in parts {
-        let Some(
-            Braced {
-                many,
-                piece,
-                behind,
+    // An empty piece is nothing, however often it stands.
+    if piece.is_empty() {
+        return Some(0);
+    }
+    let mut end = 0;
+    for pass in 0..many {
+        let left = many - pass - 1;
+        end += write_piece(
+            Piece {
+                rest: piece,
+                pass,
+                left,
             },
-        ) = opened(part)
-        else {
-            return Ok(None);
-        };
-        push_repeated(&mut bytes, piece, many)?;
-        push_repeated(&mut bytes, behind, 1)?;
+            &mut room[end..],
+        )?;
     }
-    if ROOM < bytes.len() {
-        return Ok(None);
+    Some(end)
+}
+
+// Writes the bytes that the text stands for at the room's beginning. How many they are, or none where it cannot be read or they have no room.
+pub fn expand(text: &[u8], room: &mut [u8]) -> Option<usize>
+    ensures { IfSome result (λ end. end ≤ length room.new) }
+{
+    let mut parts = text.split(|byte| *byte == b'{');
+    let mut end = write_repeated(parts.next().unwrap_or(b""), 1, room)?;
+    for part in parts {
+        let Braced {
+            many,
+            piece,
+            behind,
+        } = opened(part)?;
+        end += write_repeated(piece, many, &mut room[end..])?;
+        end += write_repeated(behind, 1, &mut room[end..])?;
     }
-    Ok(Some(bytes))
+    Some(end)
 }

@@ -9,21 +9,32 @@ use expand::expand;
 use lines::section;
 use std::io;
 
+// A little more than the largest document that is read.
+const ROOM: usize = 33000;
+
 fn unreadable(rt: &impl Print) -> io::Result<()> {
     println!(rt; ": cannot be read")
 }
 
-fn answer_line(rt: &(impl Print + AllocGlobal), line: &[u8]) -> io::Result<()> {
+fn answer_line(rt: &impl Print, line: &[u8]) -> io::Result<()> {
     rt.write_all(section(line, 0))?;
     if lines::fields::count(line, b'|') != 4 {
         return unreadable(rt);
     }
-    let dictionary = expand(rt.alloc(), section(line, 2))?;
-    let document = expand(rt.alloc(), section(line, 3))?;
-    let (Some(dictionary), Some(document)) = (dictionary.as_deref(), document.as_deref()) else {
+    let mut dictionary = [0; ROOM];
+    let mut document = [0; ROOM];
+    let Some(names) = expand(section(line, 2), &mut dictionary) else {
         return unreadable(rt);
     };
-    answers::answer(rt, section(line, 1), dictionary, document)
+    let Some(bytes) = expand(section(line, 3), &mut document) else {
+        return unreadable(rt);
+    };
+    answers::answer(
+        rt,
+        section(line, 1),
+        &dictionary[..names],
+        &document[..bytes],
+    )
 }
 
 fn main(rt: HostRuntime) -> io::Result<()> {
