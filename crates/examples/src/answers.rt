@@ -6,28 +6,28 @@ use problem::Problem;
 use std::io;
 use tree::Tree;
 
-fn tree(lists: &[Vec<u32>]) -> Option<bool> {
+fn tree(lists: &[&[u32]]) -> Option<bool> {
     let [label, size] = lists else {
         return None;
     };
     Some(tree::good(&Tree { label, size }))
 }
 
-fn pattern(lists: &[Vec<u32>]) -> Option<bool> {
+fn pattern(lists: &[&[u32]]) -> Option<bool> {
     let [kind, name, size] = lists else {
         return None;
     };
     Some(pattern::check(&Pattern { kind, name, size }).good)
 }
 
-fn expression(lists: &[Vec<u32>]) -> Option<bool> {
+fn expression(lists: &[&[u32]]) -> Option<bool> {
     let [kind, name, size] = lists else {
         return None;
     };
     Some(expression::good(&Table { kind, name, size }))
 }
 
-fn constraint(lists: &[Vec<u32>]) -> Option<bool> {
+fn constraint(lists: &[&[u32]]) -> Option<bool> {
     let [
         kind,
         name,
@@ -49,7 +49,7 @@ fn constraint(lists: &[Vec<u32>]) -> Option<bool> {
     Some(constraint::good(&pattern, &table, constraint))
 }
 
-fn record(lists: &[Vec<u32>]) -> Option<bool> {
+fn record(lists: &[&[u32]]) -> Option<bool> {
     let [label, size, kind, name, pattern_size, record] = lists else {
         return None;
     };
@@ -61,7 +61,7 @@ fn record(lists: &[Vec<u32>]) -> Option<bool> {
     Some(record::good(&Tree { label, size }, &pattern, record))
 }
 
-fn test(lists: &[Vec<u32>]) -> Option<Result<bool, Refusal>> {
+fn test(lists: &[&[u32]]) -> Option<Result<bool, Refusal>> {
     let [
         label,
         size,
@@ -116,7 +116,7 @@ fn tested(rt: &impl Print, answer: Option<Result<bool, Refusal>>) -> io::Result<
 }
 
 // Prints the answer to a line with this word and these lists.
-pub fn answer(rt: &impl Print, word: &[u8], lists: &[Vec<u32>]) -> io::Result<()> {
+pub fn answer(rt: &impl Print, word: &[u8], lists: &[&[u32]]) -> io::Result<()> {
     match word {
         b"tree" => checked(rt, tree(lists)),
         b"pattern" => checked(rt, pattern(lists)),

@@ -3,22 +3,29 @@
 
 mod answers;
 
-use lines::lists::read_lists;
-use std::io;
+use lines::lists::part;
+use lines::read_lists;
+use std::{array, io};
 
 // So many numbers fit the lists of a line.
 const ROOM: usize = 8192;
 
-fn answer_line(rt: &(impl Print + AllocGlobal), line: &[u8]) -> io::Result<()> {
+// No word takes more lists.
+const LISTS: usize = 12;
+
+fn answer_line(rt: &impl Print, line: &[u8]) -> io::Result<()> {
     if lines::fields::count(line, b'|') != 3 {
         rt.write_all(line)?;
         return answers::unreadable(rt);
     }
     rt.write_all(lines::section(line, 1))?;
-    let Some(lists) = read_lists(rt.alloc(), lines::section(line, 2), ROOM)? else {
+    let mut numbers = [0; ROOM];
+    let mut ends = [0; LISTS];
+    let Some(many) = read_lists(lines::section(line, 2), &mut numbers, &mut ends) else {
         return answers::unreadable(rt);
     };
-    answers::answer(rt, lines::section(line, 0), &lists)
+    let lists: [&[u32]; LISTS] = array::from_fn(|list| part(&numbers, &ends, list));
+    answers::answer(rt, lines::section(line, 0), &lists[..many])
 }
 
 fn main(rt: HostRuntime) -> io::Result<()> {

@@ -1,9 +1,14 @@
 // A line: `WORD | TEXT | LIST / LIST / ..`. A list is numbers with spaces between; `N*C` is N repeated C times, and `A..B` counts down from A to B.
 #![tactic(auto)]
 
+ghost use Rattle.std.specs.Prelude.{OnOk};
+ghost use Rattle.std.specs.Fn.{FnReturnsAt};
+ghost use Rattle.lines.specs.Lines.{EachLine};
+
 pub mod fields;
 pub mod lists;
 
+pub use lists::read_lists;
 use std::io;
 use std::io::Read;
 
@@ -22,6 +27,22 @@ pub fn number(digits: &[u8]) -> Option<u32> {
     str::from_utf8(digits).ok()?.parse().ok()
 }
 
+// Has each of the text's lines answered, up to the first that fails.
+fn answer_lines<F: Fn(&[u8]) -> io::Result<()>>(text: &[u8], answer: F) -> io::Result<()>
+    requires { F.IsAlwaysCallable answer }
+    ensures { OnOk result (EachLine (λ line. FnReturnsAt F.Fn answer line (Ok tt)) text.now) }
+{
+    let mut rest = text;
+    while let Some((line, behind)) = fields::cut(rest, b'\n') {
+        answer(line)?;
+        rest = behind;
+    }
+    if rest.is_empty() {
+        return Ok(());
+    }
+    answer(rest)
+}
+
 // Reads standard input, and has each of its lines answered.
 pub fn answer_each<F: Fn(&[u8]) -> io::Result<()>>(
     rt: &(impl Input + Print + AllocGlobal),
@@ -31,11 +52,39 @@ pub fn answer_each<F: Fn(&[u8]) -> io::Result<()>>(
 {
     let mut text = Vec::new(rt.alloc());
     let bytes = rt.reader().take(65536).read_to_end(&mut text)?;
-    for line in text.split_inclusive(|byte| *byte == b'\n') {
-        answer(line.strip_suffix(b"\n").unwrap_or(line))?;
-    }
+    answer_lines(&text, answer)?;
     if bytes == 65536 {
         println!(rt; "the input is too long")?;
     }
     Ok(())
+}
+
+#[cfg(test)]
+mod tests {
+    use super::*;
+    use std::io::{Error, ErrorKind};
+    use std::test::Fail;
+
+    fn answer(line: &[u8]) -> io::Result<()> {
+        match line {
+            b"" | b"ab" => Ok(()),
+            _ => Err(Error::from(ErrorKind::InvalidData)),
+        }
+    }
+
+    // The line feed is no part of a line, and the last line may have none.
+    #[test]
+    fn answers_lines(rt: HostRuntime) -> Result<(), Fail> {
+        answer_lines(b"ab\n\nab", |line| answer(line))?;
+        answer_lines(b"ab\n", |line| answer(line))?;
+        assert!(rt; answer_lines(b"ab\nc\nab", |line| answer(line)).is_err());
+        Ok(())
+    }
+
+    // The standard input of a test is empty.
+    #[test]
+    fn answers_no_line(rt: HostRuntime) -> Result<(), Fail> {
+        answer_each(&rt, |_| Err(Error::from(ErrorKind::InvalidData)))?;
+        Ok(())
+    }
 }

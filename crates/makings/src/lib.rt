@@ -4,11 +4,12 @@
 pub mod parts;
 pub mod printing;
 
-use lines::lists::{BEFORE, read_lists, unchanged};
+use lines::lists::{BEFORE, part, unchanged};
+use lines::read_lists;
 use parts::room;
 use pattern::Pattern;
 use printing::{Bracketed, unreadable};
-use std::io;
+use std::{array, io};
 use tree::Tree;
 
 // So many numbers fit the lists of a line.
@@ -75,11 +76,15 @@ fn beginning(list: &[u32], many: usize) -> Bracketed<'_> {
 }
 
 // The instance of a record of the line.
-pub fn instance(rt: &(impl Print + AllocGlobal), tree: &Tree<'_>, lists: &[u8]) -> io::Result<()> {
-    let lists = read_lists(rt.alloc(), lists, NUMBERS)?;
-    let Some([kind, name, size, record, labels, sizes]) = lists.as_deref() else {
+pub fn instance(rt: &impl Print, tree: &Tree<'_>, lists: &[u8]) -> io::Result<()> {
+    let mut numbers = [0; NUMBERS];
+    let mut ends = [0; 6];
+    if read_lists(lists, &mut numbers, &mut ends) != Some(6) {
         return unreadable(rt);
-    };
+    }
+    let [kind, name, size, record, labels, sizes]: [&[u32]; 6] = array::from_fn(|list| part(
+        &numbers, &ends, list,
+    ));
     let mut made = Lent::new();
     let labels = room(labels, &made.label);
     let sizes = room(sizes, &made.size);

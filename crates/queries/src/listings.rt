@@ -1,11 +1,12 @@
 // A problem on a tree: what the lister answers, and the instance of each record.
 use expression::Table;
-use lines::lists::{BEFORE, read_lists, unchanged};
+use lines::lists::{BEFORE, part, unchanged};
+use lines::read_lists;
 use makings::parts::{only, room};
 use makings::printing::{Bracketed, unreadable};
 use pattern::Pattern;
 use problem::Problem;
-use std::io;
+use std::{array, io};
 use tree::Tree;
 
 // So many numbers fit the lists of a problem.
@@ -57,24 +58,23 @@ fn list_problem(
     }
 }
 
-pub fn list(rt: &(impl Print + AllocGlobal), tree: Tree<'_>, problem: &[u8]) -> io::Result<()> {
-    let lists = read_lists(rt.alloc(), problem, NUMBERS)?;
-    let Some(
-        [
-            kind,
-            name,
-            size,
-            table_kind,
-            table_name,
-            table_size,
-            constraint,
-            budget,
-            wanted,
-        ],
-    ) = lists.as_deref()
-    else {
+pub fn list(rt: &impl Print, tree: Tree<'_>, problem: &[u8]) -> io::Result<()> {
+    let mut numbers = [0; NUMBERS];
+    let mut ends = [0; 9];
+    if read_lists(problem, &mut numbers, &mut ends) != Some(9) {
         return unreadable(rt);
-    };
+    }
+    let [
+        kind,
+        name,
+        size,
+        table_kind,
+        table_name,
+        table_size,
+        constraint,
+        budget,
+        wanted,
+    ]: [&[u32]; 9] = array::from_fn(|list| part(&numbers, &ends, list));
     let pattern = Pattern { kind, name, size };
     let table = Table {
         kind: table_kind,

@@ -13,7 +13,7 @@ mod trees;
 use lines::section;
 use std::io;
 
-fn answer(rt: &(impl Print + AllocGlobal), line: &[u8]) -> io::Result<()> {
+fn answer(rt: &impl Print, line: &[u8]) -> io::Result<()> {
     match section(line, 0) {
         b"rows" => trees::rows(rt, section(line, 2), section(line, 3)),
         b"document" => trees::document(rt, section(line, 2), section(line, 3), section(line, 4)),
@@ -22,7 +22,7 @@ fn answer(rt: &(impl Print + AllocGlobal), line: &[u8]) -> io::Result<()> {
     }
 }
 
-fn answer_line(rt: &(impl Print + AllocGlobal), line: &[u8]) -> io::Result<()> {
+fn answer_line(rt: &impl Print, line: &[u8]) -> io::Result<()> {
     if let [] | [b'#', ..] = line {
         return Ok(());
     }

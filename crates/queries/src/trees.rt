@@ -1,9 +1,11 @@
 // The tree of a line: its two lists, or a document.
+ghost use Rattle.std.specs.Prelude.{◌≤◌, length, IfSome};
+
 use crate::listings;
-use lines::lists::read_lists;
+use lines::lists::part;
+use lines::read_lists;
 use makings::printing::unreadable;
-use std::alloc::{AllocError, Global};
-use std::io;
+use std::{array, io};
 use tree::Tree;
 
 // So many numbers fit the lists of a tree.
@@ -15,31 +17,31 @@ const DICTIONARY: usize = 1024;
 // The most rows that are read.
 const ROWS: usize = 2048;
 
-// The names, which have spaces between them, as a dictionary. None where it would be too long.
-fn dictionary_of(alloc: Global, names: &[u8]) -> Result<Option<Vec<u8>>, AllocError> {
-    if DICTIONARY <= names.len() {
-        return Ok(None);
+// Writes the names, which have spaces between them, as a dictionary. How many bytes it has, or none where they have no room.
+fn write_names(names: &[u8], dictionary: &mut [u8]) -> Option<usize>
+    ensures { IfSome result (λ end. end ≤ length dictionary.new) }
+{
+    if names.is_empty() {
+        return Some(0);
     }
-    let mut dictionary: Vec<u8> = names
-        .iter()
-        .map(|byte| if *byte == b' ' { b'\n' } else { *byte })
-        .collect(alloc)?;
-    if !names.is_empty() {
-        dictionary.push(b'\n')?;
+    if dictionary.len() <= names.len() {
+        return None;
     }
-    Ok(Some(dictionary))
+    for (place, byte) in dictionary.iter_mut().zip(names) {
+        *place = if *byte == b' ' { b'\n' } else { *byte };
+    }
+    dictionary[names.len()] = b'\n';
+    Some(names.len() + 1)
 }
 
 // A problem on the tree of a document.
-pub fn document(
-    rt: &(impl Print + AllocGlobal),
-    problem: &[u8],
-    names: &[u8],
-    bytes: &[u8],
-) -> io::Result<()> {
-    let dictionary = dictionary_of(rt.alloc(), names)?;
+pub fn document(rt: &impl Print, problem: &[u8], names: &[u8], bytes: &[u8]) -> io::Result<()> {
+    let mut dictionary = [0; DICTIONARY];
     // A dictionary that is too long is refused as one without names is.
-    let dictionary = dictionary.as_deref().unwrap_or(&[]);
+    let dictionary = match write_names(names, &mut dictionary) {
+        Some(end) => &dictionary[..end],
+        None => b"",
+    };
     let mut label = [0u32; ROWS];
     let mut size = [0u32; ROWS];
     let mut start = [0u32; ROWS];
@@ -65,19 +67,23 @@ pub fn document(
 }
 
 // A problem on a tree's two lists.
-pub fn rows(rt: &(impl Print + AllocGlobal), problem: &[u8], tree: &[u8]) -> io::Result<()> {
-    let lists = read_lists(rt.alloc(), tree, NUMBERS)?;
-    let Some([label, size]) = lists.as_deref() else {
+pub fn rows(rt: &impl Print, problem: &[u8], tree: &[u8]) -> io::Result<()> {
+    let mut numbers = [0; NUMBERS];
+    let mut ends = [0; 2];
+    if read_lists(tree, &mut numbers, &mut ends) != Some(2) {
         return unreadable(rt);
-    };
+    }
+    let [label, size]: [&[u32]; 2] = array::from_fn(|list| part(&numbers, &ends, list));
     listings::list(rt, Tree { label, size }, problem)
 }
 
 // The instance of a record over a tree's two lists.
-pub fn instance(rt: &(impl Print + AllocGlobal), lists: &[u8], tree: &[u8]) -> io::Result<()> {
-    let tree = read_lists(rt.alloc(), tree, NUMBERS)?;
-    let Some([label, size]) = tree.as_deref() else {
+pub fn instance(rt: &impl Print, lists: &[u8], tree: &[u8]) -> io::Result<()> {
+    let mut numbers = [0; NUMBERS];
+    let mut ends = [0; 2];
+    if read_lists(tree, &mut numbers, &mut ends) != Some(2) {
         return unreadable(rt);
-    };
+    }
+    let [label, size]: [&[u32]; 2] = array::from_fn(|list| part(&numbers, &ends, list));
     makings::instance(rt, &Tree { label, size }, lists)
 }
