@@ -103,7 +103,7 @@ fn write_piece(piece: Piece<'_>, room: &mut [u8]) -> Option<usize>
     Some(many)
 }
 
-// Writes the piece so many times at the room's beginning.
+// Writes the piece so many times at the room's beginning. How many bytes they are, or none where they have no room.
 fn write_repeated(piece: &[u8], many: u32, room: &mut [u8]) -> Option<usize>
     ensures { IfSome result (λ end. end ≤ length room.new) }
 {

@@ -16,11 +16,8 @@ fn unreadable(rt: &impl Print) -> io::Result<()> {
     println!(rt; ": cannot be read")
 }
 
-fn answer_line(rt: &impl Print, line: &[u8]) -> io::Result<()> {
-    rt.write_all(section(line, 0))?;
-    if lines::fields::count(line, b'|') != 4 {
-        return unreadable(rt);
-    }
+// What is filled is made at once: behind a return it would be zeroed twice.
+fn answer(rt: &impl Print, line: &[u8]) -> io::Result<()> {
     let mut dictionary = [0; ROOM];
     let mut document = [0; ROOM];
     let Some(names) = expand(section(line, 2), &mut dictionary) else {
@@ -35,6 +32,14 @@ fn answer_line(rt: &impl Print, line: &[u8]) -> io::Result<()> {
         &dictionary[..names],
         &document[..bytes],
     )
+}
+
+fn answer_line(rt: &impl Print, line: &[u8]) -> io::Result<()> {
+    rt.write_all(section(line, 0))?;
+    if lines::fields::count(line, b'|') != 4 {
+        return unreadable(rt);
+    }
+    answer(rt, line)
 }
 
 fn main(rt: HostRuntime) -> io::Result<()> {
