@@ -3,14 +3,11 @@ use Prim.Native.Nat.{ℕ, zero, suc, ◌+◌, ◌<◌, ◌≤◌}
 use mathlib.Core.Path.{◌≡◌, refl, ap, ap₂, ◌∙◌, sym}
 use mathlib.Core.Logic.{◌≢◌}
 use mathlib.Core.List.{List, [], ◌∷◌, ◌++◌}
-use lib.ListN.{length, get_or, set, take, drop}
-use lib.Seq.{sets, set_comm, sets-eq, take_all, drop-cons}
+use lib.ListN.{length, set, drop}
+use lib.Seq.{sets, set_comm, sets-eq}
 use native.Mathlib.Omega.{arith}
 use native.Mathlib.Nat.{add-zero}
-use native.Mathlib.Numerals.{add-one}
-use borrow.Rule.Slice.PartMut.{put_mid}
-use Rattle.std.proofs.lemmas.Slice.{put_mid-paste}
-use Rattle.instance.specs.Places.{along, number}
+use Rattle.instance.specs.Places.{along}
 
 -- one part behind another
 pub sets_both : (l : List ℕ) (i : ℕ) (xs ys : List ℕ) → sets l i (xs ++ ys) ≡ sets (sets l i xs) (i + length xs) ys
@@ -72,18 +69,3 @@ unfolding along
 sets_more l t f a i =
     sym (ap (sets l t) (along_both f a i 1) ∙ sets_both l t (along f a i) (f (a + i) ∷ [])
     ∙ ap (λ (k : ℕ). set (sets l t (along f a i)) k (f (a + i))) (ap (λ (k : ℕ). t + k) (along_length f a i)))
-
--- numbers of a list, one after another, are a part of it
-along_part : (xs : List ℕ) (a k : ℕ) → a + k ≤ length xs → along (number xs) a k ≡ take k (drop a xs)
-unfolding along
-along_part xs a zero h = refl
-along_part xs a (suc k) h = rw (drop-cons xs a 0 (omega arith)) (ap (λ (l : List ℕ). get_or xs a 0 ∷ l) (along_part xs (a + 1) k (omega arith) ∙ rw (add-one a)))
-
--- and where they stand in another list they are written one after another
-pub part_written : (xs out ys : List ℕ) (from to k m n : ℕ) → from + k ≤ length xs → to + k ≤ length out → m ≡ k → n ≡ k → ys ≡ take n (drop from xs)
-    → put_mid to m out ys ≡ sets out to (along (number xs) from k)
-part_written xs out ys from to k m n p q e f y =
-    let zs : List ℕ = along (number xs) from k in
-    let long : length zs ≡ k = along_length (number xs) from k in
-    let same : ys ≡ zs = y ∙ rw f (sym (along_part xs from k p)) in
-    put_mid-paste to m out ys zs k same (sym e) (sym long) ∙ rw (take_all k zs (omega (arith, long))) (sym (sets-eq zs out to (omega (arith, long)) ∙ rw long))

@@ -8,12 +8,15 @@ use meaning::kinds::SYMBOL;
 use pattern::Pattern;
 use tree::Tree;
 
-// Copies so many numbers, to the places from `to` on.
+// Copies so many numbers, to the places from `to` on. One by one: a copy of a part whose length is not known would ask whoever links the
+// archive for `memmove` too.
 fn copy(list: &[u32], from: usize, count: usize, out: &mut [u32], to: usize)
     requires { CopyPre list.now out.old from count to }
     ensures { out.new ≡ sets out.old to (along (number list.now) from count) }
 {
-    out[to..to + count].copy_from_slice(&list[from..from + count]);
+    for i in 0..count {
+        out[to + i] = list[from + i];
+    }
 }
 
 // Copies so many rows, to the rows from `to` on, and answers the row behind them.

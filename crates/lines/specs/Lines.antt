@@ -1,4 +1,4 @@
--- What a text's lines are: the parts between its line feeds, but for an empty one at its end.
+-- Not needed to believe the promise: what a text's lines are, the parts between its line feeds, but for an empty one at its end.
 use Rattle.std.specs.Prelude.{◌≢◌, ℕ, List, [], ◌∷◌, ◌++◌, EachIndex, slice_index}
 
 -- none of its bytes is a line feed

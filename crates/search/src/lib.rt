@@ -32,12 +32,15 @@ pub fn ended(ending: Ending, records: usize, tries: u32) -> Found
     }
 }
 
-// The first n numbers of the record go into out, from at on.
+// The first n numbers of the record go into out, from at on. One by one: a copy of a part whose length is not known would ask whoever links
+// the archive for `memmove` too.
 pub fn put(out: &mut [u32], at: usize, record: &[u32; 32], n: usize)
     requires { (n ≤ 32) × (length «record».now ≡ 32) × (at + n ≤ length out.old) }
     ensures { out.new ≡ paste out.old at «record».now n }
 {
-    out[at..at + n].copy_from_slice(&record[..n]);
+    for j in 0..n {
+        out[at + j] = record[j];
+    }
 }
 
 // How far the search may go: the tries, the records that there is room for, and the numbers of a record.
