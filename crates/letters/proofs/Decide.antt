@@ -15,12 +15,11 @@ use Rattle.expression.specs.Expression.{Expression, symbol, empty, concatenation
 use Rattle.expression.specs.Rows.{GoodTable, StartsAt}
 use Rattle.expression.specs.Columns.{rows}
 use Rattle.expression.proofs.Placed.{Placed, placed_size}
-use Rattle.expression.proofs.Tables.{name_length}
 use Rattle.expression.proofs.Places.{place_total, start_placed, start_within}
 use Rattle.letters.specs.Accepts.{Accepts}
 use Rattle.letters.specs.State.{RowReads, StateOf, TablesOf}
 use Rattle.letters.specs.declared.Tables.{Tables}
-use Rattle.letters.specs.Tables.{name_of, first_of, null_of, cont_of, ends_of, Tabled}
+use Rattle.letters.specs.Tables.{name_of, first_of, null_of, cont_of, ends_of}
 use Rattle.letters.specs.Following.{gate, HeadRow, over_set, over_end, loop_set, loop_end, Filled, AllFilled, ContsOf}
 use Rattle.letters.proofs.Automaton.{Local, accepts_sound, accepts_complete}
 use Rattle.letters.proofs.OneLetter.{step_set, step_end, step_sound, step_complete}
@@ -105,11 +104,11 @@ module _ {Letter : Type 0} (Reads Row : ℕ → Letter → Type 0) (kind name si
 
 -- ---- for callers
 
--- the filled lists, laid into one, are tables of the expressions
-module _ {kind name size : List ℕ} {es : List Expression} (g : GoodTable kind name size es) (label first cont : ℕ → ℕ) (null ends : ℕ → Bool)
-    (names : (s : ℕ) → s < length name → label s ≡ number_at name s)
-    (heads : (s : ℕ) → s < length kind → HeadRow (number_at kind) (number_at size) first null s)
-    (conts : ContsOf first null cont ends es (length kind)) where
+-- the rows with their names, their heads and what comes after them are tables of the expressions
+module _ {kind name size : List ℕ} {es : List Expression} (g : GoodTable kind name size es) (tables : Tables)
+    (names : (s : ℕ) → s < length kind → name_of tables s ≡ number_at name s)
+    (heads : (s : ℕ) → s < length kind → HeadRow (number_at kind) (number_at size) (first_of tables) (null_of tables) s)
+    (conts : ContsOf (first_of tables) (null_of tables) (cont_of tables) (ends_of tables) es (length kind)) where
   at_start : {A : Type 0} (over loop : ℕ → A → A) (after : ℕ → A) (v : A) {e : Expression} {row : ℕ} → StartsAt es e row
       → AllFilled over loop after es 0 (length kind) v → Filled over loop after e row (length kind) v
   at_start over loop after v {e} s h =
@@ -117,35 +116,23 @@ module _ {kind name size : List ℕ} {es : List Expression} (g : GoodTable kind 
       (filled_at over loop after s.before s.behind e 0 (length kind) v
       (subst (λ (l : List Expression). AllFilled over loop after l 0 (length kind) v) s.among h))
 
-  -- the state where an expression starts, by the lists
-  abbrev Begins : (ℕ → ℕ) → (ℕ → ℕ) → (ℕ → Bool) → (ℕ → ℕ) → (ℕ → Bool) → Type 0
-  Begins label first null cont ends =
-      (e : Expression) (row : ℕ) → StartsAt es e row
-      → ((word : List ℕ) → Accepts (λ q c. Same (label q) c) cont ends (first row) (null row) word → In e word)
-      × ((word : List ℕ) → In e word → Accepts (λ q c. Same (label q) c) cont ends (first row) (null row) word)
-
-  begins : Begins label first null cont ends
-  begins e row s =
-      let c = at_start (over_set first null) (loop_set first null) cont 0 s conts.sets in
-      let d = at_start (over_end first null) (loop_end first null) ends true s conts.finals in
-      let labels : (i : ℕ) → i < length kind → label i ≡ number_at name i = λ i h. names i (omega (arith, name_length g)) in
-      let reads : (i : ℕ) → i < length kind → (c : ℕ) → (Same (label i) c → Same (number_at name i) c) × (Same (number_at name i) c → Same (label i) c) =
-      λ i h c. (λ q. sym (labels i h) ∙ q, λ q. labels i h ∙ q) in (
-        read_sound Same (λ q c. Same (label q) c) (number_at kind) (number_at name) (number_at size) first cont
-            null ends (length kind) reads heads e row (start_placed g s) (start_within g s) c d,
-        read_complete Same (λ q c. Same (label q) c) (number_at kind) (number_at name) (number_at size) first cont
-            null ends (length kind) reads heads e row (start_placed g s) (start_within g s) c d,
-      )
-
-  pub tables_are : {tables : Tables} → Tabled label first null cont ends tables → TablesOf es tables
-  tables_are {tables} h =
-      let b : Begins (name_of tables) (first_of tables) (null_of tables) (cont_of tables) (ends_of tables) =
-      subst (λ (f : ℕ → ℕ). Begins f (first_of tables) (null_of tables) (cont_of tables) (ends_of tables)) (sym h.names)
-      (subst (λ (f : ℕ → ℕ). Begins label f (null_of tables) (cont_of tables) (ends_of tables)) (sym h.firsts)
-      (subst (λ (f : ℕ → Bool). Begins label first f (cont_of tables) (ends_of tables)) (sym h.nulls)
-      (subst (λ (f : ℕ → ℕ). Begins label first null f (ends_of tables)) (sym h.conts)
-      (subst (λ (f : ℕ → Bool). Begins label first null cont f) (sym h.finals) begins)))) in
-      record { starts = λ {e} {row} s. record { sound = (b e row s).0; complete = (b e row s).1 } }
+  pub tables_are : TablesOf es tables
+  tables_are =
+      record {
+        starts = λ {e} {row} s.
+            let first = first_of tables in
+            let null = null_of tables in
+            let c = at_start (over_set first null) (loop_set first null) (cont_of tables) 0 s conts.sets in
+            let d = at_start (over_end first null) (loop_end first null) (ends_of tables) true s conts.finals in
+            let reads : (i : ℕ) → i < length kind → (c : ℕ) → (RowReads tables i c → Same (number_at name i) c) × (Same (number_at name i) c → RowReads tables i c) =
+            λ i h c. (λ q. sym (names i h) ∙ q, λ q. names i h ∙ q) in
+            record {
+              sound = read_sound Same (RowReads tables) (number_at kind) (number_at name) (number_at size) first (cont_of tables)
+                  null (ends_of tables) (length kind) reads heads e row (start_placed g s) (start_within g s) c d;
+              complete = read_complete Same (RowReads tables) (number_at kind) (number_at name) (number_at size) first (cont_of tables)
+                  null (ends_of tables) (length kind) reads heads e row (start_placed g s) (start_within g s) c d;
+            };
+      }
 
 module _ {tables : Tables} {e : Expression} {word : List ℕ} {next : ℕ} {end : Bool} (state : StateOf tables e word next end) where
   -- a state's end decides the language

@@ -1,5 +1,5 @@
 -- One turn of the loop that fills what comes after the rows, from the first row down; the value of a row is left open.
-use mathlib.Core.Path.{◌≡◌, sym, ap, ◌∙◌, subst}
+use mathlib.Core.Path.{◌≡◌, refl, sym, ap, ◌∙◌, subst, fun_ext}
 use mathlib.Core.Logic.{⊎_elim}
 use mathlib.Core.Bool.{Bool, true}
 use mathlib.Core.List.{List, [], ◌∷◌, ◌++◌}
@@ -7,8 +7,8 @@ use Prim.Native.Nat.{ℕ, zero, suc, ◌+◌, ◌≤◌, ◌<◌}
 use native.Mathlib.Numerals.{add-one}
 use native.Mathlib.Nat.{eq-or-lt_of_le, add_assoc, add-zero}
 use native.Mathlib.Omega.{arith}
-use lib.ListN.{length, get_or, set, replicate, length-set, get_or-replicate}
-use lib.Seq.{get_or-set_same, get_or-set_other}
+use lib.ListN.{length, get_or, set, length-set, get_or-map}
+use lib.Seq.{get_or-set_same, get_or-set_other, map-set_same}
 use Rattle.expression.specs.Expression.{Expression, symbol, empty, concatenation, choice, repetition}
 use Rattle.expression.specs.Rows.{GoodTable}
 use Rattle.expression.specs.Columns.{rows}
@@ -17,8 +17,11 @@ use Rattle.expression.specs.Rule.{number_at, left_of, right_of}
 use Rattle.expression.proofs.Ways.{two_ways, three_ways}
 use Rattle.expression.proofs.Placed.{rows_positive, total, Placed, Laid, placed_size}
 use Rattle.expression.proofs.Tables.{placed_fits, kind_length, good_laid}
+use Rattle.letters.specs.declared.Row.{Row}
 use Rattle.letters.specs.declared.State.{State}
-use Rattle.letters.specs.Following.{state_in, next_in, end_in, PartsAre, followed, over_set, over_end, loop_set, loop_end, Filled, AllFilled, ContsOf}
+use Rattle.letters.specs.declared.Tables.{Tables}
+use Rattle.letters.specs.Tables.{row_in, name_of, first_of, null_of, cont_of, ends_of}
+use Rattle.letters.specs.Following.{PartsAre, followed, over_set, over_end, loop_set, loop_end, Filled, AllFilled, ContsOf, Fresh, SameHeads}
 
 -- ---- what a turn changes
 
@@ -29,16 +32,16 @@ pub record Turn {A : Type 0} (over loop : ℕ → A → A) (old new : ℕ → A)
   pub left : new (left_of k i) ≡ followed k (over (right_of k i z) (old i)) (loop (right_of k i z) (old i)) (old i)
   pub right : (right_of k i z ≡ left_of k i → ⊥) → new (right_of k i z) ≡ old i
 
--- .. of what p reads from a list
-pub turn : {A X : Type 0} (over loop : ℕ → A → A) (p : X → A) (xs : List X) (d w : X) (i k z l r : ℕ) → l ≡ left_of k i → r ≡ right_of k i z
-    → l < length xs → r < length xs → p w ≡ followed k (over r (p (get_or xs i d))) (loop r (p (get_or xs i d))) (p (get_or xs i d))
-    → Turn over loop (λ j. p (get_or xs j d)) (λ j. p (get_or (set (set xs r (get_or xs i d)) l w) j d)) i k z
-turn over loop p xs d w i k z l r pl pr hl hr q =
+-- .. of what p reads from a list: the right part becomes u, the left part w
+pub turn : {A X : Type 0} (over loop : ℕ → A → A) (p : X → A) (xs : List X) (d u w : X) (i k z l r : ℕ) → l ≡ left_of k i → r ≡ right_of k i z
+    → l < length xs → r < length xs → p u ≡ p (get_or xs i d)
+    → p w ≡ followed k (over r (p (get_or xs i d))) (loop r (p (get_or xs i d))) (p (get_or xs i d))
+    → Turn over loop (λ j. p (get_or xs j d)) (λ j. p (get_or (set (set xs r u) l w) j d)) i k z
+turn over loop p xs d u w i k z l r pl pr hl hr v q =
     record {
-      other = λ j a b. ap p (get_or-set_other (set xs r (get_or xs i d)) l j w d (λ e. a (e ∙ pl)) ∙ get_or-set_other xs r j (get_or xs i d) d (λ e. b (e ∙ pr)));
-      left = rw (sym pl, sym pr) (ap p (get_or-set_same (set xs r (get_or xs i d)) l w d (rw (length-set xs r (get_or xs i d)) hl)) ∙ q);
-      right = λ a.
-          rw (sym pr) (ap p (get_or-set_other (set xs r (get_or xs i d)) l r w d (λ e. a (sym pr ∙ e ∙ pl)) ∙ get_or-set_same xs r (get_or xs i d) d hr));
+      other = λ j a b. ap p (get_or-set_other (set xs r u) l j w d (λ e. a (e ∙ pl)) ∙ get_or-set_other xs r j u d (λ e. b (e ∙ pr)));
+      left = rw (sym pl, sym pr) (ap p (get_or-set_same (set xs r u) l w d (rw (length-set xs r u) hl)) ∙ q);
+      right = λ a. rw (sym pr) (ap p (get_or-set_other (set xs r u) l r w d (λ e. a (sym pr ∙ e ∙ pl)) ∙ get_or-set_same xs r u d hr) ∙ v);
     }
 
 module _ {A : Type 0} (over loop : ℕ → A → A) where
@@ -209,32 +212,72 @@ module _ {A : Type 0} (over loop : ℕ → A → A) where
 
 -- ---- the loop over a good table
 
-module _ {kind name size : List ℕ} {es : List Expression} (g : GoodTable kind name size es) (first : ℕ → ℕ) (null : ℕ → Bool) where
-  abbrev fresh_states : List State
-  fresh_states = replicate 64 (record { next = 0; end = true })
+-- what q reads of the rows stays where it reads the same of the new row
+column_kept : {B : Type 0} (q : Row → B) (rows : List Row) (r : ℕ) (u d : Row) → q u ≡ q (get_or rows r d)
+    → ◌≡◌ {A = ℕ → B} (λ j. q (get_or (set rows r u) j d)) (λ j. q (get_or rows j d))
+column_kept {B} q rows r u d e =
+    fun_ext (λ j. sym (get_or-map q (set rows r u) j d) ∙ ap (λ (c : List B). get_or c j (q d)) (map-set_same q rows r u d e) ∙ get_or-map q rows j d)
 
-  pub conts_begin : ContsOf first null (next_in fresh_states) (end_in fresh_states) es 0
-  conts_begin =
-      let fits : 0 + total es ≤ 64 = omega (arith, kind_length g, g.most) in
-      let each : (j : ℕ) → j < 64 → state_in fresh_states j ≡ record { next = 0; end = true } = λ j h. get_or-replicate 64 j _ _ h in
+module _ (tables : Tables) (i l r : ℕ) (left : State) where
+  -- the row r with what comes after the row i after it
+  abbrev right_row : Row
+  right_row = record { name = name_of tables r; head = (row_in tables r).head; after = (row_in tables i).after }
+
+  abbrev right_done : Tables
+  right_done = record { rows = set tables.rows r right_row }
+
+  abbrev left_row : Row
+  left_row = record { name = name_of right_done l; head = (row_in right_done l).head; after = left }
+
+  abbrev both_done : Tables
+  both_done = record { rows = set right_done.rows l left_row }
+
+  pub heads_kept : SameHeads tables both_done
+  heads_kept = record { names = both (λ x. x.name) refl refl; firsts = both (λ x. x.head.first) refl refl; nulls = both (λ x. x.head.null) refl refl }
+    where
+      both : {B : Type 0} (q : Row → B) → q left_row ≡ q (row_in right_done l) → q right_row ≡ q (row_in tables r)
+          → ◌≡◌ {A = ℕ → B} (λ j. q (row_in both_done j)) (λ j. q (row_in tables j))
+      both q a b = column_kept q right_done.rows l left_row _ a ∙ column_kept q tables.rows r right_row _ b
+
+pub heads_same : {old tables new : Tables} → SameHeads old tables → SameHeads tables new → SameHeads old new
+heads_same a b = record { names = b.names ∙ a.names; firsts = b.firsts ∙ a.firsts; nulls = b.nulls ∙ a.nulls }
+
+module _ {kind name size : List ℕ} {es : List Expression} (g : GoodTable kind name size es) (tables : Tables) where
+  pub conts_begin : Fresh tables 0 (length kind) → ContsOf (first_of tables) (null_of tables) (cont_of tables) (ends_of tables) es 0
+  conts_begin fresh =
+      let fits : 0 + total es ≤ length kind = omega (arith, kind_length g) in
       record {
-        sets = all_fresh (over_set first null) (loop_set first null) (next_in fresh_states) 0 64 (λ j h. ap (λ (x : State). x.next) (each j h)) es 0 fits;
-        finals = all_fresh (over_end first null) (loop_end first null) (end_in fresh_states) true 64 (λ j h. ap (λ (x : State). x.end) (each j h)) es 0 fits;
+        sets = all_fresh (over_set (first_of tables) (null_of tables)) (loop_set (first_of tables) (null_of tables)) (cont_of tables) 0 (length kind)
+            (λ j h. (fresh j (omega arith) h).0) es 0 fits;
+        finals = all_fresh (over_end (first_of tables) (null_of tables)) (loop_end (first_of tables) (null_of tables)) (ends_of tables) true (length kind)
+            (λ j h. (fresh j (omega arith) h).1) es 0 fits;
       }
 
-  pub conts_turn : (states : List State) (i l r : ℕ) (after : State) → i < length kind → length kind ≤ length states
-      → PartsAre (number_at kind i) i (number_at size (i + 1)) l r → (l < length kind) × (r < length kind)
-      → after.next ≡ followed (number_at kind i) (over_set first null r (next_in states i)) (loop_set first null r (next_in states i)) (next_in states i)
-      → after.end ≡ followed (number_at kind i) (over_end first null r (end_in states i)) (loop_end first null r (end_in states i)) (end_in states i)
-      → ContsOf first null (next_in states) (end_in states) es i
-      → ContsOf first null (next_in (set (set states r (state_in states i)) l after)) (end_in (set (set states r (state_in states i)) l after)) es (i + 1)
-  conts_turn states i l r after h few parts rows next end t =
-      let tc = turn (over_set first null) (loop_set first null) (λ (x : State). x.next) states _ after i (number_at kind i) (number_at size (i + 1)) l r parts.0 parts.1
-      (omega (arith, rows.0)) (omega (arith, rows.1)) next in
-      let te = turn (over_end first null) (loop_end first null) (λ (x : State). x.end) states _ after i (number_at kind i) (number_at size (i + 1)) l r parts.0 parts.1
-      (omega (arith, rows.0)) (omega (arith, rows.1)) end in
-      let below : i < 0 + total es = omega (arith, kind_length g) in
-      record {
-        sets = all_turn (over_set first null) (loop_set first null) _ _ i (number_at kind) (number_at name) (number_at size) tc es 0 0 (good_laid g) (small_all g) (omega arith) below t.sets;
-        finals = all_turn (over_end first null) (loop_end first null) _ _ i (number_at kind) (number_at name) (number_at size) te es 0 true (good_laid g) (small_all g) (omega arith) below t.finals;
-      }
+  module _ (i l r : ℕ) (left : State) where
+    abbrev After : (ℕ → ℕ) → (ℕ → Bool) → ℕ → Tables → Type 0
+    After first null j new = ContsOf first null (cont_of new) (ends_of new) es j
+
+    pub conts_turn : i < length kind → length kind ≤ length tables.rows
+        → PartsAre (number_at kind i) i (number_at size (i + 1)) l r → (l < length kind) × (r < length kind)
+        → left.next ≡ followed (number_at kind i) (over_set (first_of tables) (null_of tables) r (cont_of tables i))
+        (loop_set (first_of tables) (null_of tables) r (cont_of tables i)) (cont_of tables i)
+        → left.end ≡ followed (number_at kind i) (over_end (first_of tables) (null_of tables) r (ends_of tables i))
+        (loop_end (first_of tables) (null_of tables) r (ends_of tables i)) (ends_of tables i)
+        → After (first_of tables) (null_of tables) i tables
+        → After (first_of (both_done tables i l r left)) (null_of (both_done tables i l r left)) (i + 1) (both_done tables i l r left)
+    conts_turn h few parts rows next end t =
+        let first = first_of tables in
+        let null = null_of tables in
+        let new = both_done tables i l r left in
+        let tc = turn (over_set first null) (loop_set first null) (λ (x : Row). x.after.next) tables.rows _ (right_row tables i l r left) (left_row tables i l r left) i
+        (number_at kind i) (number_at size (i + 1)) l r parts.0 parts.1 (omega (arith, rows.0)) (omega (arith, rows.1)) refl next in
+        let te = turn (over_end first null) (loop_end first null) (λ (x : Row). x.after.end) tables.rows _ (right_row tables i l r left) (left_row tables i l r left) i
+        (number_at kind i) (number_at size (i + 1)) l r parts.0 parts.1 (omega (arith, rows.0)) (omega (arith, rows.1)) refl end in
+        let below : i < 0 + total es = omega (arith, kind_length g) in
+        let kept = heads_kept tables i l r left in
+        subst (λ (f : ℕ → ℕ). After f (null_of new) (i + 1) new) (sym kept.firsts)
+        (subst (λ (f : ℕ → Bool). After first f (i + 1) new) (sym kept.nulls)
+        (record {
+          sets = all_turn (over_set first null) (loop_set first null) _ _ i (number_at kind) (number_at name) (number_at size) tc es 0 0 (good_laid g) (small_all g) (omega arith) below t.sets;
+          finals = all_turn (over_end first null) (loop_end first null) _ _ i (number_at kind) (number_at name) (number_at size) te es 0 true (good_laid g) (small_all g) (omega arith) below t.finals;
+        }))

@@ -1,16 +1,18 @@
--- The heads of the rows: the parts of a row, and one turn of the loop that fills the heads from the last row up.
+-- The heads of the rows: the parts of a row, and one turn of the loop that lays the rows from the last one up.
 use mathlib.Core.Path.{◌≡◌, refl, sym, ap, ap₂, ◌∙◌, subst}
-use mathlib.Core.Logic.{◌⊎◌, inl, inr}
-use mathlib.Core.List.{List}
-use mathlib.Core.Bool.{Bool}
-use Prim.Native.Nat.{ℕ, zero, suc, ◌+◌, ◌-◌, ◌≤◌, ◌<◌}
+use mathlib.Core.Logic.{⊎_elim}
+use mathlib.Core.Bool.{Bool, true}
+use Prim.Native.Nat.{ℕ, zero, suc, ◌+◌, ◌≤◌, ◌<◌}
 use native.Mathlib.Omega.{arith}
-use native.Mathlib.Nat.{eq-zero-or-pos}
+use native.Mathlib.Nat.{eq-or-lt_of_le}
 use lib.ListN.{length, set}
 use lib.Seq.{get_or-set_same, get_or-set_other}
 use Rattle.expression.specs.Rule.{left_of, right_of}
 use Rattle.letters.specs.declared.Head.{Head}
-use Rattle.letters.specs.Following.{head_in, first_in, null_in, head_set, head_null, HeadRow, Shape, PartsAre, followed}
+use Rattle.letters.specs.declared.Row.{Row}
+use Rattle.letters.specs.declared.Tables.{Tables}
+use Rattle.letters.specs.Tables.{row_in, name_of, first_of, null_of, cont_of, ends_of}
+use Rattle.letters.specs.Following.{head_set, head_null, HeadRow, Shape, PartsAre, followed, Laid}
 
 left_least : (k s : ℕ) → s ≤ left_of k s
 left_least zero s = omega arith
@@ -51,7 +53,7 @@ parts_one (suc (suc zero)) s z h = absurd (omega arith)
 parts_one (suc (suc (suc zero))) s z h = absurd (omega arith)
 parts_one (suc (suc (suc (suc k)))) s z h = (refl, refl)
 
--- ---- one turn of the loop that fills `first` and `null` from the last row up
+-- ---- one turn of the loop that lays the rows from the last one up
 
 module _ (kind size f f' : ℕ → ℕ) (g g' : ℕ → Bool) (i : ℕ) (F : (j : ℕ) → i < j → f' j ≡ f j) (G : (j : ℕ) → i < j → g' j ≡ g j) where
   -- a row behind i is not touched
@@ -81,37 +83,48 @@ module _ (kind size f f' : ℕ → ℕ) (g g' : ℕ → Bool) (i : ℕ) (F : (j 
   null_same (suc (suc (suc zero))) z = rw (G (i + 1) (omega arith), G (i + 1 + z) (omega arith))
   null_same (suc (suc (suc (suc k)))) z = refl
 
-module _ (kind size : ℕ → ℕ) (heads : List Head) (i n : ℕ) (h : Head) (few : i < length heads)
-    (first : h.first ≡ head_set (kind i) i (first_in heads (left_of (kind i) i)) (null_in heads (left_of (kind i) i)) (first_in heads (right_of (kind i) i (size (i + 1)))))
-    (null : h.null ≡ head_null (kind i) (null_in heads (left_of (kind i) i)) (null_in heads (right_of (kind i) i (size (i + 1))))) where
-  abbrev more : List Head
-  more = set heads i h
+module _ (kind name size : ℕ → ℕ) (tables : Tables) (i n : ℕ) (h : Head) (few : i < length tables.rows)
+    (first : h.first ≡ head_set (kind i) i (first_of tables (left_of (kind i) i)) (null_of tables (left_of (kind i) i)) (first_of tables (right_of (kind i) i (size (i + 1)))))
+    (null : h.null ≡ head_null (kind i) (null_of tables (left_of (kind i) i)) (null_of tables (right_of (kind i) i (size (i + 1))))) where
+  abbrev laid : Row
+  laid = record { name = name i; head = h; after = record { next = 0; end = true } }
 
-  pub heads_turn : ((s : ℕ) → i + 1 ≤ s → s < n → HeadRow kind size (first_in heads) (null_in heads) s)
-      → (s : ℕ) → i ≤ s → s < n → HeadRow kind size (first_in more) (null_in more) s
-  heads_turn r s g l = go (eq-zero-or-pos (s - i))
+  abbrev more : Tables
+  more = record { rows = set tables.rows i laid }
+
+  pub laid_turn : {before : ℕ} → before ≤ i + 1 → Laid kind name size n tables before → Laid kind name size n more i
+  laid_turn b r =
+      record {
+        names = each (λ s. name_of more s ≡ name s) (ap (λ (x : Row). x.name) own) (λ s g l. ap (λ (x : Row). x.name) (same s (omega arith)) ∙ r.names s (omega arith) l);
+        heads = each (HeadRow kind size (first_of more) (null_of more)) here
+            (λ s g l. head_same kind size (first_of tables) (first_of more) (null_of tables) (null_of more) i F G s (omega arith) (r.heads s (omega arith) l));
+        fresh = each (λ s. (cont_of more s ≡ 0) × (ends_of more s ≡ true)) (ap (λ (x : Row). x.after.next) own, ap (λ (x : Row). x.after.end) own)
+            (λ s g l. (
+              ap (λ (x : Row). x.after.next) (same s (omega arith)) ∙ (r.fresh s (omega arith) l).0,
+              ap (λ (x : Row). x.after.end) (same s (omega arith)) ∙ (r.fresh s (omega arith) l).1,
+            ));
+      }
     where
-      same : (j : ℕ) → i < j → head_in more j ≡ head_in heads j
-      same j g = get_or-set_other heads i j h _ (omega arith)
+      each : (P : ℕ → Type 0) → P i → ((s : ℕ) → i + 1 ≤ s → s < n → P s) → (s : ℕ) → i ≤ s → s < n → P s
+      each P own later s g l = ⊎_elim (λ e. subst P e own) (λ k. later s (omega arith) l) (eq-or-lt_of_le g)
 
-      F : (j : ℕ) → i < j → first_in more j ≡ first_in heads j
-      F j g = ap (λ (x : Head). x.first) (same j g)
+      same : (j : ℕ) → i < j → row_in more j ≡ row_in tables j
+      same j g = get_or-set_other tables.rows i j laid _ (omega arith)
 
-      G : (j : ℕ) → i < j → null_in more j ≡ null_in heads j
-      G j g = ap (λ (x : Head). x.null) (same j g)
+      F : (j : ℕ) → i < j → first_of more j ≡ first_of tables j
+      F j g = ap (λ (x : Row). x.head.first) (same j g)
 
-      own : head_in more i ≡ h
-      own = get_or-set_same heads i h _ few
+      G : (j : ℕ) → i < j → null_of more j ≡ null_of tables j
+      G j g = ap (λ (x : Row). x.head.null) (same j g)
 
-      here : HeadRow kind size (first_in more) (null_in more) i
+      own : row_in more i ≡ laid
+      own = get_or-set_same tables.rows i laid _ few
+
+      here : HeadRow kind size (first_of more) (null_of more) i
       here = (
-        ap (λ (x : Head). x.first) own ∙ first ∙ set_same kind size _ _ _ _ i F G (kind i) (size (i + 1)),
-        ap (λ (x : Head). x.null) own ∙ null ∙ null_same kind size (first_in heads) (first_in more) _ _ i F G (kind i) (size (i + 1)),
+        ap (λ (x : Row). x.head.first) own ∙ first ∙ set_same kind size _ _ _ _ i F G (kind i) (size (i + 1)),
+        ap (λ (x : Row). x.head.null) own ∙ null ∙ null_same kind size (first_of tables) (first_of more) _ _ i F G (kind i) (size (i + 1)),
       )
-
-      go : (s - i ≡ 0) ⊎ (0 < s - i) → HeadRow kind size (first_in more) (null_in more) s
-      go (inl e) = subst (λ (s : ℕ). HeadRow kind size (first_in more) (null_in more) s) (omega arith) here
-      go (inr p) = head_same kind size (first_in heads) (first_in more) (null_in heads) (null_in more) i F G s (omega arith) (r s (omega arith) l)
 
 pub parts_in : (kind size : ℕ → ℕ) (n s l r : ℕ) → Shape kind size n → s < n → PartsAre (kind s) s (size (s + 1)) l r
     → PartsAre (kind s) s (size (s + 1)) l r × ((l < n) × (r < n))

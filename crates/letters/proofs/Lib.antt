@@ -1,6 +1,5 @@
 pub mod Sets
 pub mod Visit
-pub mod Laid
 pub mod Automaton
 pub mod OneLetter
 pub mod Firsts

@@ -1,31 +1,11 @@
 -- Not needed to believe the promise: how the tables are filled, row by row.
-use Rattle.std.specs.Prelude.{◌≡◌, Bool, true, false, ◌&&◌, ◌||◌, List, [], ◌∷◌, ℕ, zero, suc, ◌+◌, ◌<◌, ◌^◌, get_or}
+use Rattle.std.specs.Prelude.{◌≡◌, Bool, true, false, ◌&&◌, ◌||◌, List, [], ◌∷◌, ℕ, zero, suc, ◌+◌, ◌<◌, ◌≤◌, ◌^◌}
 use Rattle.std.specs.Int.Bits.{bit_or}
 use Rattle.expression.specs.Expression.{Expression, symbol, empty, concatenation, choice, repetition}
 use Rattle.expression.specs.Columns.{rows}
 use Rattle.expression.specs.Rule.{left_of, right_of}
-use Rattle.letters.specs.declared.Head.{Head}
-use Rattle.letters.specs.declared.State.{State}
-
--- ---- the lists of the code by rows; beyond them nothing is there
-
-abbrev pub head_in : List Head → ℕ → Head
-head_in heads row = get_or heads row (record { first = 0; null = false })
-
-abbrev pub first_in : List Head → ℕ → ℕ
-first_in heads = λ row. (head_in heads row).first
-
-abbrev pub null_in : List Head → ℕ → Bool
-null_in heads = λ row. (head_in heads row).null
-
-abbrev pub state_in : List State → ℕ → State
-state_in states row = get_or states row (record { next = 0; end = false })
-
-abbrev pub next_in : List State → ℕ → ℕ
-next_in states = λ row. (state_in states row).next
-
-abbrev pub end_in : List State → ℕ → Bool
-end_in states = λ row. (state_in states row).end
+use Rattle.letters.specs.declared.Tables.{Tables}
+use Rattle.letters.specs.Tables.{name_of, first_of, null_of, cont_of, ends_of}
 
 -- ---- what may come first in a row's words, and whether the empty word is one: from the last row up
 
@@ -102,3 +82,21 @@ module _ {A : Type 0} (over loop : ℕ → A → A) (after : ℕ → A) where
 pub record ContsOf (first : ℕ → ℕ) (null : ℕ → Bool) (cont : ℕ → ℕ) (ends : ℕ → Bool) (es : List Expression) (i : ℕ) : Type 0 where
   pub sets : AllFilled (over_set first null) (loop_set first null) cont es 0 i 0
   pub finals : AllFilled (over_end first null) (loop_end first null) ends es 0 i true
+
+-- ---- the two ways through the tables of n rows
+
+-- nothing comes after the rows from `row` on, and the word may end there
+abbrev pub Fresh : Tables → (row n : ℕ) → Type 0
+Fresh tables row n = (s : ℕ) → row ≤ s → s < n → (cont_of tables s ≡ 0) × (ends_of tables s ≡ true)
+
+-- the rows from `row` on have their names and their heads, and nothing comes after them yet
+pub record Laid (kind name size : ℕ → ℕ) (n : ℕ) (tables : Tables) (row : ℕ) : Type 0 where
+  pub names : (s : ℕ) → row ≤ s → s < n → name_of tables s ≡ name s
+  pub heads : (s : ℕ) → row ≤ s → s < n → HeadRow kind size (first_of tables) (null_of tables) s
+  pub fresh : Fresh tables row n
+
+-- only what comes after the rows has changed
+pub record SameHeads (old new : Tables) : Type 0 where
+  pub names : name_of new ≡ name_of old
+  pub firsts : first_of new ≡ first_of old
+  pub nulls : null_of new ≡ null_of old

@@ -1,5 +1,5 @@
 -- Not needed to believe the promise: an expression table with what may come first and next, row by row.
-use Rattle.std.specs.Prelude.{◌≡◌, Bool, false, ℕ, get_or}
+use Rattle.std.specs.Prelude.{Bool, false, ℕ, get_or}
 use Rattle.letters.specs.declared.Row.{Row}
 use Rattle.letters.specs.declared.Tables.{Tables}
 
@@ -24,11 +24,3 @@ module _ (tables : Tables) (row : ℕ) where
 
   abbrev pub ends_of : Bool
   ends_of = (row_in tables row).after.end
-
--- the tables hold a name, a head and a state for each row
-pub record Tabled (name first : ℕ → ℕ) (null : ℕ → Bool) (cont : ℕ → ℕ) (ends : ℕ → Bool) (tables : Tables) : Type 0 where
-  pub names : name_of tables ≡ name
-  pub firsts : first_of tables ≡ first
-  pub nulls : null_of tables ≡ null
-  pub conts : cont_of tables ≡ cont
-  pub finals : ends_of tables ≡ ends

@@ -6,8 +6,8 @@ ghost use Rattle.expression.specs.Expression.{Expression};
 ghost use Rattle.expression.specs.Rows.{GoodTable, StartsAt};
 ghost use Rattle.expression.specs.Rule.{number_at};
 ghost use Rattle.letters.specs.State.{StateOf, TablesOf};
-ghost use Rattle.letters.specs.Tables.{Tabled};
-ghost use Rattle.letters.specs.Following.{first_in, null_in, next_in, end_in, gate, head_set, head_null, HeadRow, Shape, PartsAre, followed, ContsOf};
+ghost use Rattle.letters.specs.Tables.{first_of, null_of, cont_of, ends_of};
+ghost use Rattle.letters.specs.Following.{gate, head_set, head_null, Shape, PartsAre, followed, ContsOf, Fresh, Laid, SameHeads};
 
 use expression::Table;
 use expression::kinds::{CHOICE, CONCATENATION, EMPTY, SYMBOL};
@@ -91,22 +91,53 @@ fn head_of(kind: u32, row: usize, l: Head, r: Head) -> Head
     }
 }
 
-// Each row's head, from the last row up.
-fn heads_of(kind: &[u32], size: &[u32]) -> [Head; 64]
-    requires { (length size.now ≡ length kind.now) × (length kind.now ≤ 64)
-        × Shape (number_at kind.now) (number_at size.now) (length kind.now) }
-    ensures { (s : ℕ) → s < length kind.now → HeadRow (number_at kind.now) (number_at size.now) (first_in result) (null_in result) s }
-{
-    let none = Head {
+// A row of the tables: its name; what may come first in it; and the state after its words.
+#[derive(Clone, Copy)]
+struct Row {
+    name: u32,
+    head: Head,
+    after: State,
+}
+
+// A row before it is laid.
+const UNLAID: Row = Row {
+    name: 0,
+    head: Head {
         first: 0,
         null: false,
-    };
-    let mut heads = [none; 64];
+    },
+    after: State {
+        next: 0,
+        end: false,
+    },
+};
+
+// The tables of an expression table: its rows, with what may come first in each and next after it.
+#[derive(Drop)]
+pub struct Tables {
+    rows: [Row; 64],
+}
+
+// Each row's name and head, from the last row up; nothing comes after a row yet, as after a top-level expression.
+fn lay(kind: &[u32], name: &[u32], size: &[u32], tables: &mut Tables)
+    requires { (length name.now ≡ length kind.now) × (length size.now ≡ length kind.now) × (length kind.now ≤ 64)
+        × Shape (number_at kind.now) (number_at size.now) (length kind.now) }
+    ensures { Laid (number_at kind.now) (number_at name.now) (number_at size.now) (length kind.now) tables.new 0 }
+{
     for row in (0..kind.len()).rev() {
         let parts = parts_of(kind, size, row);
-        heads[row] = head_of(kind[row], row, heads[parts.left], heads[parts.right]);
+        let head = head_of(
+            kind[row],
+            row,
+            tables.rows[parts.left].head,
+            tables.rows[parts.right].head,
+        );
+        tables.rows[row] = Row {
+            name: name[row],
+            head,
+            after: State { next: 0, end: true },
+        };
     }
-    heads
 }
 
 // What may come after the left part of a row: `head` is that of the right part, `here` is what may come after the row.
@@ -129,65 +160,21 @@ fn follow(kind: u32, head: Head, here: State) -> State
     }
 }
 
-// What may come after each row, from the first row down. After a top-level expression nothing comes.
-fn states_of(kind: &[u32], size: &[u32], heads: &[Head; 64]) -> [State; 64]
+// What may come after each row, from the first row down.
+fn fill(kind: &[u32], size: &[u32], tables: &mut Tables)
     requires { (length size.now ≡ length kind.now) × (length kind.now ≤ 64)
-        × Shape (number_at kind.now) (number_at size.now) (length kind.now) }
-    ensures { (name : List ℕ) (es : List Expression) → GoodTable kind.now name size.now es
-        → ContsOf (first_in heads.now) (null_in heads.now) (next_in result) (end_in result) es (length kind.now) }
+        × Shape (number_at kind.now) (number_at size.now) (length kind.now) × Fresh tables.old 0 (length kind.now) }
+    ensures heads { SameHeads tables.old tables.new }
+    ensures conts { (name : List ℕ) (es : List Expression) → GoodTable kind.now name size.now es
+        → ContsOf (first_of tables.new) (null_of tables.new) (cont_of tables.new) (ends_of tables.new) es (length kind.now) }
 {
-    let last = State { next: 0, end: true };
-    let mut states = [last; 64];
     for row in 0..kind.len() {
         let parts = parts_of(kind, size, row);
-        let here = states[row];
-        states[parts.right] = here;
-        states[parts.left] = follow(kind[row], heads[parts.right], here);
+        let here = tables.rows[row].after;
+        let left = follow(kind[row], tables.rows[parts.right].head, here);
+        tables.rows[parts.right].after = here;
+        tables.rows[parts.left].after = left;
     }
-    states
-}
-
-fn names_of(name: &[u32]) -> [u32; 64]
-    requires { length name.now ≤ 64 }
-    ensures { (s : ℕ) → s < length name.now → number_at result s ≡ number_at name.now s }
-{
-    let mut names = [0u32; 64];
-    names[..name.len()].copy_from_slice(name);
-    names
-}
-
-// A row of the tables: its name; what may come first in it; and the state after its words.
-#[derive(Clone, Copy)]
-struct Row {
-    name: u32,
-    head: Head,
-    after: State,
-}
-
-// The tables of an expression table: its rows, with what may come first in each and next after it.
-#[derive(Drop)]
-pub struct Tables {
-    rows: [Row; 64],
-}
-
-// All rows, one after another.
-fn lay(name: &[u32; 64], heads: &[Head; 64], states: &[State; 64]) -> Tables
-    ensures { Tabled (number_at name.now) (first_in heads.now) (null_in heads.now) (next_in states.now) (end_in states.now) result }
-{
-    let first = Row {
-        name: name[0],
-        head: heads[0],
-        after: states[0],
-    };
-    let mut rows = [first; 64];
-    for row in 0..64 {
-        rows[row] = Row {
-            name: name[row],
-            head: heads[row],
-            after: states[row],
-        };
-    }
-    Tables { rows }
 }
 
 // The tables of a good expression table, computed once for all words.
@@ -195,9 +182,11 @@ pub fn tables_of(table: &Table) -> Tables
     requires { (es : List Expression) × GoodTable table.now.kind.now table.now.name.now table.now.size.now es }
     ensures { (es : List Expression) → GoodTable table.now.kind.now table.now.name.now table.now.size.now es → TablesOf es result }
 {
-    let heads = heads_of(table.kind, table.size);
-    let states = states_of(table.kind, table.size, &heads);
-    lay(&names_of(table.name), &heads, &states)
+    let rows = [UNLAID; 64];
+    let mut tables = Tables { rows };
+    lay(table.kind, table.name, table.size, &mut tables);
+    fill(table.kind, table.size, &mut tables);
+    tables
 }
 
 // The state before the first letter, for the expression that starts at the row `root`.

@@ -1,16 +1,23 @@
-use Rattle.expression.proofs.Tables.{size_length, good_rows}
+use Rattle.std.proofs.Common.{arith}
+use Rattle.expression.proofs.Tables.{name_length, size_length, good_rows}
 use Rattle.letters.proofs.Decide.{tables_are}
 use Rattle.letters.proofs.tables_of.Goals as goal
 
-pub heads_of-heads-requires : goal.heads_of-heads-requires
-heads_of-heads-requires c =
+pub lay-requires : goal.lay-requires
+lay-requires c =
     let g = c.requires.1 in
-    (size_length g, g.most, λ s h. ((good_rows g s h).sized.left, (good_rows g s h).sized.right))
+    (name_length g, size_length g, g.most, λ s h. ((good_rows g s h).sized.left, (good_rows g s h).sized.right))
 
-pub states_of-states-requires : goal.states_of-states-requires
-states_of-states-requires c =
+pub fill-requires : goal.fill-requires
+fill-requires c =
     let g = c.requires.1 in
-    (size_length g, g.most, λ s h. ((good_rows g s h).sized.left, (good_rows g s h).sized.right))
+    (size_length g, g.most, λ s h. ((good_rows g s h).sized.left, (good_rows g s h).sized.right), c.lay.ensures.fresh)
 
 pub returns : goal.returns
-returns c = λ es g. tables_are g _ _ _ _ _ c.names_of.ensures c.heads_of-heads.ensures (c.states_of-states.ensures _ es g) c.lay.ensures
+returns c =
+    let kept = c.fill.ensures.heads in
+    λ es g.
+    tables_are g c.fill.new.tables
+    (λ s h. rw kept.names (c.lay.ensures.names s (omega arith) h))
+    (λ s h. rw (kept.firsts, kept.nulls) (c.lay.ensures.heads s (omega arith) h))
+    (c.fill.ensures.conts _ es g)
