@@ -10,7 +10,7 @@
  * and signal handlers may call at the same time, as long as none writes a list that another call reads or writes.
  *
  * Stack, as it was measured, in bytes (bench/stack/README.md: painted, on the deepest inputs; -O3, the proved archive, x86-64): check 13,256;
- * read 35,928; list 66,928; list_after 74,976; panel 66,944; test 37,632; instance 16,360; spelling 10,440. Give a thread 128 kB, or one
+ * read 35,928; list 66,912; list_after 74,960; panel 66,928; test 37,632; instance 12,240; spelling 10,440. Give a thread 128 kB, or one
  * that only checks and reads documents 64 kB.
  *
  * In a refusal the first code that applies is given, in the order that stands at the function, every other number is 0 (but the place of code
